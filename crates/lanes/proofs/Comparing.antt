@@ -1,0 +1,32 @@
+-- What PCMPEQ's and PCMPGT's lanes are, from the lanes that the code takes out; PCMPGT's with their top bits turned over.
+use mathlib.Core.Path.{_≡_, sym, ap, ap₂, _∙_}
+use mathlib.Core.Bool.{Bool, true, false}
+use Prim.Native.Nat.{ℕ, _+_, _-_, _^_, _≤_, _<_}
+use borrow.Author.Needs.{needs}
+use lib.Bits.{bitXor}
+use lib.Dec.{eqb, ltb}
+use lib.Signed.{ltZ}
+use Rattle.lanes.specs.Lane.{lane}
+use Rattle.lanes.specs.Signed.{signed}
+use Rattle.lanes.specs.Rules.{pairwise, mask, equal, greater}
+use Rattle.lanes.proofs.Integers.{lt-same}
+use Rattle.lanes.proofs.TopBits.{signed-is}
+
+pub mask-yes : (w r : ℕ) (t : Bool) → t ≡ true → r ≡ 2 ^ w - 1 → r ≡ mask w t
+mask-yes w r t h e = rw h e
+
+pub mask-no : (w : ℕ) (t : Bool) → t ≡ false → 0 ≡ mask w t
+mask-no w t h = rw h
+
+pub equal-is : (w i a b x y r : ℕ) → x ≡ lane w i a → y ≡ lane w i b → r ≡ mask w (eqb x y) → r ≡ pairwise equal w a b i
+unfolding pairwise equal
+equal-is w i a b x y r p q e = e ∙ ap₂ (λ (m n : ℕ). mask w (eqb m n)) p q
+
+pub greater-is : (w i a b h x y r : ℕ) → h ≡ 2 ^ (w - 1) → h + h ≡ 2 ^ w → 1 ≤ h → x < 2 ^ w → y < 2 ^ w → x ≡ lane w i a → y ≡ lane w i b
+    → r ≡ mask w (ltb (bitXor y h) (bitXor x h)) → r ≡ pairwise greater w a b i
+unfolding pairwise greater
+greater-is w i a b h x y r e d l hx hy p q c =
+    c ∙ ap (mask w) (sym (lt-same (bitXor y h) (bitXor x h) h) ∙ sym (ap₂ ltZ (signed-is w h e d l y hy) (signed-is w h e d l x hx)))
+    ∙ ap₂ (λ (m n : ℕ). mask w (ltZ (signed w n) (signed w m))) p q
+
+pub ruleset comparing = (needs, mask-yes, mask-no, equal-is, greater-is)

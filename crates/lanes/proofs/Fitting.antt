@@ -1,0 +1,95 @@
+-- Every lane of every rule fits its width: what is wrapped does, and so do ones, lanes and what a shift leaves of them.
+use Prim.Native.Nat.{ℕ, _+_, _*_, _/_, _-_, _^_, _<_, min}
+use mathlib.Core.Bool.{Bool, true, false}
+use native.Mathlib.Nat.{mod-lt, div-le-self, lt-of-le-of-lt}
+use native.Mathlib.Omega.{arith}
+use lib.Dec.{eqb}
+use lib.IntN.{ℤ, pos, negsuc}
+use lib.Signed.{ltZ}
+use lib.Pow.{pow-pos}
+use Rattle.lanes.specs.Lane.{lane}
+use Rattle.lanes.specs.Signed.{signed, wrap, clampSigned, clampUnsigned}
+use Rattle.lanes.specs.Rules.{pairwise, sum, difference, sumSigned, differenceSigned, sumUnsigned, differenceUnsigned, mask, equal, greater, productLow, productHigh, productSum, pack, unpack, shift, left, right, rightSigned}
+use Rattle.lanes.proofs.Registers.{lane-lt}
+
+pub record Fits (rule : ℕ → ℕ → ℕ → ℕ → ℕ) : Type 0 where
+  pub fits : (w destination source i : ℕ) → rule w destination source i < 2 ^ w
+
+pub wrap-lt : (w : ℕ) (z : ℤ) → wrap w z < 2 ^ w
+unfolding wrap
+wrap-lt w (pos n) = mod-lt n (pow-pos w)
+wrap-lt w (negsuc n) = omega (arith, pow-pos w)
+
+mask-lt : (w : ℕ) (t : Bool) → mask w t < 2 ^ w
+mask-lt w true = omega (arith, pow-pos w)
+mask-lt w false = pow-pos w
+
+pub sum-fits : Fits (pairwise sum)
+unfolding pairwise sum
+sum-fits = record { fits = λ w a b i. wrap-lt w _ }
+
+pub difference-fits : Fits (pairwise difference)
+unfolding pairwise difference
+difference-fits = record { fits = λ w a b i. wrap-lt w _ }
+
+pub sum-signed-fits : Fits (pairwise sumSigned)
+unfolding pairwise sumSigned
+sum-signed-fits = record { fits = λ w a b i. wrap-lt w _ }
+
+pub difference-signed-fits : Fits (pairwise differenceSigned)
+unfolding pairwise differenceSigned
+difference-signed-fits = record { fits = λ w a b i. wrap-lt w _ }
+
+pub sum-unsigned-fits : Fits (pairwise sumUnsigned)
+unfolding pairwise sumUnsigned
+sum-unsigned-fits = record { fits = λ w a b i. wrap-lt w _ }
+
+pub difference-unsigned-fits : Fits (pairwise differenceUnsigned)
+unfolding pairwise differenceUnsigned
+difference-unsigned-fits = record { fits = λ w a b i. wrap-lt w _ }
+
+pub equal-fits : Fits (pairwise equal)
+unfolding pairwise equal
+equal-fits = record { fits = λ w a b i. mask-lt w (eqb (lane w i a) (lane w i b)) }
+
+pub greater-fits : Fits (pairwise greater)
+unfolding pairwise greater
+greater-fits = record { fits = λ w a b i. mask-lt w (ltZ (signed w (lane w i b)) (signed w (lane w i a))) }
+
+pub product-low-fits : Fits (pairwise productLow)
+unfolding pairwise productLow
+product-low-fits = record { fits = λ w a b i. wrap-lt w _ }
+
+pub product-high-fits : Fits (pairwise productHigh)
+unfolding pairwise productHigh
+product-high-fits = record { fits = λ w a b i. wrap-lt w _ }
+
+pub product-sum-fits : Fits (pairwise productSum)
+unfolding pairwise productSum
+product-sum-fits = record { fits = λ w a b i. wrap-lt w _ }
+
+pub pack-signed-fits : Fits (pack clampSigned)
+unfolding pack
+pack-signed-fits = record { fits = λ w a b i. wrap-lt w _ }
+
+pub pack-unsigned-fits : Fits (pack clampUnsigned)
+unfolding pack
+pack-unsigned-fits = record { fits = λ w a b i. wrap-lt w _ }
+
+pub unpack-fits : (first : ℕ) → Fits (unpack first)
+unfolding unpack
+unpack-fits first = record { fits = λ w a b i. lane-lt w (first + i / 2) _ }
+
+pub left-fits : Fits (shift left)
+unfolding shift left
+left-fits = record { fits = λ w a c i. mod-lt (lane w i a * 2 ^ min c w) (pow-pos w) }
+
+pub right-fits : Fits (shift right)
+unfolding shift right
+right-fits = record { fits = λ w a c i. lt-of-le-of-lt (div-le-self (lane w i a) (2 ^ min c w)) (lane-lt w i a) }
+
+pub right-signed-fits : Fits (shift rightSigned)
+unfolding shift rightSigned
+right-signed-fits = record { fits = λ w a c i. wrap-lt w _ }
+
+pub ruleset fitting = (sum-fits, difference-fits, sum-signed-fits, difference-signed-fits, sum-unsigned-fits, difference-unsigned-fits, equal-fits, greater-fits, product-low-fits, product-high-fits, product-sum-fits, pack-signed-fits, pack-unsigned-fits, left-fits, right-fits, right-signed-fits)

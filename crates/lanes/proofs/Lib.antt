@@ -1,0 +1,16 @@
+pub mod Registers
+pub mod Powers
+pub mod Bitwise
+pub mod Fitting
+pub mod Building
+pub mod Integers
+pub mod TopBits
+pub mod Adding
+pub mod Complementing
+pub mod Comparing
+pub mod Multiplying
+pub mod Packing
+pub mod Shifting
+pub mod Naming
+pub mod Plates
+pub mod Allowed

@@ -1,0 +1,31 @@
+-- What `operate` leaves by number: a number's operation is its place in the list of operations, and past the list the destination is kept.
+use mathlib.Core.Path.{_≡_, sym, ap}
+use Prim.Native.Nat.{ℕ, zero, suc, _/_, _≤_, zero-le}
+use native.Mathlib.Omega.{arith}
+use borrow.Author.Needs.{needs}
+use lib.ListN.{length, List·getD-eq-default}
+use Rattle.lanes.specs.Rules.{packed, unpack, unpackHigh}
+use Rattle.lanes.specs.Operations.{Operation, KEEP, operate, operations, operationOf}
+
+pub named : (n k r destination source : ℕ) → n ≡ k → r ≡ operate (operationOf k) destination source → r ≡ operate (operationOf n) destination source
+named n k r d s e p = rw e p
+
+-- n is none of 0 .. k - 1, which is what the last arm of a `match` on them knows
+abbrev pub Passed : ℕ → ℕ → Type 0
+Passed n zero = Unit {0}
+Passed n (suc k) = Passed n k × (n ≡ k → ⊥)
+
+past : (n k : ℕ) → Passed n k → k ≤ n
+past n zero h = zero-le
+past n (suc k) (h, g) = omega (arith, past n k h)
+
+pub unnamed : (n destination source : ℕ) → Passed n (length operations) → destination ≡ operate (operationOf n) destination source
+unfolding operate
+unnamed n d s h = sym (ap (λ (o : Operation). operate o d s) (List·getD-eq-default operations KEEP (past n (length operations) h)))
+
+-- the high half starts after 32 bits
+pub from-high : (w r destination source : ℕ) → r ≡ packed (unpack (32 / w)) w destination source → r ≡ packed unpackHigh w destination source
+unfolding packed
+from-high w r d s e = e
+
+pub ruleset naming = (needs, named, unnamed, from-high)

@@ -1,0 +1,32 @@
+-- The code's shifts and powers of two, as the definitions write them.
+use mathlib.Core.Path.{_≡_, sym, ap, _∙_}
+use Prim.Native.Nat.{ℕ, _+_, _-_, _*_, _/_, _%_, _^_, _≤_, _<_}
+use native.Mathlib.Nat.{one-mul, two-pow-succ, mod-eq-of-lt, le-trans}
+use native.Mathlib.Omega.{arith}
+use lib.Pow.{pow-lt, pow-mono, pow-add, shl-shr, shl-exact, field}
+use lib.Arith.{digits-lt}
+
+-- x shifted up and down again by 64 - w
+pub low-bits : (x w : ℕ) → w ≤ 64 → x * 2 ^ (64 - w) % 2 ^ 64 / 2 ^ (64 - w) ≡ x % 2 ^ w
+low-bits x w h =
+    ap (λ (k : ℕ). x * 2 ^ (64 - w) % 2 ^ k / 2 ^ (64 - w)) whole
+    ∙ field (x * 2 ^ (64 - w)) w (64 - w)
+    ∙ ap (λ (y : ℕ). y % 2 ^ w) (shl-shr x (64 - w))
+  where
+    whole : 64 ≡ w + (64 - w)
+    whole = omega arith
+
+-- 1 << (w - 1)
+pub half-is : (w : ℕ) → 1 ≤ w → w ≤ 32 → 1 * 2 ^ (w - 1) % 2 ^ 64 ≡ 2 ^ (w - 1)
+half-is w l h = ap (λ (y : ℕ). y % 2 ^ 64) (one-mul (2 ^ (w - 1))) ∙ mod-eq-of-lt (pow-lt {j = 64} (omega arith))
+
+pub halves : (w : ℕ) → 1 ≤ w → 2 ^ (w - 1) + 2 ^ (w - 1) ≡ 2 ^ w
+halves w l = sym (two-pow-succ (w - 1)) ∙ ap (λ (k : ℕ). 2 ^ k) (omega arith)
+
+-- x << k, with l below
+module _ (x w k l : ℕ) (hx : x < 2 ^ w) (hl : l < 2 ^ k) (fits : w + k ≤ 64) where
+  pub placed-is : x * 2 ^ k % 2 ^ 64 + l ≡ x * 2 ^ k + l
+  placed-is = ap (λ (y : ℕ). y + l) (shl-exact w k 64 hx fits)
+
+  pub placed-lt : x * 2 ^ k % 2 ^ 64 + l < 2 ^ 64
+  placed-lt = rw placed-is (le-trans (digits-lt hx hl) (rw (← pow-add 2 w k) (pow-mono {j = 64} fits)))

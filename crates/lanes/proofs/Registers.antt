@@ -1,0 +1,109 @@
+-- The laws of lanes, once over the width: what the lanes of a built number are, and that lanes decide a number. By division with rest
+-- at powers of two.
+use mathlib.Core.Path.{_≡_, refl, sym, ap, ap₂, _∙_}
+use mathlib.Core.Logic.{⊎-elim}
+use Prim.Native.Nat.{ℕ, zero, suc, _+_, _-_, _*_, _/_, _%_, _^_, _≤_, _<_}
+use native.Mathlib.Nat.{zero-div, zero-mod, add-mul, mul-add, mul-one, div-one, mod-mod, mul-suc, mul-zero, mul-comm, mul-assoc, add-comm, mod-eq-of-lt, mod-lt, mod-one, mul-add-mod-self-right, le-of-suc-le-suc, eq-or-lt-of-le, mul-le-mul-left, lt-suc-self, lt-trans, not-suc-le-zero, le-of-eq, le-trans, div-mul-le-self}
+use native.Mathlib.Omega.{arith}
+use lib.Pow.{pow-pos, pow-mono, pow-add, high, field, shr-shr, mod-mod-pow, mod-pow-add}
+use lib.Arith.{digits-lt}
+use Rattle.lanes.specs.Lane.{lane, build, register}
+
+-- w * suc n bits are w bits on top of w * n
+top : (w n : ℕ) → 2 ^ (w * suc n) ≡ 2 ^ w * 2 ^ (w * n)
+top w n = ap (λ (k : ℕ). 2 ^ k) (mul-suc w n ∙ add-comm (w * n) w) ∙ pow-add 2 w (w * n)
+
+pub lane-lt : (w i x : ℕ) → lane w i x < 2 ^ w
+unfolding lane
+lane-lt w i x = mod-lt (x / 2 ^ (w * i)) (pow-pos w)
+
+pub lane-zero : (w i : ℕ) → lane w i 0 ≡ 0
+unfolding lane
+lane-zero w i = ap (λ (y : ℕ). y % 2 ^ w) (zero-div (2 ^ (w * i))) ∙ zero-mod (2 ^ w)
+
+pub build-lt : (w n : ℕ) (f : ℕ → ℕ) → ((i : ℕ) → i < n → f i < 2 ^ w) → build w n f < 2 ^ (w * n)
+unfolding build
+build-lt w zero f h = pow-pos (w * zero)
+build-lt w (suc n) f h =
+    rw (top w n) (digits-lt (h n (lt-suc-self n)) (build-lt w n f (λ i l. h i (lt-trans l (lt-suc-self n)))))
+
+-- a built register is below 2 ^ 64
+pub register-lt : (w : ℕ) (f : ℕ → ℕ) → ((i : ℕ) → i < 64 / w → f i < 2 ^ w) → register w f < 2 ^ 64
+unfolding register
+register-lt w f h =
+    le-trans (build-lt w (64 / w) f h) (pow-mono {j = 64} (le-trans (le-of-eq (mul-comm w (64 / w))) (div-mul-le-self 64 w)))
+
+pub build-ext : (w n : ℕ) (f g : ℕ → ℕ) → ((i : ℕ) → i < n → f i ≡ g i) → build w n f ≡ build w n g
+unfolding build
+build-ext w zero f g h = refl
+build-ext w (suc n) f g h =
+    ap₂ (λ (x y : ℕ). x * 2 ^ (w * n) + y) (h n (lt-suc-self n)) (build-ext w n f g (λ i l. h i (lt-trans l (lt-suc-self n))))
+
+-- what stands above a field does not reach it
+above : (h m j k x : ℕ) → j + k ≤ m → (h * 2 ^ m + x) / 2 ^ k % 2 ^ j ≡ x / 2 ^ k % 2 ^ j
+above h m j k x l =
+    sym (field (h * 2 ^ m + x) j k)
+    ∙ ap (λ (y : ℕ). y / 2 ^ k)
+    (ap (λ (y : ℕ). (h * y + x) % 2 ^ (j + k)) (ap (λ (y : ℕ). 2 ^ y) split ∙ pow-add 2 (m - (j + k)) (j + k))
+    ∙ ap (λ (y : ℕ). (y + x) % 2 ^ (j + k)) (sym (mul-assoc h (2 ^ (m - (j + k))) (2 ^ (j + k))))
+    ∙ mul-add-mod-self-right (h * 2 ^ (m - (j + k))) (2 ^ (j + k)) x)
+    ∙ field x j k
+  where
+    split : m ≡ m - (j + k) + (j + k)
+    split = omega arith
+
+-- lane i of what is built of f is f i
+pub lane-build : (w n : ℕ) (f : ℕ → ℕ) → ((i : ℕ) → i < n → f i < 2 ^ w) → (i : ℕ) → i < n → lane w i (build w n f) ≡ f i
+unfolding lane build
+lane-build w zero f h i l = absurd (not-suc-le-zero l)
+lane-build w (suc n) f h i l = ⊎-elim here (λ k. below k (lane-build w n f h′ i k)) (eq-or-lt-of-le (le-of-suc-le-suc l))
+  where
+    h′ : (j : ℕ) → j < n → f j < 2 ^ w
+    h′ j k = h j (lt-trans k (lt-suc-self n))
+
+    here : i ≡ n → (f n * 2 ^ (w * n) + build w n f) / 2 ^ (w * i) % 2 ^ w ≡ f i
+    here e =
+        ap (λ (k : ℕ). (f n * 2 ^ (w * n) + build w n f) / 2 ^ (w * k) % 2 ^ w) e
+        ∙ ap (λ (y : ℕ). y % 2 ^ w) (high (f n) (w * n) (build-lt w n f h′))
+        ∙ mod-eq-of-lt (h n (lt-suc-self n)) ∙ ap f (sym e)
+
+    fits : i < n → w + w * i ≤ w * n
+    fits k = le-trans (le-of-eq (add-comm w (w * i) ∙ sym (mul-suc w i))) (mul-le-mul-left w k)
+
+    below : i < n → build w n f / 2 ^ (w * i) % 2 ^ w ≡ f i → (f n * 2 ^ (w * n) + build w n f) / 2 ^ (w * i) % 2 ^ w ≡ f i
+    below k e = above (f n) (w * n) w (w * i) (build w n f) (fits k) ∙ e
+
+-- a number is built of its lanes
+of-lanes : (w n x : ℕ) → build w n (λ i. lane w i x) ≡ x % 2 ^ (w * n)
+unfolding lane build
+of-lanes w zero x = sym (ap (λ (k : ℕ). x % 2 ^ k) (mul-zero w) ∙ mod-one x)
+of-lanes w (suc n) x =
+    ap (λ (y : ℕ). x / 2 ^ (w * n) % 2 ^ w * 2 ^ (w * n) + y) (of-lanes w n x)
+    ∙ sym (ap (λ (k : ℕ). x % 2 ^ k) (mul-suc w n ∙ add-comm (w * n) w) ∙ mod-pow-add x w (w * n))
+
+-- equal lanes make equal numbers
+pub lanes-decide : (w n x y : ℕ) → x < 2 ^ (w * n) → y < 2 ^ (w * n) → ((i : ℕ) → i < n → lane w i x ≡ lane w i y) → x ≡ y
+lanes-decide w n x y hx hy h =
+    sym (of-lanes w n x ∙ mod-eq-of-lt hx) ∙ build-ext w n (λ i. lane w i x) (λ i. lane w i y) h ∙ of-lanes w n y ∙ mod-eq-of-lt hy
+
+-- the lanes of half the width of a lane
+module _ (v i x : ℕ) where
+  along : (v + v) * i ≡ v * (i + i)
+  along = simp (add-mul, mul-add)
+
+  pub inner-low : lane v 0 (lane (v + v) i x) ≡ lane v (i + i) x
+  unfolding lane
+  inner-low =
+      ap (λ (k : ℕ). x / 2 ^ ((v + v) * i) % 2 ^ (v + v) / 2 ^ k % 2 ^ v) (mul-zero v)
+      ∙ ap (λ (y : ℕ). y % 2 ^ v) (div-one (x / 2 ^ ((v + v) * i) % 2 ^ (v + v)))
+      ∙ mod-mod-pow (x / 2 ^ ((v + v) * i)) v v ∙ ap (λ (k : ℕ). x / 2 ^ k % 2 ^ v) along
+
+  pub inner-high : lane v 1 (lane (v + v) i x) ≡ lane v (i + i + 1) x
+  unfolding lane
+  inner-high =
+      ap (λ (k : ℕ). x / 2 ^ ((v + v) * i) % 2 ^ (v + v) / 2 ^ k % 2 ^ v) (mul-one v)
+      ∙ ap (λ (y : ℕ). y % 2 ^ v) (field (x / 2 ^ ((v + v) * i)) v v) ∙ mod-mod (x / 2 ^ ((v + v) * i) / 2 ^ v) (2 ^ v)
+      ∙ ap (λ (y : ℕ). y % 2 ^ v) (shr-shr x ((v + v) * i) v) ∙ ap (λ (k : ℕ). x / 2 ^ k % 2 ^ v) further
+    where
+      further : (v + v) * i + v ≡ v * (i + i + 1)
+      further = simp (add-mul, mul-add, mul-one)

@@ -1,0 +1,13 @@
+-- `lanes::compares::equal_lane` meets its contract.
+use Rattle.lanes.proofs.Comparing.{comparing}
+use Rattle.lanes.proofs.compares.equal_lane.Statement.{statement}
+use Rattle.lanes.proofs.compares.equal_lane.Tie as tie
+
+pub equal-lane-spec : {M : Type 1} → statement M
+equal-lane-spec =
+    tie.close
+    (tie.spec
+    (λ c κs. search comparing)
+    (λ c κs. search comparing)
+    (λ c κs. search comparing)
+    (λ c. search comparing))

@@ -1,0 +1,14 @@
+-- `lanes::compares::greater_lane` meets its contract.
+use Rattle.lanes.proofs.Comparing.{comparing}
+use Rattle.lanes.proofs.compares.greater_lane.Statement.{statement}
+use Rattle.lanes.proofs.compares.greater_lane.Tie as tie
+
+pub greater-lane-spec : {M : Type 1} → statement M
+greater-lane-spec =
+    tie.close
+    (tie.spec
+    (λ c κs. search comparing)
+    (λ c κs. search comparing)
+    (λ c κs. search comparing)
+    (λ c κs. search comparing)
+    (λ c. search comparing))

@@ -1,0 +1,12 @@
+-- `lanes::compares::mask_of` meets its contract.
+use Rattle.lanes.proofs.Comparing.{comparing}
+use Rattle.lanes.proofs.compares.mask_of.Statement.{statement}
+use Rattle.lanes.proofs.compares.mask_of.Tie as tie
+
+pub mask-of-spec : {M : Type 1} → statement M
+mask-of-spec =
+    tie.close
+    (tie.spec
+    (λ c κs. search comparing)
+    (λ c. search comparing)
+    (λ c. search comparing))

@@ -1,0 +1,28 @@
+-- `lanes::packs::pack_signed` meets its contract: the loop builds the result, one lane a turn.
+use Prim.Native.Nat.{_-_}
+use Rattle.lanes.specs.Signed.{clampSigned}
+use Rattle.lanes.specs.Rules.{pack}
+use Rattle.lanes.proofs.Building.{Built, building}
+use Rattle.lanes.proofs.packs.pack_signed.Statement.{statement}
+use Rattle.lanes.proofs.packs.pack_signed.Tie as tie
+
+abbrev Inv-loop : tie.InvT-loop
+Inv-loop a b w n lanes₀ i₀ lanes i = Built (pack clampSigned) w a b lanes i
+
+abbrev μ-loop : tie.MeasureT-loop
+μ-loop a b w n lanes₀ i₀ lanes i = n - i
+
+pub pack-signed-spec : {M : Type 1} → statement M
+pack-signed-spec =
+    tie.close
+    (tie.spec
+    Inv-loop
+    μ-loop
+    (λ c. search building)
+    (λ c. search building)
+    (λ c κs. search building)
+    (λ c κs. search building)
+    (λ c. search building)
+    (λ c. search building)
+    (λ c. search building)
+    (λ c. search building))

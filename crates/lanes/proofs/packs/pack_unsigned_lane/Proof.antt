@@ -1,0 +1,14 @@
+-- `lanes::packs::pack_unsigned_lane` meets its contract.
+use Rattle.lanes.proofs.Packing.{packing}
+use Rattle.lanes.proofs.packs.pack_unsigned_lane.Statement.{statement}
+use Rattle.lanes.proofs.packs.pack_unsigned_lane.Tie as tie
+
+pub pack-unsigned-lane-spec : {M : Type 1} → statement M
+pack-unsigned-lane-spec =
+    tie.close
+    (tie.spec
+    (λ c. search packing)
+    (λ c κs. search packing)
+    (λ c κs. search packing)
+    (λ c κs. search packing)
+    (λ c. search packing))

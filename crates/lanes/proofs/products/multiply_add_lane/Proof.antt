@@ -1,0 +1,16 @@
+-- `lanes::products::multiply_add_lane` meets its contract.
+use Rattle.lanes.proofs.Multiplying.{multiplying}
+use Rattle.lanes.proofs.products.multiply_add_lane.Statement.{statement}
+use Rattle.lanes.proofs.products.multiply_add_lane.Tie as tie
+
+pub multiply-add-lane-spec : {M : Type 1} → statement M
+multiply-add-lane-spec =
+    tie.close
+    (tie.spec
+    (λ c. search multiplying)
+    (λ c κs. search multiplying)
+    (λ c. search multiplying)
+    (λ c. search multiplying)
+    (λ c κs. search multiplying)
+    (λ c. search multiplying)
+    (λ c. search multiplying))

@@ -1,0 +1,11 @@
+-- `lanes::products::multiply_high_lane` meets its contract.
+use Rattle.lanes.proofs.Multiplying.{multiplying}
+use Rattle.lanes.proofs.products.multiply_high_lane.Statement.{statement}
+use Rattle.lanes.proofs.products.multiply_high_lane.Tie as tie
+
+pub multiply-high-lane-spec : {M : Type 1} → statement M
+multiply-high-lane-spec =
+    tie.close
+    (tie.spec
+    (λ c κs. search multiplying)
+    (λ c. search multiplying))

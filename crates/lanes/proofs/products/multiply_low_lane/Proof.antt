@@ -1,0 +1,11 @@
+-- `lanes::products::multiply_low_lane` meets its contract.
+use Rattle.lanes.proofs.Multiplying.{multiplying}
+use Rattle.lanes.proofs.products.multiply_low_lane.Statement.{statement}
+use Rattle.lanes.proofs.products.multiply_low_lane.Tie as tie
+
+pub multiply-low-lane-spec : {M : Type 1} → statement M
+multiply-low-lane-spec =
+    tie.close
+    (tie.spec
+    (λ c κs. search multiplying)
+    (λ c. search multiplying))

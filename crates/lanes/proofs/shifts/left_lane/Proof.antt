@@ -1,0 +1,14 @@
+-- `lanes::shifts::left_lane` meets its contract.
+use Rattle.lanes.proofs.Shifting.{shifting}
+use Rattle.lanes.proofs.shifts.left_lane.Statement.{statement}
+use Rattle.lanes.proofs.shifts.left_lane.Tie as tie
+
+pub left-lane-spec : {M : Type 1} → statement M
+left-lane-spec =
+    tie.close
+    (tie.spec
+    (λ c. search shifting)
+    (λ c κs. search shifting)
+    (λ c. search shifting)
+    (λ c κs. search shifting)
+    (λ c. search shifting))

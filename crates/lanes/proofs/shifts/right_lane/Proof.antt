@@ -1,0 +1,13 @@
+-- `lanes::shifts::right_lane` meets its contract.
+use Rattle.lanes.proofs.Shifting.{shifting}
+use Rattle.lanes.proofs.shifts.right_lane.Statement.{statement}
+use Rattle.lanes.proofs.shifts.right_lane.Tie as tie
+
+pub right-lane-spec : {M : Type 1} → statement M
+right-lane-spec =
+    tie.close
+    (tie.spec
+    (λ c. search shifting)
+    (λ c κs. search shifting)
+    (λ c. search shifting)
+    (λ c. search shifting))

@@ -1,0 +1,62 @@
+// Taking a lane out of a register, putting lanes together, and clamping a number to a lane.
+ghost use mathlib.Core.Path.{_≡_};
+ghost use Prim.Native.Nat.{_+_, _-_, _*_, _%_, _^_, _<_, _≤_};
+ghost use lib.IntN.{subℕ};
+ghost use Rattle.lanes.specs.Lane.{lane, Within};
+ghost use Rattle.lanes.specs.Signed.{wrap, clampUnsigned};
+
+// The low w bits of x.
+pub(crate) fn low(x: u64, w: u64) -> u64
+    requires { ⌜ (1 ≤ w) × (w ≤ 64) ⌝ }
+    ensures { λ r. ⌜ r ≡ x % 2 ^ w ⌝ }
+{
+    (x << (64 - w)) >> (64 - w)
+}
+
+// Lane i of x.
+pub(crate) fn lane_of(x: u64, w: u64, i: u64) -> u64
+    requires { ⌜ Within w i ⌝ }
+    ensures { λ r. ⌜ (r ≡ lane w i x) × (r < 2 ^ w) ⌝ }
+{
+    low(x >> (w * i), w)
+}
+
+// The lanes below lane i, with lane i.
+pub(crate) fn with_lane(lanes: u64, x: u64, w: u64, i: u64) -> u64
+    requires { ⌜ Within w i × (x < 2 ^ w) × (lanes < 2 ^ (w * i)) ⌝ }
+    ensures { λ r. ⌜ r ≡ x * 2 ^ (w * i) + lanes ⌝ }
+{
+    (x << (w * i)) + lanes
+}
+
+// What a lane's top bit weighs.
+pub(crate) fn half(w: u64) -> u64
+    requires { ⌜ (1 ≤ w) × (w ≤ 32) ⌝ }
+    ensures { λ r. ⌜ (r ≡ 2 ^ (w - 1)) × (r + r ≡ 2 ^ w) × (1 ≤ r) × (r ≤ 2 ^ 31) ⌝ }
+{
+    1 << (w - 1)
+}
+
+// A lane of ones.
+pub(crate) fn ones(w: u64) -> u64
+    requires { ⌜ (1 ≤ w) × (w ≤ 32) ⌝ }
+    ensures { λ r. ⌜ (r ≡ 2 ^ w - 1) × (r < 2 ^ w) ⌝ }
+{
+    let h = half(w);
+    h + (h - 1)
+}
+
+// The difference m - n clamped to a lane's unsigned numbers.
+pub(crate) fn clamped(m: u64, n: u64, w: u64) -> u64
+    requires { ⌜ (1 ≤ w) × (w ≤ 32) ⌝ }
+    ensures { λ r. ⌜ (r ≡ wrap w (clampUnsigned w (subℕ m n))) ⌝ }
+{
+    let greatest = ones(w);
+    if m <= n {
+        return 0;
+    }
+    if greatest <= m - n {
+        return greatest;
+    }
+    m - n
+}

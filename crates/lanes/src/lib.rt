@@ -1,0 +1,173 @@
+// What a packed operation leaves in a 64-bit register, from a destination and a source.
+mod compares;
+mod lane;
+mod packs;
+mod products;
+mod shifts;
+mod sums;
+
+ghost use mathlib.Core.Path.{_≡_};
+ghost use Rattle.lanes.specs.Operations.{operate, operationOf};
+use compares::equals;
+use compares::exceeds;
+use packs::pack_signed;
+use packs::pack_unsigned;
+use packs::unpacked;
+use products::multiply_add;
+use products::multiply_high;
+use products::multiply_low;
+use shifts::shift_left;
+use shifts::shift_right;
+use shifts::shift_right_signed;
+use sums::add;
+use sums::add_doublewords;
+use sums::add_signed;
+use sums::add_unsigned;
+use sums::subtract;
+use sums::subtract_doublewords;
+use sums::subtract_signed;
+use sums::subtract_unsigned;
+
+const PUNPCKLBW: u8 = 0;
+
+const PUNPCKLWD: u8 = 1;
+
+const PUNPCKLDQ: u8 = 2;
+
+const PACKSSWB: u8 = 3;
+
+const PACKUSWB: u8 = 4;
+
+const PACKSSDW: u8 = 5;
+
+const PCMPGTB: u8 = 6;
+
+const PCMPGTW: u8 = 7;
+
+const PCMPGTD: u8 = 8;
+
+const PUNPCKHBW: u8 = 9;
+
+const PUNPCKHWD: u8 = 10;
+
+const PUNPCKHDQ: u8 = 11;
+
+const MOVE: u8 = 12;
+
+const PCMPEQB: u8 = 13;
+
+const PCMPEQW: u8 = 14;
+
+const PCMPEQD: u8 = 15;
+
+const PSRLW: u8 = 16;
+
+const PSRLD: u8 = 17;
+
+const PSRLQ: u8 = 18;
+
+const PSRAW: u8 = 19;
+
+const PSRAD: u8 = 20;
+
+const PSLLW: u8 = 21;
+
+const PSLLD: u8 = 22;
+
+const PSLLQ: u8 = 23;
+
+const PMULLW: u8 = 24;
+
+const PMULHW: u8 = 25;
+
+const PMADDWD: u8 = 26;
+
+const PSUBUSB: u8 = 27;
+
+const PSUBUSW: u8 = 28;
+
+const PADDUSB: u8 = 29;
+
+const PADDUSW: u8 = 30;
+
+const PSUBSB: u8 = 31;
+
+const PSUBSW: u8 = 32;
+
+const PADDSB: u8 = 33;
+
+const PADDSW: u8 = 34;
+
+const PAND: u8 = 35;
+
+const PANDN: u8 = 36;
+
+const POR: u8 = 37;
+
+const PXOR: u8 = 38;
+
+const PSUBB: u8 = 39;
+
+const PSUBW: u8 = 40;
+
+const PSUBD: u8 = 41;
+
+const PADDB: u8 = 42;
+
+const PADDW: u8 = 43;
+
+const PADDD: u8 = 44;
+
+// What the operation of this number leaves. A number that names none keeps the destination.
+pub fn operate(operation: u8, destination: u64, source: u64) -> u64
+    ensures { λ r. ⌜ r ≡ operate (operationOf operation) destination source ⌝ }
+{
+    match operation {
+        PUNPCKLBW => unpacked(destination, source, 8, 0),
+        PUNPCKLWD => unpacked(destination, source, 16, 0),
+        PUNPCKLDQ => unpacked(destination, source, 32, 0),
+        PACKSSWB => pack_signed(destination, source, 8),
+        PACKUSWB => pack_unsigned(destination, source, 8),
+        PACKSSDW => pack_signed(destination, source, 16),
+        PCMPGTB => exceeds(destination, source, 8),
+        PCMPGTW => exceeds(destination, source, 16),
+        PCMPGTD => exceeds(destination, source, 32),
+        PUNPCKHBW => unpacked(destination, source, 8, 4),
+        PUNPCKHWD => unpacked(destination, source, 16, 2),
+        PUNPCKHDQ => unpacked(destination, source, 32, 1),
+        MOVE => source,
+        PCMPEQB => equals(destination, source, 8),
+        PCMPEQW => equals(destination, source, 16),
+        PCMPEQD => equals(destination, source, 32),
+        PSRLW => shift_right(destination, source, 16),
+        PSRLD => shift_right(destination, source, 32),
+        PSRLQ => shift_right(destination, source, 64),
+        PSRAW => shift_right_signed(destination, source, 16),
+        PSRAD => shift_right_signed(destination, source, 32),
+        PSLLW => shift_left(destination, source, 16),
+        PSLLD => shift_left(destination, source, 32),
+        PSLLQ => shift_left(destination, source, 64),
+        PMULLW => multiply_low(destination, source),
+        PMULHW => multiply_high(destination, source),
+        PMADDWD => multiply_add(destination, source),
+        PSUBUSB => subtract_unsigned(destination, source, 8),
+        PSUBUSW => subtract_unsigned(destination, source, 16),
+        PADDUSB => add_unsigned(destination, source, 8),
+        PADDUSW => add_unsigned(destination, source, 16),
+        PSUBSB => subtract_signed(destination, source, 8),
+        PSUBSW => subtract_signed(destination, source, 16),
+        PADDSB => add_signed(destination, source, 8),
+        PADDSW => add_signed(destination, source, 16),
+        PAND => destination & source,
+        PANDN => !destination & source,
+        POR => destination | source,
+        PXOR => destination ^ source,
+        PSUBB => subtract(destination, source, 8),
+        PSUBW => subtract(destination, source, 16),
+        PSUBD => subtract_doublewords(destination, source),
+        PADDB => add(destination, source, 8),
+        PADDW => add(destination, source, 16),
+        PADDD => add_doublewords(destination, source),
+        _ => destination,
+    }
+}

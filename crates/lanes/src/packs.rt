@@ -1,0 +1,96 @@
+// The packs, which clamp lanes of twice the width, and the unpacks, which alternate lanes.
+ghost use mathlib.Core.Path.{_≡_};
+ghost use mathlib.Core.Bool.{cond};
+ghost use Prim.Native.Nat.{_+_, _/_, _%_, _^_, _<_, _≤_};
+ghost use lib.Dec.{ltb};
+ghost use Rattle.lanes.specs.Lane.{lane};
+ghost use Rattle.lanes.specs.Signed.{clampSigned, clampUnsigned};
+ghost use Rattle.lanes.specs.Rules.{packed, pack, unpack};
+use crate::lane::clamped;
+use crate::lane::half;
+use crate::lane::lane_of;
+use crate::lane::with_lane;
+
+// The lane that a pack clamps into its lane i.
+fn wide_lane(a: u64, b: u64, w: u64, i: u64) -> u64
+    requires { ⌜ (1 ≤ w) × (w ≤ 16) ⌝ }
+    ensures { λ r. ⌜ (r ≡ lane (w + w) (i % (32 / w)) (cond (ltb i (32 / w)) a b)) × (r < 2 ^ (w + w)) ⌝ }
+{
+    let n = 32 / w;
+    if i < n {
+        return lane_of(a, w + w, i % n);
+    }
+    lane_of(b, w + w, i % n)
+}
+
+// With its top bit turned over, a signed lane is its number plus half the range: h of the narrow lane, wide of the other.
+fn pack_signed_lane(a: u64, b: u64, w: u64, i: u64) -> u64
+    requires { ⌜ (1 ≤ w) × (w ≤ 16) ⌝ }
+    ensures { λ r. ⌜ r ≡ pack clampSigned w a b i ⌝ }
+{
+    let h = half(w);
+    let wide = half(w + w);
+    clamped((wide_lane(a, b, w, i) ^ wide) + h, wide, w) ^ h
+}
+
+pub(crate) fn pack_signed(a: u64, b: u64, w: u64) -> u64
+    requires { ⌜ (1 ≤ w) × (w ≤ 16) ⌝ }
+    ensures { λ r. ⌜ r ≡ packed (pack clampSigned) w a b ⌝ }
+{
+    let n = 64 / w;
+    let mut lanes: u64 = 0;
+    let mut i: u64 = 0;
+    while i < n {
+        lanes = with_lane(lanes, pack_signed_lane(a, b, w, i), w, i);
+        i += 1;
+    }
+    lanes
+}
+
+fn pack_unsigned_lane(a: u64, b: u64, w: u64, i: u64) -> u64
+    requires { ⌜ (1 ≤ w) × (w ≤ 16) ⌝ }
+    ensures { λ r. ⌜ r ≡ pack clampUnsigned w a b i ⌝ }
+{
+    let wide = half(w + w);
+    clamped(wide_lane(a, b, w, i) ^ wide, wide, w)
+}
+
+pub(crate) fn pack_unsigned(a: u64, b: u64, w: u64) -> u64
+    requires { ⌜ (1 ≤ w) × (w ≤ 16) ⌝ }
+    ensures { λ r. ⌜ r ≡ packed (pack clampUnsigned) w a b ⌝ }
+{
+    let n = 64 / w;
+    let mut lanes: u64 = 0;
+    let mut i: u64 = 0;
+    while i < n {
+        lanes = with_lane(lanes, pack_unsigned_lane(a, b, w, i), w, i);
+        i += 1;
+    }
+    lanes
+}
+
+fn unpack_lane(a: u64, b: u64, w: u64, first: u64, i: u64) -> u64
+    requires { ⌜ (1 ≤ w) × (w ≤ 32) × (first ≤ 32 / w) × (i < 64 / w) ⌝ }
+    ensures { λ r. ⌜ r ≡ unpack first w a b i ⌝ }
+{
+    let j = first + i / 2;
+    if i % 2 == 0 {
+        return lane_of(a, w, j);
+    }
+    lane_of(b, w, j)
+}
+
+// The lanes from `first` on, in turn.
+pub(crate) fn unpacked(a: u64, b: u64, w: u64, first: u64) -> u64
+    requires { ⌜ (1 ≤ w) × (w ≤ 32) × (first ≤ 32 / w) ⌝ }
+    ensures { λ r. ⌜ r ≡ packed (unpack first) w a b ⌝ }
+{
+    let n = 64 / w;
+    let mut lanes: u64 = 0;
+    let mut i: u64 = 0;
+    while i < n {
+        lanes = with_lane(lanes, unpack_lane(a, b, w, first, i), w, i);
+        i += 1;
+    }
+    lanes
+}

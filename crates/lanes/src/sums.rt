@@ -1,0 +1,113 @@
+// PADD and PSUB: the plain ones wrap in their lane, S and US forms clamp.
+ghost use mathlib.Core.Path.{_≡_};
+ghost use Prim.Native.Nat.{_≤_};
+ghost use Rattle.lanes.specs.Lane.{Within, Fills};
+ghost use Rattle.lanes.specs.Rules.{packed, pairwise, sum, difference, sumSigned, differenceSigned, sumUnsigned, differenceUnsigned};
+use crate::lane::clamped;
+use crate::lane::half;
+use crate::lane::lane_of;
+use crate::lane::low;
+use crate::lane::with_lane;
+
+fn add_lane(a: u64, b: u64, w: u64, i: u64) -> u64
+    requires { ⌜ Within w i × (w ≤ 32) ⌝ }
+    ensures { λ r. ⌜ r ≡ pairwise sum w a b i ⌝ }
+{
+    low(lane_of(a, w, i) + lane_of(b, w, i), w)
+}
+
+pub(crate) fn add(a: u64, b: u64, w: u64) -> u64
+    requires { ⌜ Fills w ⌝ }
+    ensures { λ r. ⌜ r ≡ packed (pairwise sum) w a b ⌝ }
+{
+    let n = 64 / w;
+    let mut lanes: u64 = 0;
+    let mut i: u64 = 0;
+    while i < n {
+        lanes = with_lane(lanes, add_lane(a, b, w, i), w, i);
+        i += 1;
+    }
+    lanes
+}
+
+// Both lanes of 32 bits, by additions that wrap.
+pub(crate) fn add_doublewords(a: u64, b: u64) -> u64
+    ensures { λ r. ⌜ r ≡ packed (pairwise sum) 32 a b ⌝ }
+{
+    let low = std::num::wrapping_add_u32((a % 0x1_0000_0000) as u32, (b % 0x1_0000_0000) as u32);
+    let high = std::num::wrapping_add_u32((a / 0x1_0000_0000) as u32, (b / 0x1_0000_0000) as u32);
+    (high as u64) * 0x1_0000_0000 + low as u64
+}
+
+// With its top bit turned over, a signed lane is its number plus half the range.
+fn add_signed_lane(a: u64, b: u64, w: u64, i: u64) -> u64
+    requires { ⌜ Within w i × (w ≤ 32) ⌝ }
+    ensures { λ r. ⌜ r ≡ pairwise sumSigned w a b i ⌝ }
+{
+    let h = half(w);
+    clamped((lane_of(a, w, i) ^ h) + (lane_of(b, w, i) ^ h), h, w) ^ h
+}
+
+pub(crate) fn add_signed(a: u64, b: u64, w: u64) -> u64
+    requires { ⌜ Fills w ⌝ }
+    ensures { λ r. ⌜ r ≡ packed (pairwise sumSigned) w a b ⌝ }
+{
+    let n = 64 / w;
+    let mut lanes: u64 = 0;
+    let mut i: u64 = 0;
+    while i < n {
+        lanes = with_lane(lanes, add_signed_lane(a, b, w, i), w, i);
+        i += 1;
+    }
+    lanes
+}
+
+fn add_unsigned_lane(a: u64, b: u64, w: u64, i: u64) -> u64
+    requires { ⌜ Within w i × (w ≤ 32) ⌝ }
+    ensures { λ r. ⌜ r ≡ pairwise sumUnsigned w a b i ⌝ }
+{
+    clamped(lane_of(a, w, i) + lane_of(b, w, i), 0, w)
+}
+
+pub(crate) fn add_unsigned(a: u64, b: u64, w: u64) -> u64
+    requires { ⌜ Fills w ⌝ }
+    ensures { λ r. ⌜ r ≡ packed (pairwise sumUnsigned) w a b ⌝ }
+{
+    let n = 64 / w;
+    let mut lanes: u64 = 0;
+    let mut i: u64 = 0;
+    while i < n {
+        lanes = with_lane(lanes, add_unsigned_lane(a, b, w, i), w, i);
+        i += 1;
+    }
+    lanes
+}
+
+// Each subtraction is its addition from the other side: a - b is not (not a + b), clamped or not.
+
+pub(crate) fn subtract(a: u64, b: u64, w: u64) -> u64
+    requires { ⌜ Fills w ⌝ }
+    ensures { λ r. ⌜ r ≡ packed (pairwise difference) w a b ⌝ }
+{
+    !add(!a, b, w)
+}
+
+pub(crate) fn subtract_doublewords(a: u64, b: u64) -> u64
+    ensures { λ r. ⌜ r ≡ packed (pairwise difference) 32 a b ⌝ }
+{
+    !add_doublewords(!a, b)
+}
+
+pub(crate) fn subtract_signed(a: u64, b: u64, w: u64) -> u64
+    requires { ⌜ Fills w ⌝ }
+    ensures { λ r. ⌜ r ≡ packed (pairwise differenceSigned) w a b ⌝ }
+{
+    !add_signed(!a, b, w)
+}
+
+pub(crate) fn subtract_unsigned(a: u64, b: u64, w: u64) -> u64
+    requires { ⌜ Fills w ⌝ }
+    ensures { λ r. ⌜ r ≡ packed (pairwise differenceUnsigned) w a b ⌝ }
+{
+    !add_unsigned(!a, b, w)
+}

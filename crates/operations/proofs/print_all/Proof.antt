@@ -1,0 +1,24 @@
+-- `operations::print_all` is safe and ends: the operations are counted up to the last.
+use Prim.Native.Nat.{_≤_, _-_}
+use borrow.Author.Needs.{needs}
+use Rattle.operations.proofs.print_all.Statement.{statement}
+use Rattle.operations.proofs.print_all.Tie as tie
+
+abbrev Inv-loop : tie.InvT-loop
+Inv-loop operation₀ operation = operation ≤ 46
+
+abbrev μ-loop : tie.MeasureT-loop
+μ-loop operation₀ operation = 46 - operation
+
+pub print-all-spec : {M : Type 1} → statement M
+print-all-spec =
+    tie.close
+    (tie.spec
+    Inv-loop
+    μ-loop
+    (λ c. search needs)
+    (λ c κs. search needs)
+    (λ c. search needs)
+    (λ c. search needs)
+    (λ c. search needs)
+    (λ c. search needs))

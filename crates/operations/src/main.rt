@@ -1,0 +1,70 @@
+// Performs each packed operation on numbers of a fixed generator, and prints a number that all results went into, a line for each operation.
+// With three bytes on standard input, an operation's number and a count of rounds (low byte first), it performs that operation alone.
+ghost use Prim.Native.Nat.{_<_};
+use libc::STDIN_FILENO;
+use libc::STDOUT_FILENO;
+
+// One more than the greatest number that names an operation: a number that names none is performed too.
+const OPERATIONS: u8 = 46;
+
+const ROUNDS: u64 = 1000;
+
+// The generator's number after x.
+fn next(x: u64) -> u64 {
+    let y = x ^ (x << 13);
+    let z = y ^ (y >> 7);
+    z ^ (z << 17)
+}
+
+// A source: any number, or one that is a shift count about as often as not.
+fn source_of(x: u64, i: u64) -> u64 {
+    if i % 2 == 0 {
+        return x;
+    }
+    x % 72
+}
+
+// The results of an operation in so many rounds, mixed into one number.
+fn mixed(operation: u8, rounds: u64) -> u64 {
+    let mut destination: u64 = 0x0123_4567_89ab_cdef;
+    let mut source: u64 = 0x8000_7fff_ff80_017f;
+    let mut total: u64 = 1;
+    let mut i: u64 = 0;
+    while i < rounds {
+        total = next(total ^ lanes::operate(operation, destination, source_of(source, i)));
+        destination = next(destination);
+        source = next(source);
+        i += 1;
+    }
+    total
+}
+
+fn print(operation: u8, rounds: u64) {
+    io::print_decimal(STDOUT_FILENO, operation as u64);
+    io::write_all(STDOUT_FILENO, b" ");
+    io::print_hex(STDOUT_FILENO, mixed(operation, rounds), 16);
+    io::write_all(STDOUT_FILENO, b"\n");
+}
+
+fn print_all() {
+    let mut operation: u8 = 0;
+    while operation < OPERATIONS {
+        print(operation, ROUNDS);
+        operation += 1;
+    }
+}
+
+fn wide(x: u8) -> u64
+    ensures { λ r. ⌜ r < 256 ⌝ }
+{
+    x as u64
+}
+
+fn main() {
+    let mut input = [0u8; 3];
+    if io::read_full(STDIN_FILENO, &mut input) == 3 {
+        print(input[0], wide(input[1]) + 256 * wide(input[2]));
+    } else {
+        print_all();
+    }
+}
