@@ -5,6 +5,11 @@ ghost use lib.IntN.{subℕ};
 ghost use Rattle.lanes.specs.Lane.{lane, Within};
 ghost use Rattle.lanes.specs.Signed.{wrap, clampUnsigned};
 
+// How many numbers lanes of 16 and of 32 bits hold.
+pub(crate) const WORD_RANGE: u64 = 0x1_0000;
+
+pub(crate) const DOUBLEWORD_RANGE: u64 = 0x1_0000_0000;
+
 // The low w bits of x.
 pub(crate) fn low(x: u64, w: u64) -> u64
     requires { ⌜ (1 ≤ w) × (w ≤ 64) ⌝ }
@@ -49,7 +54,7 @@ pub(crate) fn ones(w: u64) -> u64
 // The difference m - n clamped to a lane's unsigned numbers.
 pub(crate) fn clamped(m: u64, n: u64, w: u64) -> u64
     requires { ⌜ (1 ≤ w) × (w ≤ 32) ⌝ }
-    ensures { λ r. ⌜ (r ≡ wrap w (clampUnsigned w (subℕ m n))) ⌝ }
+    ensures { λ r. ⌜ r ≡ wrap w (clampUnsigned w (subℕ m n)) ⌝ }
 {
     let greatest = ones(w);
     if m <= n {

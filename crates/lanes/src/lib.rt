@@ -28,6 +28,18 @@ use sums::subtract_doublewords;
 use sums::subtract_signed;
 use sums::subtract_unsigned;
 
+// The lanes' widths, and the bits of half a register.
+const BYTE: u64 = 8;
+
+const WORD: u64 = 16;
+
+const DOUBLEWORD: u64 = 32;
+
+const QUADWORD: u64 = 64;
+
+const HALF: u64 = 32;
+
+// The operations' numbers, in the order of the table of opcode bytes.
 const PUNPCKLBW: u8 = 0;
 
 const PUNPCKLWD: u8 = 1;
@@ -123,50 +135,50 @@ pub fn operate(operation: u8, destination: u64, source: u64) -> u64
     ensures { λ r. ⌜ r ≡ operate (operationOf operation) destination source ⌝ }
 {
     match operation {
-        PUNPCKLBW => unpacked(destination, source, 8, 0),
-        PUNPCKLWD => unpacked(destination, source, 16, 0),
-        PUNPCKLDQ => unpacked(destination, source, 32, 0),
-        PACKSSWB => pack_signed(destination, source, 8),
-        PACKUSWB => pack_unsigned(destination, source, 8),
-        PACKSSDW => pack_signed(destination, source, 16),
-        PCMPGTB => exceeds(destination, source, 8),
-        PCMPGTW => exceeds(destination, source, 16),
-        PCMPGTD => exceeds(destination, source, 32),
-        PUNPCKHBW => unpacked(destination, source, 8, 4),
-        PUNPCKHWD => unpacked(destination, source, 16, 2),
-        PUNPCKHDQ => unpacked(destination, source, 32, 1),
+        PUNPCKLBW => unpacked(destination, source, BYTE, 0),
+        PUNPCKLWD => unpacked(destination, source, WORD, 0),
+        PUNPCKLDQ => unpacked(destination, source, DOUBLEWORD, 0),
+        PACKSSWB => pack_signed(destination, source, BYTE),
+        PACKUSWB => pack_unsigned(destination, source, BYTE),
+        PACKSSDW => pack_signed(destination, source, WORD),
+        PCMPGTB => exceeds(destination, source, BYTE),
+        PCMPGTW => exceeds(destination, source, WORD),
+        PCMPGTD => exceeds(destination, source, DOUBLEWORD),
+        PUNPCKHBW => unpacked(destination, source, BYTE, HALF / BYTE),
+        PUNPCKHWD => unpacked(destination, source, WORD, HALF / WORD),
+        PUNPCKHDQ => unpacked(destination, source, DOUBLEWORD, HALF / DOUBLEWORD),
         MOVE => source,
-        PCMPEQB => equals(destination, source, 8),
-        PCMPEQW => equals(destination, source, 16),
-        PCMPEQD => equals(destination, source, 32),
-        PSRLW => shift_right(destination, source, 16),
-        PSRLD => shift_right(destination, source, 32),
-        PSRLQ => shift_right(destination, source, 64),
-        PSRAW => shift_right_signed(destination, source, 16),
-        PSRAD => shift_right_signed(destination, source, 32),
-        PSLLW => shift_left(destination, source, 16),
-        PSLLD => shift_left(destination, source, 32),
-        PSLLQ => shift_left(destination, source, 64),
+        PCMPEQB => equals(destination, source, BYTE),
+        PCMPEQW => equals(destination, source, WORD),
+        PCMPEQD => equals(destination, source, DOUBLEWORD),
+        PSRLW => shift_right(destination, source, WORD),
+        PSRLD => shift_right(destination, source, DOUBLEWORD),
+        PSRLQ => shift_right(destination, source, QUADWORD),
+        PSRAW => shift_right_signed(destination, source, WORD),
+        PSRAD => shift_right_signed(destination, source, DOUBLEWORD),
+        PSLLW => shift_left(destination, source, WORD),
+        PSLLD => shift_left(destination, source, DOUBLEWORD),
+        PSLLQ => shift_left(destination, source, QUADWORD),
         PMULLW => multiply_low(destination, source),
         PMULHW => multiply_high(destination, source),
         PMADDWD => multiply_add(destination, source),
-        PSUBUSB => subtract_unsigned(destination, source, 8),
-        PSUBUSW => subtract_unsigned(destination, source, 16),
-        PADDUSB => add_unsigned(destination, source, 8),
-        PADDUSW => add_unsigned(destination, source, 16),
-        PSUBSB => subtract_signed(destination, source, 8),
-        PSUBSW => subtract_signed(destination, source, 16),
-        PADDSB => add_signed(destination, source, 8),
-        PADDSW => add_signed(destination, source, 16),
+        PSUBUSB => subtract_unsigned(destination, source, BYTE),
+        PSUBUSW => subtract_unsigned(destination, source, WORD),
+        PADDUSB => add_unsigned(destination, source, BYTE),
+        PADDUSW => add_unsigned(destination, source, WORD),
+        PSUBSB => subtract_signed(destination, source, BYTE),
+        PSUBSW => subtract_signed(destination, source, WORD),
+        PADDSB => add_signed(destination, source, BYTE),
+        PADDSW => add_signed(destination, source, WORD),
         PAND => destination & source,
         PANDN => !destination & source,
         POR => destination | source,
         PXOR => destination ^ source,
-        PSUBB => subtract(destination, source, 8),
-        PSUBW => subtract(destination, source, 16),
+        PSUBB => subtract(destination, source, BYTE),
+        PSUBW => subtract(destination, source, WORD),
         PSUBD => subtract_doublewords(destination, source),
-        PADDB => add(destination, source, 8),
-        PADDW => add(destination, source, 16),
+        PADDB => add(destination, source, BYTE),
+        PADDW => add(destination, source, WORD),
         PADDD => add_doublewords(destination, source),
         _ => destination,
     }

@@ -4,6 +4,8 @@ ghost use Prim.Native.Nat.{_^_, _<_};
 ghost use lib.IntN.{subℕ};
 ghost use Rattle.lanes.specs.Lane.{lane};
 ghost use Rattle.lanes.specs.Rules.{packed, pairwise, product, productLow, productHigh, productSum};
+use crate::lane::DOUBLEWORD_RANGE;
+use crate::lane::WORD_RANGE;
 use crate::lane::lane_of;
 use crate::lane::with_lane;
 
@@ -13,10 +15,10 @@ fn product_of(a: u64, b: u64) -> u64
     requires { ⌜ (a < 2 ^ 16) × (b < 2 ^ 16) ⌝ }
     ensures { λ r. ⌜ (product 16 a b ≡ subℕ r (2 ^ 32)) × (r < 2 ^ 34) ⌝ }
 {
-    let h: u64 = 0x8000;
+    let h = WORD_RANGE / 2;
     let x = a ^ h;
     let y = b ^ h;
-    x * y + h * h + 0x1_0000_0000 - (x * h + h * y)
+    x * y + h * h + DOUBLEWORD_RANGE - (x * h + h * y)
 }
 
 // The same of word i of two registers.
@@ -31,7 +33,7 @@ fn multiply_low_lane(a: u64, b: u64, i: u64) -> u64
     requires { ⌜ i < 4 ⌝ }
     ensures { λ r. ⌜ r ≡ pairwise productLow 16 a b i ⌝ }
 {
-    multiply_lane(a, b, i) % 0x1_0000
+    multiply_lane(a, b, i) % WORD_RANGE
 }
 
 pub(crate) fn multiply_low(a: u64, b: u64) -> u64
@@ -50,7 +52,7 @@ fn multiply_high_lane(a: u64, b: u64, i: u64) -> u64
     requires { ⌜ i < 4 ⌝ }
     ensures { λ r. ⌜ r ≡ pairwise productHigh 16 a b i ⌝ }
 {
-    multiply_lane(a, b, i) / 0x1_0000 % 0x1_0000
+    multiply_lane(a, b, i) / WORD_RANGE % WORD_RANGE
 }
 
 pub(crate) fn multiply_high(a: u64, b: u64) -> u64
@@ -70,7 +72,7 @@ fn multiply_add_lane(a: u64, b: u64, i: u64) -> u64
     requires { ⌜ i < 2 ⌝ }
     ensures { λ r. ⌜ r ≡ pairwise productSum 32 a b i ⌝ }
 {
-    (multiply_lane(a, b, i + i) + multiply_lane(a, b, i + i + 1)) % 0x1_0000_0000
+    (multiply_lane(a, b, i + i) + multiply_lane(a, b, i + i + 1)) % DOUBLEWORD_RANGE
 }
 
 pub(crate) fn multiply_add(a: u64, b: u64) -> u64

@@ -3,6 +3,7 @@ ghost use mathlib.Core.Path.{_≡_};
 ghost use Prim.Native.Nat.{_≤_};
 ghost use Rattle.lanes.specs.Lane.{Within, Fills};
 ghost use Rattle.lanes.specs.Rules.{packed, pairwise, sum, difference, sumSigned, differenceSigned, sumUnsigned, differenceUnsigned};
+use crate::lane::DOUBLEWORD_RANGE;
 use crate::lane::clamped;
 use crate::lane::half;
 use crate::lane::lane_of;
@@ -34,9 +35,15 @@ pub(crate) fn add(a: u64, b: u64, w: u64) -> u64
 pub(crate) fn add_doublewords(a: u64, b: u64) -> u64
     ensures { λ r. ⌜ r ≡ packed (pairwise sum) 32 a b ⌝ }
 {
-    let low = std::num::wrapping_add_u32((a % 0x1_0000_0000) as u32, (b % 0x1_0000_0000) as u32);
-    let high = std::num::wrapping_add_u32((a / 0x1_0000_0000) as u32, (b / 0x1_0000_0000) as u32);
-    (high as u64) * 0x1_0000_0000 + low as u64
+    let low = std::num::wrapping_add_u32(
+        (a % DOUBLEWORD_RANGE) as u32,
+        (b % DOUBLEWORD_RANGE) as u32,
+    );
+    let high = std::num::wrapping_add_u32(
+        (a / DOUBLEWORD_RANGE) as u32,
+        (b / DOUBLEWORD_RANGE) as u32,
+    );
+    (high as u64) * DOUBLEWORD_RANGE + low as u64
 }
 
 // With its top bit turned over, a signed lane is its number plus half the range.
