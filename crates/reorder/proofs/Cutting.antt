@@ -1,0 +1,151 @@
+-- A run that finishes is the row of its pieces: each step of the run cuts one whole instruction off the code, and the way back.
+use mathlib.Core.Path.{_≡_, refl, sym, ap, _∙_, subst}
+use mathlib.Core.List.{List, [], _∷_, _++_, append-nil, flatten}
+use Prim.Native.Nat.{ℕ, zero, suc, _+_, _<_, _≤_, _-_}
+use native.Mathlib.Nat.{add-zero}
+use native.Mathlib.Decide.{ℕ-discrete}
+use native.Mathlib.Omega.{arith}
+use borrow.Author.Tests.{eq-eqb, ne-eqb}
+use lib.ListN.{length, take, drop, length-append, length-drop, take-append-drop}
+use lib.Seq.{drop-drop, drop-length, drop-at, length-take-le, take-length}
+use Rattle.reorder.specs.Result.{Result, done, refused, andThen, caseOf}
+use Rattle.reorder.specs.Row.{execAll}
+use Rattle.reorder.specs.Run.{Reading, Answer, finished, spent, stopped, runFrom}
+use Rattle.reorder.specs.Block.{onBytes}
+use Rattle.reorder.proofs.Never.{never}
+use Rattle.reorder.proofs.Reordering.{first}
+
+-- a reader that goes by the instruction's own bytes, of which there is at least one
+pub record LocalReader {I : Type 0} (read : List ℕ → Result (Reading I)) : Type 0 where
+  pub some-bytes : (bytes : List ℕ) (r : Reading I) → read bytes ≡ done r → (0 < r .size) × (r .size ≤ length bytes)
+  pub own-bytes : (bytes tail : List ℕ) (r : Reading I) → read bytes ≡ done r → read (take (r .size) bytes ++ tail) ≡ done r
+
+-- each piece is one instruction, whole
+abbrev pub Whole : {I : Type 0} → (List ℕ → Result (Reading I)) → List ℕ → Type 0
+Whole {I} read piece = (r : Reading I) × (read piece ≡ done r) × (r .size ≡ length piece)
+
+abbrev pub AllWhole : {I : Type 0} → (List ℕ → Result (Reading I)) → List (List ℕ) → Type 0
+AllWhole read [] = Unit {0}
+AllWhole read (piece ∷ pieces) = Whole read piece × AllWhole read pieces
+
+-- a whole piece is read wherever it stands
+pub read-front : {I : Type 0} (read : List ℕ → Result (Reading I)) → LocalReader read → (piece tail : List ℕ) (r : Reading I)
+    → read piece ≡ done r → r .size ≡ length piece → read (piece ++ tail) ≡ done r
+read-front read reader piece tail r e z =
+    subst (λ (q : List ℕ). read (q ++ tail) ≡ done r) (ap (λ (n : ℕ). take n piece) z ∙ take-length piece) (reader .own-bytes piece tail r e)
+
+module _ {S I : Type 0} (read : List ℕ → Result (Reading I)) (exec : I → S → Result S) (reader : LocalReader read) where
+  -- what is left of the code is these whole pieces, whose row completes; each takes one of the budget
+  abbrev pub Cut : List ℕ → ℕ → ℕ → ℕ → S → ℕ → ℕ → S → Type 0
+  Cut code left position count s end total t =
+      (pieces : List (List ℕ)) × (drop position code ≡ flatten pieces) × AllWhole read pieces × (execAll (onBytes read exec) pieces s ≡ done t)
+      × (total ≡ count + length pieces) × (length pieces ≤ left) × (end ≡ length code)
+
+  -- the step of a run
+  abbrev step : ℕ → List ℕ → ℕ → ℕ → S → Answer S
+  step left code position count s =
+      caseOf (read (drop position code)) (λ n. stopped n position count s)
+      (λ r. caseOf (exec (r .instruction) s) (λ n. stopped n position count s)
+      (λ t. runFrom read exec left code (position + r .size) (suc count) t))
+
+  -- a step that reads r and comes to s₁
+  stepped : (left : ℕ) (code : List ℕ) (position count : ℕ) (s s₁ : S) (r : Reading I) → read (drop position code) ≡ done r
+      → exec (r .instruction) s ≡ done s₁ → step left code position count s ≡ runFrom read exec left code (position + r .size) (suc count) s₁
+  stepped left code position count s s₁ r er es = simp (er, es)
+
+  cut-end : (left : ℕ) (code : List ℕ) (position count : ℕ) (s : S) (end total : ℕ) (t : S) → position ≡ length code
+      → finished position count s ≡ finished end total t → Cut code left position count s end total t
+  unfolding flatten
+  cut-end left code position count s end total t e h =
+      ([], ap (λ (n : ℕ). drop n code) e ∙ drop-length code, tt, ap done (cc), sym (add-zero count ∙ (cc)), omega arith, (cc))
+
+  -- one step of a run that finishes, taken apart
+  abbrev Stepped : ℕ → List ℕ → ℕ → ℕ → S → Answer S → Type 0
+  Stepped left code position count s a =
+      (r : Reading I) × (s₁ : S) × (read (drop position code) ≡ done r) × (exec (r .instruction) s ≡ done s₁)
+      × (runFrom read exec left code (position + r .size) (suc count) s₁ ≡ a)
+
+  step-apart : (left : ℕ) (code : List ℕ) (position count : ℕ) (s : S) (end total : ℕ) (t : S)
+      → step left code position count s ≡ finished end total t → Stepped left code position count s (finished end total t)
+  step-apart left code position count s end total t h = found (read (drop position code)) refl
+    where
+      ran : (r : Reading I) → read (drop position code) ≡ done r → (o : Result S) → exec (r .instruction) s ≡ o
+          → Stepped left code position count s (finished end total t)
+      ran r er (done s₁) es = (r, s₁, er, es, sym (stepped left code position count s s₁ r er es) ∙ h)
+      ran r er (refused n) es =
+          let z : stopped n position count s ≡ finished end total t = simp (er, es) at h in
+          never (cc)
+
+      found : (o : Result (Reading I)) → read (drop position code) ≡ o → Stepped left code position count s (finished end total t)
+      found (done r) er = ran r er (exec (r .instruction) s) refl
+      found (refused n) er =
+          let z : stopped n position count s ≡ finished end total t = simp er at h in
+          never (cc)
+
+  cut-step : (left : ℕ) (code : List ℕ) (position count : ℕ) (s : S) (end total : ℕ) (t : S) → position ≤ length code
+      → ((position′ count′ : ℕ) (s′ : S) → position′ ≤ length code → runFrom read exec left code position′ count′ s′ ≡ finished end total t
+      → Cut code left position′ count′ s′ end total t)
+      → Stepped left code position count s (finished end total t) → Cut code (suc left) position count s end total t
+  unfolding flatten
+  cut-step left code position count s end total t l rest (r, s₁, er, es, ran) =
+      let n : ℕ = r .size in
+      let bytes : List ℕ = drop position code in
+      let fits : n ≤ length bytes = reader .some-bytes bytes r er .1 in
+      let inside : position + n ≤ length code = omega (arith, simp length-drop at fits) in
+      let (pieces, e, w, x, c, b, p) = rest (position + n) (suc count) s₁ inside ran in
+      let own : read (take n bytes) ≡ done r = ap read (sym (append-nil (take n bytes))) ∙ reader .own-bytes bytes [] r er in (
+        take n bytes ∷ pieces,
+        sym (take-append-drop n bytes) ∙ ap (λ (u : List ℕ). take n bytes ++ u) (drop-drop n position code ∙ e),
+        ((r, own, sym (length-take-le n bytes fits)), w),
+        ap (λ (o : Result S). andThen o (execAll (onBytes read exec) pieces))
+            (ap (λ (o : Result (Reading I)). andThen o (λ q. exec (q .instruction) s)) own ∙ es) ∙ x,
+        omega arith,
+        omega arith,
+        p,
+      )
+
+  pub cut : (left : ℕ) (code : List ℕ) (position count : ℕ) (s : S) (end total : ℕ) (t : S) → position ≤ length code
+      → runFrom read exec left code position count s ≡ finished end total t → Cut code left position count s end total t
+  cut zero code position count s end total t l h = go (ℕ-discrete position (length code))
+    where
+      go : Dec (position ≡ length code) → Cut code zero position count s end total t
+      go (yes e) = cut-end zero code position count s end total t e (simp (eq-eqb _ _ e) at h)
+      go (no e) =
+          let z : spent position count s ≡ finished end total t = simp (ne-eqb _ _ e) at h in
+          never (cc)
+  cut (suc left) code position count s end total t l h =
+      go (λ position′ count′ s′. cut left code position′ count′ s′ end total t) (ℕ-discrete position (length code))
+    where
+      go : ((position′ count′ : ℕ) (s′ : S) → position′ ≤ length code → runFrom read exec left code position′ count′ s′ ≡ finished end total t
+          → Cut code left position′ count′ s′ end total t)
+          → Dec (position ≡ length code) → Cut code (suc left) position count s end total t
+      go rest (yes e) = cut-end (suc left) code position count s end total t e (simp (eq-eqb _ _ e) at h)
+      go rest (no e) =
+          cut-step left code position count s end total t l rest
+          (step-apart left code position count s end total t (simp (ne-eqb _ _ e) at h))
+
+  -- the way back: whole pieces whose row completes are run to their end
+  pub joined : (pieces : List (List ℕ)) (left : ℕ) (code : List ℕ) (position count : ℕ) (s t : S) → position ≤ length code
+      → drop position code ≡ flatten pieces → AllWhole read pieces → execAll (onBytes read exec) pieces s ≡ done t → length pieces ≤ left
+      → runFrom read exec left code position count s ≡ finished (length code) (count + length pieces) t
+  unfolding flatten
+  joined [] zero code position count s t l e w h b =
+      let z : position ≡ length code = omega (arith, simp length-drop at (ap length e)) in
+      simp (eq-eqb _ _ z) (cc (z, add-zero count))
+  joined [] (suc left) code position count s t l e w h b =
+      let z : position ≡ length code = omega (arith, simp length-drop at (ap length e)) in
+      simp (eq-eqb _ _ z) (cc (z, add-zero count))
+  joined (piece ∷ pieces) zero code position count s t l e w h b = absurd (omega arith)
+  joined (piece ∷ pieces) (suc left) code position count s t l e ((r, er, z), w) h b =
+      let (s₁, ep, rest) = first (onBytes read exec) piece pieces s t h in
+      let size : length code - position ≡ length piece + length (flatten pieces) = simp (length-drop, length-append) at (ap length e) in
+      let some : 0 < r .size = reader .some-bytes piece r er .0 in
+      let here : read (drop position code) ≡ done r = ap read e ∙ read-front read reader piece (flatten pieces) r er z in
+      let there : drop (position + r .size) code ≡ flatten pieces =
+      sym (drop-drop (r .size) position code) ∙ ap (drop (r .size)) e ∙ drop-at piece (flatten pieces) (r .size) (sym z) in
+      let ran : exec (r .instruction) s ≡ done s₁ = sym (ap (λ (o : Result (Reading I)). andThen o (λ q. exec (q .instruction) s)) er) ∙ ep in
+      let more : position ≡ length code → ⊥ = λ q. omega arith in
+      simp (ne-eqb _ _ more)
+      (stepped left code position count s s₁ r here ran
+      ∙ joined pieces left code (position + r .size) (suc count) s₁ t (omega arith) there w rest (omega arith)
+      ∙ ap (λ (n : ℕ). finished (length code) n t) (omega arith))

@@ -1,0 +1,11 @@
+-- The laws: of lists and permutations, of a reordered row, of plans and footprints, of runs and blocks.
+pub mod Never
+pub mod Membership
+pub mod Permutation
+pub mod Reordering
+pub mod Places
+pub mod Swapping
+pub mod Honest
+pub mod Meeting
+pub mod Cutting
+pub mod Rearranging

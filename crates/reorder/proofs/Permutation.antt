@@ -1,0 +1,81 @@
+-- A new order of n things is a permutation of the numbers below n: as many entries, and each of the ascending numbers among them.
+use mathlib.Core.Path.{_≡_, refl, sym, ap, _∙_, subst}
+use mathlib.Core.Logic.{⊎-elim}
+use mathlib.Core.List.{List, [], _∷_, _++_, List·Memᴰ as In, List·Memᴰ·head as here, List·Memᴰ·tail as later, Memᴰ·append-right}
+use Prim.Native.Nat.{ℕ, zero, suc, _+_, _<_, _≤_}
+use native.Mathlib.Omega.{arith}
+use lib.ListN.{length, length-append}
+use Rattle.reorder.specs.Order.{NewOrder}
+use Rattle.reorder.proofs.Membership.{in-seam, in-wider, split, in-at}
+
+-- strictly ascending
+abbrev pub Ascending : List ℕ → Type 0
+Ascending [] = Unit {0}
+Ascending (x ∷ xs) = ((y : ℕ) → In y xs → x < y) × Ascending xs
+
+pub ascending-before : (p : List ℕ) (k : ℕ) (q : List ℕ) → Ascending (p ++ k ∷ q) → (x : ℕ) → In x p → x < k
+ascending-before (y ∷ p) k q a x (here e) = subst (λ (z : ℕ). z < k) (sym e) (a .0 k (Memᴰ·append-right p (here refl)))
+ascending-before (y ∷ p) k q a x (later m) = ascending-before p k q (a .1) x m
+
+pub ascending-without : (p : List ℕ) (k : ℕ) (q : List ℕ) → Ascending (p ++ k ∷ q) → Ascending (p ++ q)
+ascending-without [] k q a = a .1
+ascending-without (y ∷ p) k q a = (λ z m. a .0 z (in-wider z p k q m), ascending-without p k q (a .1))
+
+-- the n numbers m, m + 1, ..
+abbrev pub from : ℕ → ℕ → List ℕ
+from m zero = []
+from m (suc n) = m ∷ from (suc m) n
+
+in-from : (m n x : ℕ) → In x (from m n) → (m ≤ x) × (x < m + n)
+in-from m (suc n) x (here e) = omega arith
+in-from m (suc n) x (later h) = let r = in-from (suc m) n x h in omega arith
+
+pub ascending-from : (m n : ℕ) → Ascending (from m n)
+ascending-from m zero = tt
+ascending-from m (suc n) = (λ y h. in-from (suc m) n y h .0, ascending-from (suc m) n)
+
+length-from : (m n : ℕ) → length (from m n) ≡ n
+length-from m zero = refl
+length-from m (suc n) = ap suc (length-from (suc m) n)
+
+-- the same elements: the first of the new list stands somewhere in the old one, and so on with what is left
+abbrev pub Permutation : List ℕ → List ℕ → Type 0
+Permutation old [] = old ≡ []
+Permutation old (k ∷ new) = (p q : List ℕ) × (old ≡ p ++ k ∷ q) × Permutation (p ++ q) new
+
+permutation-insert : (x : ℕ) (old p q : List ℕ) → Permutation old (p ++ q) → Permutation (x ∷ old) (p ++ x ∷ q)
+permutation-insert x old [] q h = ([], old, refl, h)
+permutation-insert x old (k ∷ p) q (a, b, e, r) =
+    (x ∷ a, b, ap (λ (l : List ℕ). x ∷ l) e, permutation-insert x (a ++ b) p q r)
+
+pub permutation-in : (old new : List ℕ) → Permutation old new → (x : ℕ) → In x old → In x new
+permutation-in old [] h x m = subst (In x) h m
+permutation-in old (k ∷ new) (p, q, e, r) x m =
+    let rest : In x (p ++ q) → In x new = permutation-in (p ++ q) new r x in
+    ⊎-elim (λ same. here same) (λ n. later (rest n)) (in-seam x p k q (subst (In x) e m))
+
+permutation-back : (old new : List ℕ) → Permutation old new → (x : ℕ) → In x new → In x old
+permutation-back old (k ∷ new) (p, q, e, r) x (here same) = subst (In x) (sym e) (Memᴰ·append-right p (here same))
+permutation-back old (k ∷ new) (p, q, e, r) x (later m) =
+    subst (In x) (sym e) (in-wider x p k q (permutation-back (p ++ q) new r x m))
+
+-- as many entries, and each of the old ones among them
+permutation-of : (old new : List ℕ) → Ascending old → length new ≡ length old → ((x : ℕ) → In x old → In x new) → Permutation old new
+permutation-of [] [] a e sub = refl
+permutation-of [] (k ∷ new) a e sub = absurd (omega arith)
+permutation-of (x ∷ old) new a e sub =
+    let (p, q, cut) = split x new (sub x (here refl)) in
+    let size : length (p ++ q) ≡ length old = simp length-append (omega (arith, simp length-append at (ap length cut))) in
+    let among : (y : ℕ) → In y old → In y (p ++ q) =
+    λ y m. ⊎-elim (λ same. absurd (omega (arith, a .0 y m, same))) (λ n. n) (in-seam y p x q (subst (In y) cut (sub y (later m)))) in
+    subst (Permutation (x ∷ old)) (sym cut) (permutation-insert x old p q (permutation-of old (p ++ q) (a .1) size among))
+
+pub order-permutation : (n : ℕ) (order : List ℕ) → NewOrder n order → Permutation (from 0 n) order
+order-permutation n order new =
+    permutation-of (from 0 n) order (ascending-from 0 n) (new .size ∙ sym (length-from 0 n))
+    (λ x m. let (p, l, e) = new .every x (omega (arith, in-from 0 n x m)) in
+    subst (λ (y : ℕ). In y order) e (in-at order p (omega arith)))
+
+pub order-below : (n : ℕ) (order : List ℕ) → NewOrder n order → (k : ℕ) → In k order → k < n
+order-below n order new k m =
+    omega (arith, in-from 0 n k (permutation-back (from 0 n) order (order-permutation n order new) k m))

@@ -1,0 +1,33 @@
+-- A run over code bytes, for any reader of instructions and any machine that executes them.
+use mathlib.Core.Bool.{cond}
+use mathlib.Core.List.{List}
+use Prim.Native.Nat.{ℕ, zero, suc, _+_}
+use lib.Dec.{eqb}
+use lib.ListN.{length, drop}
+use Rattle.reorder.specs.Result.{Result, caseOf}
+
+-- what reading finds: the instruction, and how many bytes it has
+pub record Reading (I : Type 0) : Type 0 where
+  pub instruction : I
+  pub size : ℕ
+
+-- how a run ends: the position reached, the count of instructions completed, and the state; stopped has the refusal's number before them
+pub data Answer (S : Type 0) : Type 0 where
+  finished : ℕ → ℕ → S → Answer S
+  spent : ℕ → ℕ → S → Answer S
+  stopped : ℕ → ℕ → ℕ → S → Answer S
+
+module _ {S I : Type 0} (read : List ℕ → Result (Reading I)) (exec : I → S → Result S) where
+  -- at the end of the code: finished; else with nothing left of the budget: spent; else a step
+  abbrev pub runFrom : ℕ → List ℕ → ℕ → ℕ → S → Answer S
+  runFrom zero code position count s =
+      cond (eqb position (length code)) (finished position count s) (spent position count s)
+  runFrom (suc left) code position count s =
+      cond (eqb position (length code)) (finished position count s)
+      (caseOf (read (drop position code)) (λ n. stopped n position count s)
+      (λ found. caseOf (exec (found .instruction) s) (λ n. stopped n position count s)
+      (λ t. runFrom left code (position + found .size) (suc count) t)))
+
+  -- a run starts at position 0
+  abbrev pub run : ℕ → List ℕ → S → Answer S
+  run budget code s = runFrom budget code 0 0 s

@@ -1,0 +1,1 @@
+// The theory of reordering is definitions (specs/) and laws (proofs/); it has no code.

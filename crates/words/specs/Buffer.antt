@@ -1,0 +1,20 @@
+-- A number of up to 8 bytes in a buffer: what is read at a place, and what a store leaves.
+use mathlib.Core.Bool.{Bool, cond, _&&_}
+use mathlib.Core.List.{List, _++_}
+use Prim.Native.Nat.{ℕ, _+_}
+use lib.Dec.{leb}
+use lib.ListN.{length, take, drop}
+use Rattle.words.specs.Number.{number, bytes}
+
+-- at most 8 bytes, and all of them below `length`
+abbrev pub inside : ℕ → ℕ → ℕ → Bool
+inside length at size = leb size 8 && leb (at + size) length
+
+-- the number of the `size` bytes at a place, or 0
+unfoldable pub loaded : List ℕ → ℕ → ℕ → ℕ
+loaded buffer at size = cond (inside (length buffer) at size) (number (take size (drop at buffer))) 0
+
+-- the buffer with the `size` lowest bytes of a number at a place, or unchanged
+unfoldable pub stored : List ℕ → ℕ → ℕ → ℕ → List ℕ
+stored buffer at size value =
+    cond (inside (length buffer) at size) (take at buffer ++ bytes size value ++ drop (at + size) buffer) buffer

@@ -1,0 +1,13 @@
+-- A number and its bytes, the least significant first.
+use mathlib.Core.List.{List, [], _∷_}
+use Prim.Native.Nat.{ℕ, zero, suc, _+_, _*_, _/_, _%_}
+
+-- the number whose bytes these are
+abbrev pub number : List ℕ → ℕ
+number [] = 0
+number (b ∷ bs) = b + 256 * number bs
+
+-- the k lowest bytes of a number
+abbrev pub bytes : ℕ → ℕ → List ℕ
+bytes zero value = []
+bytes (suc k) value = value % 256 ∷ bytes k (value / 256)
