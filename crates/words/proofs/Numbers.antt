@@ -1,16 +1,41 @@
 -- A number and its bytes: each is got back from the other, digit by digit to the base 256.
-use mathlib.Core.Path.{_≡_, refl, sym, ap}
-use mathlib.Core.List.{List, [], _∷_}
-use Prim.Native.Nat.{ℕ, zero, suc, _+_, _*_, _/_, _%_, _^_, _<_}
-use native.Mathlib.Nat.{pow-suc, one-le-pow, mod-one}
+use mathlib.Core.Path.{_≡_, refl, sym, ap, _∙_, subst}
+use mathlib.Core.List.{List, [], _∷_, _++_}
+use Prim.Native.Nat.{ℕ, zero, suc, _+_, _*_, _/_, _%_, _^_, _≤_, _<_}
+use native.Mathlib.Nat.{pow-suc, one-le-pow, mod-one, mod-eq-of-lt, le-trans, pow-le-pow-right}
 use native.Mathlib.Omega.{arith}
 use lib.Arith.{mod-mul}
-use lib.ListN.{length, getD}
+use lib.ListN.{length, getD, take, drop, length-take}
+use lib.Seq.{getD-drop}
 use Rattle.words.specs.Number.{number, bytes}
 
 -- each is a byte (past the end stands 0)
 abbrev pub AllBytes : List ℕ → Type 0
 AllBytes l = (i : ℕ) → getD l i 0 < 256
+
+pub all-none : AllBytes []
+all-none i = omega arith
+
+pub all-cons : (b : ℕ) (l : List ℕ) → b < 256 → AllBytes l → AllBytes (b ∷ l)
+all-cons b l h all zero = h
+all-cons b l h all (suc i) = all i
+
+pub all-tail : (b : ℕ) (l : List ℕ) → AllBytes (b ∷ l) → AllBytes l
+all-tail b l all i = all (suc i)
+
+pub all-append : (l m : List ℕ) → AllBytes l → AllBytes m → AllBytes (l ++ m)
+all-append [] m p q i = q i
+all-append (b ∷ l) m p q zero = p 0
+all-append (b ∷ l) m p q (suc i) = all-append l m (all-tail b l p) q i
+
+pub all-drop : (n : ℕ) (l : List ℕ) → AllBytes l → AllBytes (drop n l)
+all-drop n l all i = subst (λ (b : ℕ). b < 256) (sym (getD-drop n l i 0)) (all (n + i))
+
+-- the bytes of a number are bytes
+pub all-bytes : (k value : ℕ) → AllBytes (bytes k value)
+all-bytes zero value i = all-none i
+all-bytes (suc k) value zero = omega arith
+all-bytes (suc k) value (suc i) = all-bytes k (value / 256) i
 
 pub length-bytes : (k value : ℕ) → length (bytes k value) ≡ k
 length-bytes zero value = refl
@@ -35,3 +60,25 @@ bytes-number (b ∷ bs) h =
     let low : (b + 256 * number bs) % 256 ≡ b = omega arith in
     let high : (b + 256 * number bs) / 256 ≡ number bs = omega arith in
     rw (low, high) (ap (λ (l : List ℕ). b ∷ l) (bytes-number bs (λ i. h (suc i))))
+
+-- a number that fits its bytes is theirs
+pub number-fits : (k value : ℕ) → value < 256 ^ k → number (bytes k value) ≡ value
+number-fits k value h = number-bytes k value ∙ mod-eq-of-lt h
+
+-- the first k bytes of a list
+
+pub all-take : (k : ℕ) (l : List ℕ) → AllBytes l → AllBytes (take k l)
+all-take zero l all = all-none
+all-take (suc k) [] all = all-none
+all-take (suc k) (b ∷ l) all = all-cons b (take k l) (all 0) (all-take k l (all-tail b l all))
+
+module _ (k : ℕ) (l : List ℕ) (all : AllBytes l) where
+  pub number-taken : number (take k l) < 256 ^ k
+  number-taken =
+      le-trans (number-below (take k l) (all-take k l all)) (pow-le-pow-right (omega arith) (simp length-take (omega arith)))
+
+  pub bytes-taken : k ≤ length l → bytes k (number (take k l)) ≡ take k l
+  bytes-taken h = ap (λ (n : ℕ). bytes n (number (take k l))) (sym size) ∙ bytes-number (take k l) (all-take k l all)
+    where
+      size : length (take k l) ≡ k
+      size = simp length-take (omega arith)

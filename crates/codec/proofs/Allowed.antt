@@ -1,0 +1,37 @@
+-- Any two answers that a public contract allows at one input are equal, and so is what they leave in a lent buffer: each contract is one equation.
+use mathlib.Core.Path.{_≡_, sym, ap, _∙_}
+use contract.Lifetimes.{Lfts}
+use borrow.Fn.Kinds.{Dens, resT, endedOf}
+use denote.Triple.Clauses.{AtExit}
+use denote.Ref.{now}
+use Rattle.codec.specs.Writes.{Written, written}
+use Rattle.codec.proofs.table.Reads as table-reads
+use Rattle.codec.proofs.table.Kinds as table-kinds
+use Rattle.codec.proofs.read_from.Reads as read-from-reads
+use Rattle.codec.proofs.read_from.Kinds as read-from-kinds
+use Rattle.codec.proofs.read.Reads as read-reads
+use Rattle.codec.proofs.read.Kinds as read-kinds
+use Rattle.codec.proofs.write.Reads as write-reads
+use Rattle.codec.proofs.write.Kinds as write-kinds
+
+pub table-one : (κs : Lfts 0) (a : Dens κs table-kinds.ps) (r₁ r₂ : resT table-kinds.r κs .Denot)
+    (s₁ s₂ : AtExit (endedOf 0 table-kinds.ps table-kinds.r) κs)
+    → table-reads.Post κs a r₁ s₁ → table-reads.Post κs a r₂ s₂ → r₁ ≡ r₂
+table-one κs a r₁ r₂ s₁ s₂ p q = p ∙ sym q
+
+pub read-from-one : (κs : Lfts 2) (a : Dens κs read-from-kinds.ps) (r₁ r₂ : resT read-from-kinds.r κs .Denot)
+    (s₁ s₂ : AtExit (endedOf 2 read-from-kinds.ps read-from-kinds.r) κs)
+    → read-from-reads.Post κs a r₁ s₁ → read-from-reads.Post κs a r₂ s₂ → r₁ ≡ r₂
+read-from-one κs a r₁ r₂ s₁ s₂ p q = p ∙ sym q
+
+pub read-one : (κs : Lfts 1) (a : Dens κs read-kinds.ps) (r₁ r₂ : resT read-kinds.r κs .Denot)
+    (s₁ s₂ : AtExit (endedOf 1 read-kinds.ps read-kinds.r) κs)
+    → read-reads.Post κs a r₁ s₁ → read-reads.Post κs a r₂ s₂ → r₁ ≡ r₂
+read-one κs a r₁ r₂ s₁ s₂ p q = p ∙ sym q
+
+pub write-one : (κs : Lfts 1) (a : Dens κs write-kinds.ps) (r₁ r₂ : resT write-kinds.r κs .Denot)
+    (s₁ s₂ : AtExit (endedOf 1 write-kinds.ps write-kinds.r) κs)
+    → write-reads.Post κs a r₁ s₁ → write-reads.Post κs a r₂ s₂ → (r₁ ≡ r₂) × (now (s₁ .1 .0) ≡ now (s₂ .1 .0))
+write-one κs a r₁ r₂ s₁ s₂ p q =
+    let e : written r₁ (now (s₁ .1 .0)) ≡ written r₂ (now (s₂ .1 .0)) = p ∙ sym q in
+    (ap (λ (x : Written). x .answer) e, ap (λ (x : Written). x .buffer) e)

@@ -1,0 +1,170 @@
+-- The writer's tests as facts: all of a list of tests is true exactly where each of them is.
+use Prim.Native.Nat.{ℕ, _^_, _<_}
+use mathlib.Core.Path.{_≡_, refl, sym, ap, _∙_}
+use mathlib.Core.Bool.{Bool, true, false, not, cond, _&&_}
+use mathlib.Core.List.{List, [], _∷_}
+use borrow.Author.Tests.{lt-ltb, ltb-true, eqb-true, eq-eqb, not-true}
+use lib.Dec.{eqb, ltb}
+use Rattle.codec.specs.Forms.{Form, isAbsent, hasOperand, allows, immediateSize, accepts}
+use Rattle.codec.specs.Opcodes.{entryOf, escape}
+use Rattle.codec.specs.Operands.{hasSib, displacementSize, noOperand}
+use Rattle.codec.specs.Fits.{all, fits, sibFits, operandFits, operandIsZero, partsFit, hasBytes}
+use Rattle.codec.specs.declared.Operand.{Operand}
+use Rattle.codec.specs.declared.Instruction.{Instruction}
+use Rattle.codec.proofs.Tests.{never, and-both}
+
+abbrev All : List Bool → Type 0
+All [] = Unit {0}
+All (t ∷ ts) = (t ≡ true) × All ts
+
+all-true : (ts : List Bool) → all ts ≡ true → All ts
+all-true [] e = tt
+all-true (true ∷ ts) e = (refl, all-true ts e)
+all-true (false ∷ ts) e = never (cc)
+
+true-all : (ts : List Bool) → All ts → all ts ≡ true
+true-all [] h = refl
+true-all (true ∷ ts) h = true-all ts (h .1)
+true-all (false ∷ ts) h = h .0
+
+-- the fields of an SIB byte, and of none
+pub sib-there : (scale index base : ℕ) → sibFits true scale index base ≡ true → (scale < 4) × ((index < 8) × (base < 8))
+unfolding sibFits
+sib-there scale index base e =
+    let h = all-true (ltb scale 4 ∷ ltb index 8 ∷ ltb base 8 ∷ []) e in
+    (ltb-true _ _ (h .0), (ltb-true _ _ (h .1 .0), ltb-true _ _ (h .1 .1 .0)))
+
+pub there-sib : (scale index base : ℕ) → scale < 4 → index < 8 → base < 8 → sibFits true scale index base ≡ true
+unfolding sibFits
+there-sib scale index base p q r =
+    true-all (ltb scale 4 ∷ ltb index 8 ∷ ltb base 8 ∷ []) (lt-ltb _ _ p, (lt-ltb _ _ q, (lt-ltb _ _ r, tt)))
+
+pub sib-absent : (scale index base : ℕ) → sibFits false scale index base ≡ true → (scale ≡ 0) × ((index ≡ 0) × (base ≡ 0))
+unfolding sibFits
+sib-absent scale index base e =
+    let h = all-true (eqb scale 0 ∷ eqb index 0 ∷ eqb base 0 ∷ []) e in
+    (eqb-true scale 0 (h .0), (eqb-true index 0 (h .1 .0), eqb-true base 0 (h .1 .1 .0)))
+
+pub absent-sib : sibFits false 0 0 0 ≡ true
+unfolding sibFits
+absent-sib = refl
+
+-- an operand whose fields fit their places
+pub record Fit (w : Operand) : Type 0 where
+  pub mode : w .mode < 4
+  pub reg : w .reg < 8
+  pub rm : w .rm < 8
+  pub sib : sibFits (hasSib (w .mode) (w .rm)) (w .scale) (w .index) (w .base) ≡ true
+  pub displacement : w .displacement < 256 ^ displacementSize (w .mode) (w .rm) (w .base)
+
+abbrev tests : Operand → List Bool
+tests w =
+    ltb (w .mode) 4
+    ∷ ltb (w .reg) 8
+    ∷ ltb (w .rm) 8
+    ∷ sibFits (hasSib (w .mode) (w .rm)) (w .scale) (w .index) (w .base)
+    ∷ fits (displacementSize (w .mode) (w .rm) (w .base)) (w .displacement)
+    ∷ []
+
+pub fit : (w : Operand) → operandFits w ≡ true → Fit w
+unfolding operandFits
+fit w e =
+    let h = all-true (tests w) e in
+    record {
+      mode = ltb-true _ _ (h .0);
+      reg = ltb-true _ _ (h .1 .0);
+      rm = ltb-true _ _ (h .1 .1 .0);
+      sib = h .1 .1 .1 .0;
+      displacement = ltb-true _ _ (h .1 .1 .1 .1 .0);
+    }
+
+pub fit-true : (w : Operand) → Fit w → operandFits w ≡ true
+unfolding operandFits
+fit-true w f =
+    true-all (tests w)
+    (lt-ltb _ _ (f .mode), (lt-ltb _ _ (f .reg), (lt-ltb _ _ (f .rm), (f .sib, (lt-ltb _ _ (f .displacement), tt)))))
+
+-- the bounds of the fields of both bytes
+pub modrm-bounds : (w : Operand) → operandFits w ≡ true → (w .mode < 4) × ((w .reg < 8) × (w .rm < 8))
+modrm-bounds w e = let f = fit w e in (f .mode, (f .reg, f .rm))
+
+pub sib-bounds : (w : Operand) (t : Bool) → operandFits w ≡ true → t ≡ hasSib (w .mode) (w .rm) → t ≡ true
+    → (w .scale < 4) × ((w .index < 8) × (w .base < 8))
+sib-bounds w t e g h =
+    sib-there (w .scale) (w .index) (w .base) (simp (sym g ∙ h) at (fit w e .sib))
+
+-- an operand of zeros
+pub zero-is : (w : Operand) → operandIsZero w ≡ true → w ≡ noOperand
+unfolding operandIsZero
+zero-is w e =
+    let h = all-true (eqb (w .mode) 0 ∷ eqb (w .reg) 0 ∷ eqb (w .rm) 0 ∷ eqb (w .scale) 0 ∷ eqb (w .index) 0 ∷ eqb (w .base) 0 ∷ eqb (w .displacement) 0 ∷ []) e in
+    λ i.
+    record {
+      mode = eqb-true (w .mode) 0 (h .0) i;
+      reg = eqb-true (w .reg) 0 (h .1 .0) i;
+      rm = eqb-true (w .rm) 0 (h .1 .1 .0) i;
+      scale = eqb-true (w .scale) 0 (h .1 .1 .1 .0) i;
+      index = eqb-true (w .index) 0 (h .1 .1 .1 .1 .0) i;
+      base = eqb-true (w .base) 0 (h .1 .1 .1 .1 .1 .0) i;
+      displacement = eqb-true (w .displacement) 0 (h .1 .1 .1 .1 .1 .1 .0) i;
+    }
+
+-- what follows the opcode
+pub record Parts (form : Form) (w : Operand) (v : ℕ) : Type 0 where
+  pub listed : isAbsent form ≡ false
+  pub operand : cond (hasOperand form) (allows form (w .mode) (w .reg) (w .rm) && operandFits w) (operandIsZero w) ≡ true
+  pub immediate : v < 256 ^ immediateSize form
+
+abbrev partTests : Form → Operand → ℕ → List Bool
+partTests form w v =
+    not (isAbsent form)
+    ∷ cond (hasOperand form) (allows form (w .mode) (w .reg) (w .rm) && operandFits w) (operandIsZero w)
+    ∷ accepts form v
+    ∷ fits (immediateSize form) v
+    ∷ []
+
+pub parts : (form : Form) (w : Operand) (v : ℕ) → partsFit form w v ≡ true → Parts form w v
+unfolding partsFit
+parts form w v e =
+    let h = all-true (partTests form w v) e in
+    record { listed = not-true (isAbsent form) (h .0); operand = h .1 .0; immediate = ltb-true _ _ (h .1 .1 .1 .0) }
+
+parts-true : (form : Form) (w : Operand) (v : ℕ) → Parts form w v → partsFit form w v ≡ true
+unfolding partsFit
+parts-true form w v p =
+    true-all (partTests form w v) (ap not (p .listed), (p .operand, (refl, (lt-ltb _ _ (p .immediate), tt))))
+
+-- a record that has bytes
+pub record Bytewise (i : Instruction) : Type 0 where
+  pub first : i .first ≡ escape
+  pub second : i .second < 256
+  pub parts : Parts (entryOf (i .second) .form) (i .operand) (i .immediate)
+
+abbrev recordTests : Instruction → List Bool
+recordTests i =
+    eqb (i .first) escape ∷ fits 1 (i .second) ∷ partsFit (entryOf (i .second) .form) (i .operand) (i .immediate) ∷ []
+
+pub bytewise : (i : Instruction) → hasBytes i ≡ true → Bytewise i
+unfolding hasBytes
+bytewise i e =
+    let h = all-true (recordTests i) e in
+    record {
+      first = eqb-true (i .first) escape (h .0);
+      second = ltb-true (i .second) 256 (h .1 .0);
+      parts = parts (entryOf (i .second) .form) (i .operand) (i .immediate) (h .1 .1 .0);
+    }
+
+pub bytewise-true : (i : Instruction) → Bytewise i → hasBytes i ≡ true
+unfolding hasBytes
+bytewise-true i b =
+    true-all (recordTests i)
+    (eq-eqb (i .first) escape (b .first), (lt-ltb (i .second) 256 (b .second), (parts-true (entryOf (i .second) .form) (i .operand) (i .immediate) (b .parts), tt)))
+
+pub bytes-operand : (i : Instruction) (form : Form) → form ≡ entryOf (i .second) .form → hasOperand form ≡ true
+    → hasBytes i ≡ true
+    → operandFits (i .operand) ≡ true
+bytes-operand i form g h e =
+    let f = entryOf (i .second) .form in
+    let w = i .operand in
+    let p : hasOperand f ≡ true = ap hasOperand (sym g) ∙ h in
+    and-both (allows f (w .mode) (w .reg) (w .rm)) (operandFits w) (simp p at (bytewise i e .parts .operand)) .1

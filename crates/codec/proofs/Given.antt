@@ -1,0 +1,85 @@
+-- What every reading gives, whatever the table and the bytes: the second byte, registers below 8, the refusals 3 to 6. Part by part.
+use Prim.Native.Nat.{ℕ, _≤_, _<_}
+use mathlib.Core.Path.{_≡_, refl}
+use mathlib.Core.Bool.{Bool, true, false, cond}
+use mathlib.Core.List.{List}
+use native.Mathlib.Omega.{arith}
+use lib.Dec.{eqb}
+use Rattle.codec.specs.Refusals.{prefixed, notListed}
+use Rattle.codec.specs.Forms.{Form, isAmong, isAbsent, hasOperand, allows}
+use Rattle.codec.specs.Opcodes.{Entry, escape, prefixes}
+use Rattle.codec.specs.Operands.{upper, middle, lower, hasSib, operandOf, noOperand}
+use Rattle.codec.specs.Reader.{Reader, reads}
+use Rattle.codec.specs.Reads.{immediateReader, displacementReader, sibReader, modrmReader, formReader, secondReader, instructionReader, refusalOf}
+use Rattle.codec.specs.declared.Operand.{Operand}
+use Rattle.codec.specs.declared.Instruction.{Instruction}
+use Rattle.codec.proofs.Joined.{middle-lt, lower-lt}
+use Rattle.codec.proofs.Readers.{Every, Holds, every, every-cond, every-map}
+
+pub record Registers (w : Operand) : Type 0 where
+  pub reg : w .reg < 8
+  pub rm : w .rm < 8
+  pub index : w .index < 8
+  pub base : w .base < 8
+
+pub no-registers : Registers noOperand
+no-registers = record { reg = omega arith; rm = omega arith; index = omega arith; base = omega arith }
+
+registers : (modrm sib displacement : ℕ) → Registers (operandOf modrm sib displacement)
+registers modrm sib displacement =
+    record { reg = middle-lt modrm; rm = lower-lt modrm; index = middle-lt sib; base = lower-lt sib }
+
+pub record Given (second : ℕ) (i : Instruction) : Type 0 where
+  pub kept : i .second ≡ second
+  pub registers : Registers (i .operand)
+
+abbrev pub Refusal : ℕ → Type 0
+Refusal n = (3 ≤ n) × (n ≤ 6)
+
+abbrev pub Gives : ℕ → Reader → Type 0
+Gives second = Every (Given second) Refusal
+
+module _ (form : Form) (first second : ℕ) where
+  pub immediate-gives : (w : Operand) → Registers w → Gives second (immediateReader form first second w)
+  unfolding immediateReader
+  immediate-gives w h = (omega arith, λ v. record { kept = refl; registers = h })
+
+  displacement-gives : (modrm sib : ℕ) → Gives second (displacementReader form first second modrm sib)
+  unfolding displacementReader
+  displacement-gives modrm sib = (omega arith, λ d. immediate-gives (operandOf modrm sib d) (registers modrm sib d))
+
+  pub modrm-gives : Gives second (modrmReader form first second)
+  unfolding modrmReader sibReader
+  modrm-gives = (
+    omega arith,
+    λ m. every-cond (Given second) Refusal (allows form (upper m) (middle m) (lower m)) _ _
+        (every-cond (Given second) Refusal (hasSib (upper m) (lower m)) _ _ (omega arith, displacement-gives m) (displacement-gives m 0)) (omega arith),
+  )
+
+  form-gives : Gives second (formReader form first second)
+  unfolding formReader
+  form-gives =
+      every-cond (Given second) Refusal (isAbsent form) _ _ (omega arith)
+      (every-cond (Given second) Refusal (hasOperand form) _ _ modrm-gives (immediate-gives noOperand no-registers))
+
+first-refuses : (first : ℕ) → Refusal (refusalOf first)
+unfolding refusalOf
+first-refuses first = by (isAmong first prefixes)
+  where
+    by : (t : Bool) → Refusal (cond t prefixed notListed)
+    by true = omega arith
+    by false = omega arith
+
+abbrev pub Named : Instruction → Type 0
+Named i = Registers (i .operand)
+
+-- An instruction that is read names registers below 8, and one that is not is refused by 3 to 6.
+pub reads-gives : (entry : ℕ → Entry) (at : ℕ) (s : List ℕ) → Holds Named Refusal (reads (instructionReader entry) at s)
+unfolding instructionReader secondReader
+reads-gives entry at s =
+    every Named Refusal (instructionReader entry) (
+      omega arith,
+      λ first. every-cond Named Refusal (eqb first escape) _ _
+          (omega arith, λ second. every-map (Given second) Named Refusal (λ i g. g .registers) (formReader (entry second .form) first second) (form-gives (entry second .form) first second))
+          (first-refuses first),
+    ) at s

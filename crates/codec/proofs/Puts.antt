@@ -1,0 +1,161 @@
+-- What the writer's stores leave, part by part: rules for the functions that put bytes.
+use Prim.Native.Nat.{ℕ, suc, _+_, _/_, _%_, _≤_, _<_}
+use mathlib.Core.Path.{_≡_, sym, ap, ap₂, _∙_}
+use mathlib.Core.Bool.{Bool, true, false}
+use mathlib.Core.List.{List, [], _∷_, _++_}
+use native.Mathlib.Numerals.{towards-suc}
+use native.Mathlib.Omega.{arith}
+use native.Mathlib.Nat.{add-zero, add-suc, suc-add}
+use borrow.Author.Tests.{le-leb, lt-leb}
+use lib.ListN.{length, set, drop, length-append}
+use lib.Seq.{sets, sets-eq}
+use Rattle.words.specs.Number.{bytes}
+use Rattle.codec.specs.Refusals.{noBytes, bufferEnds}
+use Rattle.codec.specs.Forms.{Form, immediateSize}
+use Rattle.codec.specs.Opcodes.{entryOf}
+use Rattle.codec.specs.Packed.{formOf}
+use Rattle.codec.specs.Operands.{joined, hasSib, displacementSize, Sized}
+use Rattle.codec.specs.Fits.{hasBytes}
+use Rattle.codec.specs.Writes.{sibBytes, displacementBytes, operandBytes, partsBytes, bytesOf, written, writeTo}
+use Rattle.codec.specs.declared.Operand.{Operand}
+use Rattle.codec.specs.declared.Instruction.{Instruction}
+use Rattle.codec.specs.declared.Writing.the-variants.{Wrote, Refused}
+use Rattle.words.proofs.Numbers.{length-bytes}
+use Rattle.codec.proofs.FormNumbers.{not-emms}
+
+-- a run of stores, and then another
+sets-append : (xs ys l : List ℕ) (i : ℕ) → sets l i (xs ++ ys) ≡ sets (sets l i xs) (i + length xs) ys
+sets-append [] ys l i = ap (λ (k : ℕ). sets l k ys) (sym (add-zero i))
+sets-append (x ∷ xs) ys l i =
+    sets-append xs ys (set l i x) (suc i)
+    ∙ ap (λ (k : ℕ). sets (sets (set l i x) (suc i) xs) k ys) (suc-add i (length xs) ∙ sym (add-suc i (length xs)))
+
+-- stores at the start of a buffer that has room for them
+sets-start : (l vs : List ℕ) → length vs ≤ length l → sets l 0 vs ≡ vs ++ drop (length vs) l
+sets-start l vs h =
+    let p : 0 + length vs ≡ length vs = omega arith in
+    simp p at (sets-eq vs l 0 (simp p h))
+
+-- a number of one byte and of four
+pub number-put-1 : (l : List ℕ) (at k v : ℕ) → k ≡ 1 → set l at (v % 256) ≡ sets l at (bytes k v)
+number-put-1 l at k v e = simp e
+
+pub number-put-4 : (l : List ℕ) (at k v : ℕ) → Sized k → (k ≡ 0 → ⊥) → (k ≡ 1 → ⊥)
+    → set (set (set (set l at (v % 256)) (at + 1) (v / 256 % 256)) (at + 2) (v / 256 / 256 % 256)) (at + 3) (v / 256 / 256 / 256 % 256)
+    ≡ sets l at (bytes k v)
+number-put-4 l at k v z n m = simp (z n m, towards-suc)
+
+-- the SIB byte
+module _ (w : Operand) (t : Bool) (g : t ≡ hasSib (w .mode) (w .rm)) where
+  pub sib-length-1 : t ≡ true → length (sibBytes w) ≡ 1
+  unfolding sibBytes
+  sib-length-1 e = simp (← g, e)
+
+  sib-length-0 : t ≡ false → length (sibBytes w) ≡ 0
+  unfolding sibBytes
+  sib-length-0 e = simp (← g, e)
+
+  module _ (at : ℕ) where
+    pub sib-next : t ≡ true → at + 1 ≡ at + length (sibBytes w)
+    sib-next e = omega (arith, sib-length-1 e)
+
+    pub sib-put : (l : List ℕ) (b : ℕ) → t ≡ true → b ≡ joined (w .scale) (w .index) (w .base)
+        → set l at b ≡ sets l at (sibBytes w)
+    unfolding sibBytes
+    sib-put l b e h = simp (← g, e) (ap (set l at) h)
+
+    pub sib-same : t ≡ false → at ≡ at + length (sibBytes w)
+    sib-same e = omega (arith, sib-length-0 e)
+
+    pub sib-kept : (l : List ℕ) → t ≡ false → l ≡ sets l at (sibBytes w)
+    unfolding sibBytes
+    sib-kept l e = simp (← g, e)
+
+-- the operand
+pub operand-length : (w : Operand)
+    → length (operandBytes w) ≡ 1 + length (sibBytes w) + displacementSize (w .mode) (w .rm) (w .base)
+unfolding operandBytes displacementBytes
+operand-length w =
+    let k = displacementSize (w .mode) (w .rm) (w .base) in
+    omega (arith, length-append (sibBytes w) (bytes k (w .displacement)), length-bytes k (w .displacement))
+
+module _ (at next k : ℕ) (w : Operand) (e : next ≡ at + 1 + length (sibBytes w))
+    (d : k ≡ displacementSize (w .mode) (w .rm) (w .base)) where
+  pub operand-next : next + k ≡ at + length (operandBytes w)
+  operand-next = omega (arith, operand-length w)
+
+  pub operand-put : (l l1 l2 : List ℕ) (b : ℕ) → b ≡ joined (w .mode) (w .reg) (w .rm)
+      → l1 ≡ sets (set l at b) (at + 1) (sibBytes w)
+      → l2 ≡ sets l1 next (bytes k (w .displacement)) → l2 ≡ sets l at (operandBytes w)
+  unfolding operandBytes displacementBytes
+  operand-put l l1 l2 b p q r =
+      let s : at + 1 ≡ suc at = omega arith in
+      simp (r, q, e, d, p, s, sets-append)
+
+-- the record, by the number n of its form
+module _ (i : Instruction) (n : ℕ) (g : formOf n ≡ entryOf (i .second) .form) where
+  bytes-are : bytesOf i ≡ i .first ∷ i .second ∷ partsBytes (formOf n) (i .operand) (i .immediate)
+  unfolding bytesOf
+  bytes-are = ap (λ (f : Form). i .first ∷ i .second ∷ partsBytes f (i .operand) (i .immediate)) (sym g)
+
+  bare-bytes : n ≡ 1 → bytesOf i ≡ i .first ∷ i .second ∷ []
+  unfolding partsBytes
+  bare-bytes e = bytes-are ∙ ap (λ (k : ℕ). i .first ∷ i .second ∷ partsBytes (formOf k) (i .operand) (i .immediate)) e
+
+  pub bare-size : n ≡ 1 → 2 ≡ length (bytesOf i)
+  bare-size e = ap length (sym (bare-bytes e))
+
+  pub bare-put : (l : List ℕ) → n ≡ 1 → set (set l 0 (i .first)) 1 (i .second) ≡ sets l 0 (bytesOf i)
+  bare-put l e = ap (sets l 0) (sym (bare-bytes e))
+
+  module _ (m : n ≡ 1 → ⊥) where
+    whole-bytes : bytesOf i ≡ i .first ∷ i .second ∷ (operandBytes (i .operand) ++ bytes (immediateSize (formOf n)) (i .immediate))
+    unfolding partsBytes
+    whole-bytes = bytes-are ∙ simp (not-emms n m)
+
+    pub whole-length : length (bytesOf i) ≡ 2 + length (operandBytes (i .operand)) + immediateSize (formOf n)
+    whole-length =
+        let k = immediateSize (formOf n) in
+        ap length whole-bytes
+        ∙ (let h : suc (suc (length (operandBytes (i .operand) ++ bytes k (i .immediate)))) ≡ 2 + length (operandBytes (i .operand)) + k =
+        omega (arith, length-append (operandBytes (i .operand)) (bytes k (i .immediate)), length-bytes k (i .immediate)) in h)
+
+    pub whole-put : (next k : ℕ) (l l1 l2 : List ℕ) → next ≡ 2 + length (operandBytes (i .operand)) → k ≡ immediateSize (formOf n)
+        → l1 ≡ sets (set (set l 0 (i .first)) 1 (i .second)) 2 (operandBytes (i .operand))
+        → l2 ≡ sets l1 next (bytes k (i .immediate))
+        → l2 ≡ sets l 0 (bytesOf i)
+    whole-put next k l l1 l2 p d q r = r ∙ simp (q, p, d, sets-append, whole-bytes)
+
+    -- its length by the parts
+    module _ (k j : ℕ) (t : Bool) (a : k ≡ displacementSize (i .operand .mode) (i .operand .rm) (i .operand .base))
+        (b : j ≡ immediateSize (formOf n)) (s : t ≡ hasSib (i .operand .mode) (i .operand .rm)) where
+      pub sib-size : t ≡ true → 4 + (k + j) ≡ length (bytesOf i)
+      sib-size e = omega (arith, whole-length, operand-length (i .operand), sib-length-1 (i .operand) t s e)
+
+      pub plain-size : t ≡ false → 3 + (k + j) ≡ length (bytesOf i)
+      plain-size e = omega (arith, whole-length, operand-length (i .operand), sib-length-0 (i .operand) t s e)
+
+pub two-le : (i : Instruction) → 2 ≤ length (bytesOf i)
+unfolding bytesOf
+two-le i = omega arith
+
+-- the writer
+module _ (i : Instruction) (l : List ℕ) (t : Bool) (g : t ≡ hasBytes i) where
+  pub write-none : t ≡ false → written (Refused noBytes) l ≡ writeTo i l
+  unfolding writeTo
+  write-none e = simp (← g, e)
+
+  module _ (n : ℕ) (e : t ≡ true) (h : n ≡ length (bytesOf i)) where
+    pub write-short : length l < n → written (Refused bufferEnds) l ≡ writeTo i l
+    unfolding writeTo
+    write-short q =
+        let p : length l < length (bytesOf i) = omega arith in
+        simp (← g, e, lt-leb _ _ p)
+
+    pub write-good : (l1 : List ℕ) → n ≤ length l → l1 ≡ sets l 0 (bytesOf i) → written (Wrote n) l1 ≡ writeTo i l
+    unfolding writeTo
+    write-good l1 q y =
+        let p : length (bytesOf i) ≤ length l = omega arith in
+        simp (← g, e, le-leb _ _ p) (ap₂ (λ (k : ℕ) (x : List ℕ). written (Wrote k) x) h (y ∙ sets-start l (bytesOf i) p))
+
+pub ruleset puts = (number-put-1, number-put-4, sib-next, sib-put, sib-same, sib-kept, operand-next, operand-put, bare-size, bare-put, whole-put, sib-size, plain-size, write-none, write-short, write-good)

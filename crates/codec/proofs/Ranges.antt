@@ -1,0 +1,60 @@
+-- A record that has bytes is in range: its fields fit their places, and a place has its bits.
+use Prim.Native.Nat.{ℕ, _^_, _<_}
+use mathlib.Core.Path.{_≡_, refl, sym, subst}
+use mathlib.Core.Bool.{Bool, true, false}
+use native.Mathlib.Omega.{arith}
+use Rattle.codec.specs.Forms.{Form, hasOperand, allows, immediateSize}
+use Rattle.codec.specs.Opcodes.{entryOf, escape}
+use Rattle.codec.specs.Operands.{hasSib, displacementSize}
+use Rattle.codec.specs.Fits.{operandFits, hasBytes}
+use Rattle.codec.specs.declared.Operand.{Operand}
+use Rattle.codec.specs.declared.Instruction.{Instruction}
+use Rattle.codec.proofs.Tests.{and-both}
+use Rattle.codec.proofs.Given.{Registers, no-registers}
+use Rattle.codec.proofs.Facts.{Fit, fit, sib-there, sib-absent, zero-is, Parts, bytewise}
+
+pub record OperandInRange (w : Operand) : Type 0 where
+  pub mode : w .mode < 4
+  pub scale : w .scale < 4
+  pub registers : Registers w
+  pub displacement : w .displacement < 256 ^ displacementSize (w .mode) (w .rm) (w .base)
+
+pub record InRange (i : Instruction) : Type 0 where
+  pub first : i .first ≡ escape
+  pub second : i .second < 256
+  pub operand : OperandInRange (i .operand)
+  pub immediate : i .immediate < 256 ^ immediateSize (entryOf (i .second) .form)
+
+fit-in-range : (w : Operand) → Fit w → OperandInRange w
+fit-in-range w f = by (hasSib (w .mode) (w .rm)) refl
+  where
+    made : w .scale < 4 → w .index < 8 → w .base < 8 → OperandInRange w
+    made p q r =
+        record { mode = f .mode; scale = p; registers = record { reg = f .reg; rm = f .rm; index = q; base = r }; displacement = f .displacement }
+
+    by : (t : Bool) → hasSib (w .mode) (w .rm) ≡ t → OperandInRange w
+    by true e =
+        let b = sib-there (w .scale) (w .index) (w .base) (simp e at (f .sib)) in
+        made (b .0) (b .1 .0) (b .1 .1)
+    by false e =
+        let z = sib-absent (w .scale) (w .index) (w .base) (simp e at (f .sib)) in
+        made (omega (arith, z .0)) (omega (arith, z .1 .0)) (omega (arith, z .1 .1))
+
+parts-in-range : (t : Bool) (form : Form) (w : Operand) (v : ℕ) → hasOperand form ≡ t → Parts form w v → OperandInRange w
+unfolding displacementSize
+parts-in-range true form w v e p =
+    fit-in-range w (fit w (and-both (allows form (w .mode) (w .reg) (w .rm)) (operandFits w) (simp e at (p .operand)) .1))
+parts-in-range false form w v e p =
+    subst OperandInRange (sym (zero-is w (simp e at (p .operand))))
+    (record { mode = omega arith; scale = omega arith; registers = no-registers; displacement = omega arith })
+
+pub has-in-range : (i : Instruction) → hasBytes i ≡ true → InRange i
+has-in-range i e =
+    let b = bytewise i e in
+    let form = entryOf (i .second) .form in
+    record {
+      first = b .first;
+      second = b .second;
+      operand = parts-in-range (hasOperand form) form (i .operand) (i .immediate) refl (b .parts);
+      immediate = b .parts .immediate;
+    }

@@ -1,0 +1,178 @@
+-- A record that has bytes is read from them, whatever follows: part by part, each reader finds the bytes of its part.
+use Prim.Native.Nat.{ℕ, suc, _+_, _^_, _<_}
+use mathlib.Core.Path.{_≡_, refl, sym, ap, ap₂, _∙_}
+use mathlib.Core.Bool.{Bool, true, false, cond}
+use mathlib.Core.List.{List, [], _∷_, _++_, append-assoc}
+use native.Mathlib.Omega.{arith}
+use native.Mathlib.Nat.{add-zero}
+use borrow.Author.Tests.{eq-eqb}
+use lib.ListN.{length, length-append}
+use Rattle.words.specs.Number.{bytes}
+use Rattle.codec.specs.Forms.{Form, hasOperand, allows, immediateSize}
+use Rattle.codec.specs.Opcodes.{entryOf, escape}
+use Rattle.codec.specs.Operands.{upper, middle, lower, joined, hasSib, displacementSize, operandOf, noOperand}
+use Rattle.codec.specs.Reader.{Reader, whole, byte, field, reads}
+use Rattle.codec.specs.Reads.{instructionOf, immediateReader, displacementReader, sibReader, modrmReader, formReader, secondReader, instructionReader}
+use Rattle.codec.specs.Fits.{sibFits, operandFits, hasBytes}
+use Rattle.codec.specs.Writes.{sibBytes, displacementBytes, operandBytes, partsBytes, bytesOf}
+use Rattle.codec.specs.declared.Operand.{Operand}
+use Rattle.codec.specs.declared.Instruction.{Instruction}
+use Rattle.codec.specs.declared.Reading.the-variants.{Read}
+use Rattle.codec.proofs.Tests.{and-both}
+use Rattle.words.proofs.Numbers.{AllBytes, all-cons, all-append, all-none, all-bytes, length-bytes, number-fits}
+use Rattle.codec.proofs.Joined.{upper-joined, middle-joined, lower-joined, joined-lt}
+use Rattle.codec.proofs.Readers.{reads-yes, reads-no, field-reads}
+use Rattle.codec.proofs.Facts.{Fit, fit, sib-there, sib-absent, zero-is, Parts, bytewise}
+
+-- after the opcode
+module _ (form : Form) (first second : ℕ) where
+  immediate-back : (w : Operand) (at v : ℕ) (rest : List ℕ) → v < 256 ^ immediateSize form
+      → reads (immediateReader form first second w) at (bytes (immediateSize form) v ++ rest) ≡ Read (instructionOf first second w v) (at + immediateSize form)
+  unfolding immediateReader
+  immediate-back w at v rest h =
+      let k = immediateSize form in
+      field-reads k at (λ d. whole (instructionOf first second w d)) (bytes k v) rest (length-bytes k v)
+      ∙ ap (λ (d : ℕ). Read (instructionOf first second w d) (at + k)) (number-fits k v h)
+
+  -- the displacement, where the bytes before it have the operand's fields
+  displacement-back : (w : Operand) (modrm sib at : ℕ) (rest : List ℕ) → operandOf modrm sib (w .displacement) ≡ w
+      → w .displacement < 256 ^ displacementSize (w .mode) (w .rm) (w .base)
+      → reads (displacementReader form first second modrm sib) at (displacementBytes w ++ rest)
+      ≡ reads (immediateReader form first second w) (at + length (displacementBytes w)) rest
+  unfolding displacementReader displacementBytes
+  displacement-back w modrm sib at rest o h =
+      let k = displacementSize (w .mode) (w .rm) (w .base) in
+      let d = w .displacement in
+      let next : ℕ → Reader = λ x. immediateReader form first second (operandOf modrm sib x) in
+      ap (λ (x : Operand). reads (field (displacementSize (x .mode) (x .rm) (x .base)) next) at (bytes k d ++ rest)) o
+      ∙ field-reads k at next (bytes k d) rest (length-bytes k d)
+      ∙ ap (λ (x : ℕ). reads (next x) (at + k) rest) (number-fits k d h)
+      ∙ ap (λ (x : Operand). reads (immediateReader form first second x) (at + k) rest) o
+      ∙ ap (λ (j : ℕ). reads (immediateReader form first second w) (at + j) rest) (sym (length-bytes k d))
+
+  -- the ModRM byte of an operand that fits
+  module _ (w : Operand) (f : Fit w) where
+    abbrev modrm : ℕ
+    modrm = joined (w .mode) (w .reg) (w .rm)
+
+    abbrev mode-is : upper modrm ≡ w .mode
+    mode-is = upper-joined (w .mode) (w .reg) (w .rm) (f .reg) (f .rm)
+
+    abbrev reg-is : middle modrm ≡ w .reg
+    reg-is = middle-joined (w .mode) (w .reg) (w .rm) (f .reg) (f .rm)
+
+    abbrev rm-is : lower modrm ≡ w .rm
+    rm-is = lower-joined (w .mode) (w .reg) (w .rm) (f .reg) (f .rm)
+
+    operand-is : (sib : ℕ) → upper sib ≡ w .scale → middle sib ≡ w .index → lower sib ≡ w .base
+        → operandOf modrm sib (w .displacement) ≡ w
+    operand-is sib p q r =
+        λ i. record { mode = mode-is i; reg = reg-is i; rm = rm-is i; scale = p i; index = q i; base = r i; displacement = w .displacement }
+
+    -- what is read after it, with an SIB byte and without
+    abbrev next : Bool → Reader
+    next t = cond t (byte (displacementReader form first second modrm)) (displacementReader form first second modrm 0)
+
+    abbrev sib : Bool → List ℕ
+    sib t = cond t (joined (w .scale) (w .index) (w .base) ∷ []) []
+
+    sib-back : (t : Bool) (at : ℕ) (rest : List ℕ) → hasSib (w .mode) (w .rm) ≡ t
+        → reads (next t) at (sib t ++ (displacementBytes w ++ rest))
+        ≡ reads (immediateReader form first second w) (at + length (sib t) + length (displacementBytes w)) rest
+    sib-back true at rest e =
+        let b = sib-there (w .scale) (w .index) (w .base) (simp e at (f .sib)) in
+        displacement-back w modrm (joined (w .scale) (w .index) (w .base)) (at + 1) rest
+        (operand-is (joined (w .scale) (w .index) (w .base))
+        (upper-joined (w .scale) (w .index) (w .base) (b .1 .0) (b .1 .1))
+        (middle-joined (w .scale) (w .index) (w .base) (b .1 .0) (b .1 .1))
+        (lower-joined (w .scale) (w .index) (w .base) (b .1 .0) (b .1 .1)))
+        (f .displacement)
+    sib-back false at rest e =
+        let z = sib-absent (w .scale) (w .index) (w .base) (simp e at (f .sib)) in
+        displacement-back w modrm 0 at rest (operand-is 0 (sym (z .0)) (sym (z .1 .0)) (sym (z .1 .1))) (f .displacement)
+        ∙ ap (λ (k : ℕ). reads (immediateReader form first second w) (k + length (displacementBytes w)) rest) (sym (add-zero at))
+
+    operand-back : (at : ℕ) (rest : List ℕ) → allows form (w .mode) (w .reg) (w .rm) ≡ true
+        → reads (modrmReader form first second) at (operandBytes w ++ rest)
+        ≡ reads (immediateReader form first second w) (at + length (operandBytes w)) rest
+    unfolding modrmReader sibReader operandBytes sibBytes
+    operand-back at rest a =
+        let s = sibBytes w in
+        let d = displacementBytes w in
+        let l : at + 1 + length s + length d ≡ at + suc (length (s ++ d)) = omega (arith, length-append s d) in
+        let ok : allows form (upper modrm) (middle modrm) (lower modrm) ≡ true =
+        ap₂ (λ (x y : ℕ). allows form x y (lower modrm)) mode-is reg-is ∙ ap (allows form (w .mode) (w .reg)) rm-is ∙ a
+        in
+        reads-yes _ _ _ (at + 1) (s ++ d ++ rest) ok
+        ∙ ap₂ (λ (x y : ℕ). reads (next (hasSib x y)) (at + 1) (s ++ d ++ rest)) mode-is rm-is
+        ∙ ap (reads (next (hasSib (w .mode) (w .rm))) (at + 1)) (append-assoc s d rest)
+        ∙ sib-back (hasSib (w .mode) (w .rm)) (at + 1) rest refl
+        ∙ ap (λ (k : ℕ). reads (immediateReader form first second w) k rest) l
+
+  -- what follows the opcode
+  abbrev partBytes : Bool → Operand → ℕ → List ℕ
+  partBytes t w v = cond t (operandBytes w) [] ++ bytes (immediateSize form) v
+
+  parts-back : (t : Bool) (w : Operand) (at v : ℕ) (rest : List ℕ) → hasOperand form ≡ t → Parts form w v
+      → reads (cond t (modrmReader form first second) (immediateReader form first second noOperand)) at (partBytes t w v ++ rest)
+      ≡ Read (instructionOf first second w v) (at + length (partBytes t w v))
+  parts-back true w at v rest e p =
+      let k = immediateSize form in
+      let c = and-both (allows form (w .mode) (w .reg) (w .rm)) (operandFits w) (simp e at (p .operand)) in
+      let l : at + length (operandBytes w) + k ≡ at + length (operandBytes w ++ bytes k v) =
+      omega (arith, length-append (operandBytes w) (bytes k v), length-bytes k v)
+      in
+      ap (reads (modrmReader form first second) at) (append-assoc (operandBytes w) (bytes k v) rest)
+      ∙ operand-back w (fit w (c .1)) at (bytes k v ++ rest) (c .0)
+      ∙ immediate-back w (at + length (operandBytes w)) v rest (p .immediate) ∙ ap (Read (instructionOf first second w v)) l
+  parts-back false w at v rest e p =
+      let k = immediateSize form in
+      let z : w ≡ noOperand = zero-is w (simp e at (p .operand)) in
+      immediate-back noOperand at v rest (p .immediate)
+      ∙ ap₂ (λ (x : Operand) (j : ℕ). Read (instructionOf first second x v) (at + j)) (sym z) (sym (length-bytes k v))
+
+-- What has bytes is read from them, whatever follows.
+pub bytes-read : (i : Instruction) (rest : List ℕ) → hasBytes i ≡ true
+    → reads (instructionReader entryOf) 0 (bytesOf i ++ rest) ≡ Read i (length (bytesOf i))
+unfolding instructionReader secondReader formReader bytesOf partsBytes
+bytes-read i rest e =
+    let b = bytewise i e in
+    let form = entryOf (i .second) .form in
+    let s = partsBytes form (i .operand) (i .immediate) in
+    let l : 0 + 1 + 1 + length s ≡ suc (suc (length s)) = omega arith in
+    reads-yes _ _ _ (0 + 1) (i .second ∷ (s ++ rest)) (eq-eqb (i .first) escape (b .first))
+    ∙ reads-no _ _ _ (0 + 1 + 1) (s ++ rest) (b .parts .listed)
+    ∙ parts-back form (i .first) (i .second) (hasOperand form) (i .operand) (0 + 1 + 1) (i .immediate) rest refl (b .parts)
+    ∙ ap (Read i) l
+
+-- Its bytes are bytes: each field fits its place.
+sib-bytes : (t : Bool) (scale index base : ℕ) → sibFits t scale index base ≡ true
+    → AllBytes (cond t (joined scale index base ∷ []) [])
+sib-bytes true scale index base e =
+    let b = sib-there scale index base e in
+    all-cons (joined scale index base) [] (joined-lt scale index base (b .0) (b .1 .0) (b .1 .1)) all-none
+sib-bytes false scale index base e = all-none
+
+operand-bytes : (w : Operand) → Fit w → AllBytes (operandBytes w)
+unfolding operandBytes sibBytes displacementBytes
+operand-bytes w f =
+    all-cons (joined (w .mode) (w .reg) (w .rm)) (sibBytes w ++ displacementBytes w) (joined-lt (w .mode) (w .reg) (w .rm) (f .mode) (f .reg) (f .rm))
+    (all-append (sibBytes w) (displacementBytes w)
+    (sib-bytes (hasSib (w .mode) (w .rm)) (w .scale) (w .index) (w .base) (f .sib))
+    (all-bytes (displacementSize (w .mode) (w .rm) (w .base)) (w .displacement)))
+
+parts-bytes : (t : Bool) (form : Form) (w : Operand) (v : ℕ) → hasOperand form ≡ t → Parts form w v
+    → AllBytes (cond t (operandBytes w) [] ++ bytes (immediateSize form) v)
+parts-bytes true form w v e p =
+    let c = and-both (allows form (w .mode) (w .reg) (w .rm)) (operandFits w) (simp e at (p .operand)) in
+    all-append (operandBytes w) (bytes (immediateSize form) v) (operand-bytes w (fit w (c .1))) (all-bytes (immediateSize form) v)
+parts-bytes false form w v e p = all-bytes (immediateSize form) v
+
+pub bytes-are-bytes : (i : Instruction) → hasBytes i ≡ true → AllBytes (bytesOf i)
+unfolding bytesOf partsBytes
+bytes-are-bytes i e =
+    let b = bytewise i e in
+    let form = entryOf (i .second) .form in
+    let s = partsBytes form (i .operand) (i .immediate) in
+    all-cons (i .first) (i .second ∷ s) (omega (arith, b .first))
+    (all-cons (i .second) s (b .second) (parts-bytes (hasOperand form) form (i .operand) (i .immediate) refl (b .parts)))

@@ -1,0 +1,272 @@
+-- The reader at a position of a code: what each part gives, from what the code has found there. Rules for the reader's functions.
+use Prim.Native.Nat.{ℕ, _+_, _-_, _*_, _/_, _^_, _≤_, _<_}
+use mathlib.Core.Path.{_≡_, refl, sym, ap, _∙_}
+use mathlib.Core.Bool.{Bool, true, false, cond}
+use mathlib.Core.List.{List}
+use native.Mathlib.Omega.{arith}
+use native.Mathlib.Nat.{add-zero, mul-zero}
+use borrow.Author.Tests.{eq-eqb, ne-eqb}
+use lib.Dec.{eqb}
+use lib.ListN.{length, getD, take, drop}
+use Rattle.words.specs.Number.{number}
+use Rattle.codec.specs.Refusals.{codeEnds, notListed, notAllowed}
+use Rattle.codec.specs.Forms.{Form, isAbsent, hasOperand, allows, immediateSize}
+use Rattle.codec.specs.Opcodes.{escape}
+use Rattle.codec.specs.Packed.{formOf, entryIn}
+use Rattle.codec.specs.Operands.{upper, middle, lower, hasSib, displacementSize, operandOf, noOperand, Sized}
+use Rattle.codec.specs.Reader.{Reader, whole, refuse, byte, field, reads}
+use Rattle.codec.specs.Reads.{instructionOf, immediateReader, displacementReader, sibReader, modrmReader, formReader, secondReader, instructionReader, refusalOf}
+use Rattle.codec.specs.Lent.{refusedAs, found, foundIn, findWith}
+use Rattle.codec.specs.declared.Operand.{Operand}
+use Rattle.codec.specs.declared.Found.{Found}
+use Rattle.codec.specs.declared.Reading.{Reading}
+use Rattle.codec.specs.declared.Reading.the-variants.{Read, Refused}
+use Rattle.codec.proofs.Positions.{drop-here, drop-none}
+use Rattle.codec.proofs.FormNumbers.{with-operand}
+use Rattle.codec.proofs.Given.{Given, Refusal, Gives, no-registers, immediate-gives, modrm-gives}
+use Rattle.codec.proofs.Readers.{Holds, every, reads-yes, reads-no, field-here, field-none}
+
+-- what is read keeps the second byte, so that the table's entry is that of it
+module _ (table : List ℕ) (second : ℕ) where
+  entry-kept : (x : Reading) → Holds (Given second) Refusal x → found (getD table second 0) x ≡ foundIn table x
+  entry-kept (Read i n) h = ap (λ (k : ℕ). found (getD table k 0) (Read i n)) (sym (h .kept))
+  entry-kept (Refused n) h = refl
+
+  keeps : (r : Reader) (at : ℕ) (s : List ℕ) → Gives second r
+      → found (getD table second 0) (reads r at s) ≡ foundIn table (reads r at s)
+  keeps r at s h = entry-kept (reads r at s) (every (Given second) Refusal r h at s)
+
+module _ (code : List ℕ) (at : ℕ) where
+  -- the first byte
+  module _ (table : List ℕ) (x : Found) where
+    pub first-none : x ≡ refusedAs codeEnds → length code ≤ at → x ≡ findWith table code at
+    unfolding findWith instructionReader
+    first-none e q = e ∙ ap (λ (s : List ℕ). foundIn table (reads (instructionReader (entryIn table)) at s)) (sym (drop-none code at q))
+
+    module _ (q : at < length code) where
+      abbrev first : ℕ
+      first = getD code at 0
+
+      first-here : reads (instructionReader (entryIn table)) at (drop at code)
+          ≡ reads (cond (eqb first escape) (secondReader (entryIn table) first) (refuse (refusalOf first))) (at + 1) (drop (at + 1) code)
+      unfolding instructionReader
+      first-here = ap (reads (instructionReader (entryIn table)) at) (drop-here code at q)
+
+      pub first-on : getD code at 0 ≡ escape
+          → x ≡ foundIn table (reads (secondReader (entryIn table) (getD code at 0)) (at + 1) (drop (at + 1) code))
+          → x ≡ findWith table code at
+      unfolding findWith
+      first-on e h =
+          h ∙ ap (foundIn table) (sym (first-here ∙ reads-yes _ _ _ (at + 1) (drop (at + 1) code) (eq-eqb (getD code at 0) escape e)))
+
+      pub first-stop : (n : ℕ) → (getD code at 0 ≡ escape → ⊥) → n ≡ refusalOf (getD code at 0)
+          → x ≡ refusedAs n → x ≡ findWith table code at
+      unfolding findWith
+      first-stop n e g h =
+          h ∙ ap refusedAs g
+          ∙ ap (foundIn table) (sym (first-here ∙ reads-no _ _ _ (at + 1) (drop (at + 1) code) (ne-eqb (getD code at 0) escape e)))
+
+  -- the second byte
+  module _ (table : List ℕ) (first : ℕ) (x : Found) where
+    pub second-none : x ≡ refusedAs codeEnds → length code ≤ at
+        → x ≡ foundIn table (reads (secondReader (entryIn table) first) at (drop at code))
+    unfolding secondReader
+    second-none e q = e ∙ ap (λ (s : List ℕ). foundIn table (reads (secondReader (entryIn table) first) at s)) (sym (drop-none code at q))
+
+    module _ (q : at < length code) (entry : ℕ) (g : entry ≡ getD table (getD code at 0) 0) where
+      abbrev second : ℕ
+      second = getD code at 0
+
+      abbrev form : Form
+      form = formOf (entry / 2 ^ 24)
+
+      second-here : reads (secondReader (entryIn table) first) at (drop at code) ≡ reads (formReader form first second) (at + 1) (drop (at + 1) code)
+      unfolding secondReader
+      second-here =
+          ap (reads (secondReader (entryIn table) first) at) (drop-here code at q)
+          ∙ ap (λ (e : ℕ). reads (formReader (formOf (e / 2 ^ 24)) first second) (at + 1) (drop (at + 1) code)) (sym g)
+
+      pub second-absent : entry / 2 ^ 24 ≡ 0 → x ≡ refusedAs notListed
+          → x ≡ foundIn table (reads (secondReader (entryIn table) first) at (drop at code))
+      unfolding formReader
+      second-absent e h =
+          h ∙ ap (foundIn table) (sym (second-here ∙ reads-yes _ _ _ (at + 1) (drop (at + 1) code) (ap (λ (k : ℕ). isAbsent (formOf k)) e)))
+
+      -- what the form asks for keeps the entry
+      module _ (r : Reader) (k : Gives second r) (h : x ≡ found entry (reads r (at + 1) (drop (at + 1) code))) where
+        second-kept : x ≡ foundIn table (reads r (at + 1) (drop (at + 1) code))
+        second-kept =
+            h ∙ ap (λ (e : ℕ). found e (reads r (at + 1) (drop (at + 1) code))) g ∙ keeps table second r (at + 1) (drop (at + 1) code) k
+
+      pub second-bare : entry / 2 ^ 24 ≡ 1
+          → x ≡ found entry (reads (immediateReader form first second noOperand) (at + 1) (drop (at + 1) code))
+          → x ≡ foundIn table (reads (secondReader (entryIn table) first) at (drop at code))
+      unfolding formReader
+      second-bare e h =
+          let s = drop (at + 1) code in
+          second-kept (immediateReader form first second noOperand) (immediate-gives form first second noOperand no-registers) h
+          ∙ ap (foundIn table)
+          (sym (second-here ∙ reads-no _ _ _ (at + 1) s (ap (λ (k : ℕ). isAbsent (formOf k)) e) ∙ reads-no _ _ _ (at + 1) s (ap (λ (k : ℕ). hasOperand (formOf k)) e)))
+
+      pub second-on : (entry / 2 ^ 24 ≡ 0 → ⊥) → (entry / 2 ^ 24 ≡ 1 → ⊥)
+          → x ≡ found entry (reads (modrmReader form first second) (at + 1) (drop (at + 1) code))
+          → x ≡ foundIn table (reads (secondReader (entryIn table) first) at (drop at code))
+      unfolding formReader
+      second-on n m h =
+          let s = drop (at + 1) code in
+          let o = with-operand (entry / 2 ^ 24) n m in
+          second-kept (modrmReader form first second) (modrm-gives form first second) h
+          ∙ ap (foundIn table) (sym (second-here ∙ reads-no _ _ _ (at + 1) s (o .0) ∙ reads-yes _ _ _ (at + 1) s (o .1)))
+
+  module _ (form : Form) (first second entry : ℕ) (x : Found) where
+    -- the ModRM byte
+    pub modrm-none : x ≡ refusedAs codeEnds → length code ≤ at
+        → x ≡ found entry (reads (modrmReader form first second) at (drop at code))
+    unfolding modrmReader
+    modrm-none e q = e ∙ ap (λ (s : List ℕ). found entry (reads (modrmReader form first second) at s)) (sym (drop-none code at q))
+
+    module _ (t : Bool) (g : t ≡ allows form (upper (getD code at 0)) (middle (getD code at 0)) (lower (getD code at 0)))
+        (q : at < length code) where
+      abbrev modrm : ℕ
+      modrm = getD code at 0
+
+      modrm-here : reads (modrmReader form first second) at (drop at code)
+          ≡ reads (cond t (sibReader form first second modrm) (refuse notAllowed)) (at + 1) (drop (at + 1) code)
+      unfolding modrmReader
+      modrm-here =
+          ap (reads (modrmReader form first second) at) (drop-here code at q)
+          ∙ ap (λ (u : Bool). reads (cond u (sibReader form first second modrm) (refuse notAllowed)) (at + 1) (drop (at + 1) code)) (sym g)
+
+      pub modrm-stop : t ≡ false → x ≡ refusedAs notAllowed
+          → x ≡ found entry (reads (modrmReader form first second) at (drop at code))
+      modrm-stop e h = h ∙ ap (found entry) (sym (modrm-here ∙ reads-no t _ _ (at + 1) (drop (at + 1) code) e))
+
+      pub modrm-on : t ≡ true
+          → x ≡ found entry (reads (sibReader form first second (getD code at 0)) (at + 1) (drop (at + 1) code))
+          → x ≡ found entry (reads (modrmReader form first second) at (drop at code))
+      modrm-on e h = h ∙ ap (found entry) (sym (modrm-here ∙ reads-yes t _ _ (at + 1) (drop (at + 1) code) e))
+
+    -- the SIB byte
+    module _ (modrm : ℕ) where
+      module _ (t : Bool) (g : t ≡ hasSib (upper modrm) (lower modrm)) where
+        abbrev sibNext : Reader
+        sibNext = byte (displacementReader form first second modrm)
+
+        sib-here : reads (sibReader form first second modrm) at (drop at code)
+            ≡ reads (cond t sibNext (displacementReader form first second modrm 0)) at (drop at code)
+        unfolding sibReader
+        sib-here = ap (λ (u : Bool). reads (cond u sibNext (displacementReader form first second modrm 0)) at (drop at code)) (sym g)
+
+        pub sib-none : t ≡ true → length code ≤ at → x ≡ refusedAs codeEnds
+            → x ≡ found entry (reads (sibReader form first second modrm) at (drop at code))
+        sib-none e q h =
+            h ∙ ap (found entry) (sym (sib-here ∙ reads-yes t _ _ at (drop at code) e ∙ ap (reads sibNext at) (drop-none code at q)))
+
+        pub sib-on : t ≡ true → at < length code
+            → x ≡ found entry (reads (displacementReader form first second modrm (getD code at 0)) (at + 1) (drop (at + 1) code))
+            → x ≡ found entry (reads (sibReader form first second modrm) at (drop at code))
+        sib-on e q h =
+            h ∙ ap (found entry) (sym (sib-here ∙ reads-yes t _ _ at (drop at code) e ∙ ap (reads sibNext at) (drop-here code at q)))
+
+        pub sib-not : t ≡ false
+            → x ≡ found entry (reads (displacementReader form first second modrm 0) at (drop at code))
+            → x ≡ found entry (reads (sibReader form first second modrm) at (drop at code))
+        sib-not e h = h ∙ ap (found entry) (sym (sib-here ∙ reads-no t _ _ at (drop at code) e))
+
+      -- the displacement
+      module _ (sib k : ℕ) (e : k ≡ displacementSize (upper modrm) (lower modrm) (lower sib)) where
+        abbrev next : ℕ → Reader
+        next d = immediateReader form first second (operandOf modrm sib d)
+
+        displacement-is : displacementReader form first second modrm sib ≡ field k next
+        unfolding displacementReader
+        displacement-is = ap (λ (j : ℕ). field j next) (sym e)
+
+        pub displacement-none : length code - at < k → x ≡ refusedAs codeEnds
+            → x ≡ found entry (reads (displacementReader form first second modrm sib) at (drop at code))
+        displacement-none q h =
+            h ∙ ap (found entry) (sym (ap (λ (r : Reader). reads r at (drop at code)) displacement-is ∙ field-none code at k next q))
+
+        pub displacement-on : (d : ℕ) (w : Operand) → k ≤ length code - at → d ≡ number (take k (drop at code))
+            → w ≡ operandOf modrm sib d
+            → x ≡ found entry (reads (immediateReader form first second w) (at + k) (drop (at + k) code))
+            → x ≡ found entry (reads (displacementReader form first second modrm sib) at (drop at code))
+        displacement-on d w q y z h =
+            h ∙ ap (λ (v : Operand). found entry (reads (immediateReader form first second v) (at + k) (drop (at + k) code))) (z ∙ ap (operandOf modrm sib) y)
+            ∙ ap (found entry) (sym (ap (λ (r : Reader). reads r at (drop at code)) displacement-is ∙ field-here code at k next q))
+
+      -- a register: there is no displacement
+      pub sib-register : (w : Operand) → 192 ≤ modrm → modrm < 256 → w ≡ operandOf modrm 0 0
+          → x ≡ found entry (reads (immediateReader form first second w) at (drop at code))
+          → x ≡ found entry (reads (sibReader form first second modrm) at (drop at code))
+      unfolding hasSib displacementSize
+      sib-register w p q e h =
+          let m : upper modrm ≡ 3 = omega arith in
+          sib-not false (simp m) refl
+          (displacement-on 0 0 (simp m) 0 w (omega arith) refl e (simp (add-zero at) h))
+
+    -- the immediate
+    module _ (w : Operand) (k : ℕ) (e : k ≡ immediateSize form) where
+      abbrev after : ℕ → Reader
+      after v = whole (instructionOf first second w v)
+
+      immediate-is : immediateReader form first second w ≡ field k after
+      unfolding immediateReader
+      immediate-is = ap (λ (j : ℕ). field j after) (sym e)
+
+      pub immediate-none : length code - at < k → x ≡ refusedAs codeEnds
+          → x ≡ found entry (reads (immediateReader form first second w) at (drop at code))
+      immediate-none q h =
+          h ∙ ap (found entry) (sym (ap (λ (r : Reader). reads r at (drop at code)) immediate-is ∙ field-none code at k after q))
+
+      pub immediate-on : (v : ℕ) → k ≤ length code - at → v ≡ number (take k (drop at code))
+          → x ≡ found entry (Read (instructionOf first second w v) (at + k))
+          → x ≡ found entry (reads (immediateReader form first second w) at (drop at code))
+      immediate-on v q y h =
+          h ∙ ap (λ (d : ℕ). found entry (Read (instructionOf first second w d) (at + k))) y
+          ∙ ap (found entry) (sym (ap (λ (r : Reader). reads r at (drop at code)) immediate-is ∙ field-here code at k after q))
+
+  -- a number of one byte and of four
+  pub number-1 : (k r : ℕ) → k ≡ 1 → r ≡ getD code at 0 + 256 * (0 + 256 * (0 + 256 * 0)) → at + k ≤ length code
+      → r ≡ number (take k (drop at code))
+  number-1 k r e h p =
+      let q : at < length code = omega arith in
+      h ∙ sym (simp (e, drop-here code at q))
+
+  pub number-4 : (k r : ℕ) → Sized k → (k ≡ 0 → ⊥) → (k ≡ 1 → ⊥) → at + k ≤ length code
+      → r ≡ getD code at 0 + 256 * (getD code (at + 1) 0 + 256 * (getD code (at + 2) 0 + 256 * getD code (at + 3) 0))
+      → r ≡ number (take k (drop at code))
+  number-4 k r z n m p h =
+      let q : at + 4 ≤ length code = omega (arith, z n m) in
+      let p0 : at < length code = omega arith in
+      let p1 : at + 1 < length code = omega arith in
+      let p2 : at + 2 < length code = omega arith in
+      let p3 : at + 3 < length code = omega arith in
+      let e2 : at + 1 + 1 ≡ at + 2 = omega arith in
+      let e3 : at + 2 + 1 ≡ at + 3 = omega arith in
+      h
+      ∙ sym
+      (simp (z n m, drop-here code at p0, drop-here code (at + 1) p1, e2, drop-here code (at + 2) p2, e3, drop-here code (at + 3) p3, mul-zero, add-zero))
+
+pub ruleset reading = (
+  first-none,
+  first-on,
+  first-stop,
+  second-none,
+  second-absent,
+  second-bare,
+  second-on,
+  modrm-none,
+  modrm-stop,
+  modrm-on,
+  sib-register,
+  sib-none,
+  sib-on,
+  sib-not,
+  displacement-none,
+  displacement-on,
+  immediate-none,
+  immediate-on,
+  number-1,
+  number-4,
+)

@@ -1,0 +1,11 @@
+-- The definitions of the codec, in the order in which they build on each other.
+pub mod Refusals
+pub mod Forms
+pub mod Opcodes
+pub mod Packed
+pub mod Operands
+pub mod Reader
+pub mod Reads
+pub mod Lent
+pub mod Fits
+pub mod Writes

@@ -1,0 +1,61 @@
+-- The bytes of a record, and what the writer answers and leaves in its buffer.
+use Prim.Native.Nat.{ℕ}
+use mathlib.Core.List.{List, [], _∷_, _++_}
+use mathlib.Core.Bool.{cond}
+use lib.Dec.{leb}
+use lib.ListN.{length, drop}
+use Rattle.words.specs.Number.{bytes}
+use Rattle.codec.specs.Refusals.{noBytes, bufferEnds}
+use Rattle.codec.specs.Forms.{Form, hasOperand, immediateSize}
+use Rattle.codec.specs.Opcodes.{entryOf}
+use Rattle.codec.specs.Operands.{joined, hasSib, displacementSize}
+use Rattle.codec.specs.declared.Operand.{Operand}
+use Rattle.codec.specs.declared.Instruction.{Instruction}
+use Rattle.codec.specs.declared.Writing.{Writing}
+use Rattle.codec.specs.declared.Writing.the-variants.{Wrote, Refused}
+use Rattle.codec.specs.Fits.{hasBytes}
+
+-- the SIB byte, if there is one
+unfoldable pub sibBytes : Operand → List ℕ
+sibBytes operand =
+    cond (hasSib (operand .mode) (operand .rm)) (joined (operand .scale) (operand .index) (operand .base) ∷ []) []
+
+-- the displacement, if there is one
+unfoldable pub displacementBytes : Operand → List ℕ
+displacementBytes operand =
+    bytes (displacementSize (operand .mode) (operand .rm) (operand .base)) (operand .displacement)
+
+-- the ModRM byte and both
+unfoldable pub operandBytes : Operand → List ℕ
+operandBytes operand =
+    joined (operand .mode) (operand .reg) (operand .rm) ∷ (sibBytes operand ++ displacementBytes operand)
+
+-- the operand and the immediate, as the form has them
+unfoldable pub partsBytes : Form → Operand → ℕ → List ℕ
+partsBytes form operand immediate =
+    cond (hasOperand form) (operandBytes operand) [] ++ bytes (immediateSize form) immediate
+
+-- the whole instruction
+unfoldable pub bytesOf : Instruction → List ℕ
+bytesOf instruction =
+    instruction .first
+    ∷ instruction .second
+    ∷ partsBytes (entryOf (instruction .second) .form) (instruction .operand) (instruction .immediate)
+
+-- what the writer answers, and what is then in the buffer
+pub record Written : Type 0 where
+  pub answer : Writing
+  pub buffer : List ℕ
+
+abbrev pub written : Writing → List ℕ → Written
+written answer buffer = record { answer = answer; buffer = buffer }
+
+-- writing a record at the start of a buffer
+unfoldable pub writeTo : Instruction → List ℕ → Written
+writeTo instruction buffer =
+    let size = length (bytesOf instruction) in
+    cond (hasBytes instruction)
+    (cond (leb size (length buffer))
+    (written (Wrote size) (bytesOf instruction ++ drop size buffer))
+    (written (Refused bufferEnds) buffer))
+    (written (Refused noBytes) buffer)

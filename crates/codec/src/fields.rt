@@ -1,0 +1,123 @@
+// Which parts an instruction has: the fields of its ModRM and SIB bytes, the sizes of its displacement and its immediate.
+ghost use mathlib.Core.Path.{_≡_};
+ghost use Rattle.codec.specs.Forms.{allows, immediateSize};
+ghost use Rattle.codec.specs.Packed.{formOf};
+ghost use Rattle.codec.specs.Operands.{hasSib, displacementSize};
+
+// The places of the upper and the middle field of a ModRM or SIB byte, and how many values the lower two have.
+pub(crate) const UPPER: u8 = 64;
+
+pub(crate) const MIDDLE: u8 = 8;
+
+pub(crate) const VALUES: u8 = 8;
+
+// How many values a byte has.
+pub(crate) const BYTE: u32 = 256;
+
+// The sizes of a displacement or an immediate.
+pub(crate) const NO_BYTE: usize = 0;
+
+pub(crate) const ONE_BYTE: usize = 1;
+
+const FOUR_BYTES: usize = 4;
+
+// The forms, by the numbers of the table; every greater number has an operand and no immediate.
+pub(crate) const ABSENT: u32 = 0;
+
+pub(crate) const EMMS: u32 = 1;
+
+const SHIFT_WD: u32 = 2;
+
+const SHIFT_Q: u32 = 3;
+
+// The values of mod.
+const NO_DISPLACEMENT: u8 = 0;
+
+const BYTE_DISPLACEMENT: u8 = 1;
+
+const LONG_DISPLACEMENT: u8 = 2;
+
+const REGISTER: u8 = 3;
+
+// The value of rm that asks for an SIB byte, and that of rm or base that names no base at mod 00.
+const SIB: u8 = 4;
+
+const NO_BASE: u8 = 5;
+
+// The digits of the shifts by an immediate.
+const RIGHT: u8 = 2;
+
+const RIGHT_SIGNED: u8 = 4;
+
+const LEFT: u8 = 6;
+
+// Whether a form may have a ModRM byte of these fields.
+pub(crate) fn allowed(form: u32, mode: u8, reg: u8, rm: u8) -> bool
+    ensures { λ r. ⌜ r ≡ allows (formOf form) mode reg rm ⌝ }
+{
+    if SHIFT_Q < form {
+        return true;
+    }
+    if form < SHIFT_WD {
+        return true;
+    }
+    if mode != REGISTER {
+        return false;
+    }
+    if reg == RIGHT {
+        return true;
+    }
+    if reg == LEFT {
+        return true;
+    }
+    if reg == RIGHT_SIGNED {
+        return form == SHIFT_WD;
+    }
+    false
+}
+
+// How many immediate bytes a form has.
+pub(crate) fn immediate_size(form: u32) -> usize
+    ensures { λ r. ⌜ r ≡ immediateSize (formOf form) ⌝ }
+{
+    if SHIFT_Q < form {
+        return NO_BYTE;
+    }
+    if form < SHIFT_WD {
+        return NO_BYTE;
+    }
+    ONE_BYTE
+}
+
+// Whether an SIB byte follows the ModRM byte.
+pub(crate) fn sib_follows(mode: u8, rm: u8) -> bool
+    ensures { λ r. ⌜ r ≡ hasSib mode rm ⌝ }
+{
+    if mode == REGISTER {
+        return false;
+    }
+    rm == SIB
+}
+
+// How many bytes of displacement there are; without an SIB byte the base is 0.
+pub(crate) fn displacement_size(mode: u8, rm: u8, base: u8) -> usize
+    ensures { λ r. ⌜ r ≡ displacementSize mode rm base ⌝ }
+{
+    if mode == BYTE_DISPLACEMENT {
+        return ONE_BYTE;
+    }
+    if mode == LONG_DISPLACEMENT {
+        return FOUR_BYTES;
+    }
+    if mode == NO_DISPLACEMENT {
+        if rm == NO_BASE {
+            return FOUR_BYTES;
+        }
+        if rm == SIB {
+            if base == NO_BASE {
+                return FOUR_BYTES;
+            }
+        }
+    }
+    NO_BYTE
+}

@@ -1,0 +1,130 @@
+// MMX instruction bytes to records and back: the records, the answers, and the table, the reader and the writer for other crates.
+ghost use mathlib.Core.Path.{_≡_};
+ghost use Rattle.codec.specs.Packed.{packedRows};
+ghost use Rattle.codec.specs.Reads.{readAt};
+ghost use Rattle.codec.specs.Lent.{findWith};
+ghost use Rattle.codec.specs.Writes.{written, writeTo};
+
+mod fields;
+mod opcodes;
+mod prefixes;
+mod reader;
+mod writer;
+
+// The refusals, by the paper's numbers.
+const CODE_TOO_LONG: u8 = 2;
+
+pub(crate) const CODE_ENDS: u8 = 3;
+
+pub(crate) const PREFIXED: u8 = 4;
+
+pub(crate) const NOT_LISTED: u8 = 5;
+
+pub(crate) const NOT_ALLOWED: u8 = 6;
+
+const NO_BYTES: u8 = 11;
+
+const BUFFER_ENDS: u8 = 12;
+
+// The first byte of every opcode.
+pub(crate) const ESCAPE: u8 = 0x0f;
+
+// The longest code, in bytes.
+const LONGEST_CODE: usize = 4096;
+
+// The fields of the ModRM byte and of the SIB byte, and the displacement, as they stood; a field that is not there is 0.
+pub struct Operand {
+    pub mode: u8,
+    pub reg: u8,
+    pub rm: u8,
+    pub scale: u8,
+    pub index: u8,
+    pub base: u8,
+    pub displacement: u32,
+}
+
+// The opcode bytes, the operand and the immediate; of 71 to 73 the digit is in reg.
+pub struct Instruction {
+    pub first: u8,
+    pub second: u8,
+    pub operand: Operand,
+    pub immediate: u32,
+}
+
+// What reading gives: the instruction and its length, or the refusal.
+pub enum Reading {
+    Read(Instruction, usize),
+    Refused(u8),
+}
+
+// What writing gives: the instruction's length, or the refusal.
+pub enum Writing {
+    Wrote(usize),
+    Refused(u8),
+}
+
+// What reading with a table gives, in plain numbers: the refusal, or 0 and the table's entry, the instruction and the position after it.
+pub struct Found {
+    pub refusal: u8,
+    pub entry: u32,
+    pub instruction: Instruction,
+    pub next: usize,
+}
+
+// The table of opcodes, for whoever starts reading: it is made here, and lent from then on.
+pub fn table() -> [u32; 256]
+    ensures { λ r. ⌜ r ≡ packedRows ⌝ }
+{
+    opcodes::TABLE
+}
+
+// Reads the instruction at a position, with the entries of a table that is lent.
+pub fn read_from(table: &[u32; 256], code: &[u8], at: usize) -> Found
+    ensures { λ r. ⌜ r ≡ findWith (now (table .entry)) (now (code .entry)) at ⌝ }
+{
+    if code.len() <= at {
+        return reader::refused(CODE_ENDS);
+    }
+    let first = code[at];
+    if first == ESCAPE {
+        reader::second_at(table, code, at + 1, first)
+    } else {
+        reader::refused(prefixes::first_refusal(first))
+    }
+}
+
+// Reads the instruction at a position.
+pub fn read(code: &[u8], at: usize) -> Reading
+    ensures { λ r. ⌜ r ≡ readAt (now (code .entry)) at ⌝ }
+{
+    if LONGEST_CODE < code.len() {
+        return Reading::Refused(CODE_TOO_LONG);
+    }
+    let table = table();
+    let found = read_from(&table, code, at);
+    let refusal = found.refusal;
+    if refusal == 0 {
+        let instruction = found.instruction;
+        Reading::Read(instruction, found.next - at)
+    } else {
+        Reading::Refused(refusal)
+    }
+}
+
+// Writes an instruction at the start of a buffer; a refused one changes no byte of it.
+pub fn write(instruction: Instruction, buffer: &mut [u8]) -> Writing
+    ensures { λ r. ⌜ written r (now (buffer .exit)) ≡ writeTo instruction (now (buffer .entry)) ⌝ }
+{
+    let form = opcodes::form_for(instruction.second);
+    if writer::has_bytes(form, instruction) {
+        let size = writer::size_of(form, instruction);
+        if size <= buffer.len() {
+            writer::put(buffer, form, instruction);
+            Writing::Wrote(size)
+        } else {
+            Writing::Refused(BUFFER_ENDS)
+        }
+    } else {
+        Writing::Refused(NO_BYTES)
+    }
+}

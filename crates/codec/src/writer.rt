@@ -1,0 +1,238 @@
+// The writer: whether a record has bytes, how many, and one function for each part that puts them, from left to right.
+use crate::ESCAPE;
+use crate::Instruction;
+use crate::Operand;
+use crate::fields;
+ghost use mathlib.Core.Path.{_≡_};
+ghost use mathlib.Core.Bool.{true};
+ghost use Prim.Native.Nat.{_+_, _≤_, _<_};
+ghost use lib.ListN.{length};
+ghost use lib.Seq.{sets};
+ghost use Rattle.words.specs.Number.{bytes};
+ghost use Rattle.codec.specs.Opcodes.{entryOf};
+ghost use Rattle.codec.specs.Packed.{formOf};
+ghost use Rattle.codec.specs.Operands.{joined, Sized};
+ghost use Rattle.codec.specs.Fits.{fits, sibFits, operandFits, operandIsZero, partsFit, hasBytes};
+ghost use Rattle.codec.specs.Writes.{sibBytes, operandBytes, bytesOf};
+
+// How many values mod and scale have.
+const UPPER_VALUES: u8 = 4;
+
+// The size of the opcode,
+const OPCODE_SIZE: usize = 2;
+
+// with the ModRM byte,
+const MODRM_SIZE: usize = 3;
+
+// and with the SIB byte.
+const SIB_SIZE: usize = 4;
+
+// Whether a number fits a field of k bytes; with none it is 0.
+fn field_fits(k: usize, value: u32) -> bool
+    requires { ⌜ Sized k ⌝ }
+    ensures { λ r. ⌜ r ≡ fits k value ⌝ }
+{
+    if k == fields::NO_BYTE {
+        return value == 0;
+    }
+    if k == fields::ONE_BYTE {
+        return value < fields::BYTE;
+    }
+    true
+}
+
+// Whether the fields of an SIB byte fit it; where there is none they are 0.
+fn sib_fits(there: bool, scale: u8, index: u8, base: u8) -> bool
+    ensures { λ r. ⌜ r ≡ sibFits there scale index base ⌝ }
+{
+    if there {
+        if UPPER_VALUES <= scale {
+            return false;
+        }
+        if fields::VALUES <= index {
+            return false;
+        }
+        base < fields::VALUES
+    } else {
+        if scale != 0 {
+            return false;
+        }
+        if index != 0 {
+            return false;
+        }
+        base == 0
+    }
+}
+
+// Whether each field of an operand fits its place.
+fn operand_fits(operand: Operand) -> bool
+    ensures { λ r. ⌜ r ≡ operandFits operand ⌝ }
+{
+    if UPPER_VALUES <= operand.mode {
+        return false;
+    }
+    if fields::VALUES <= operand.reg {
+        return false;
+    }
+    if fields::VALUES <= operand.rm {
+        return false;
+    }
+    if sib_fits(
+        fields::sib_follows(operand.mode, operand.rm),
+        operand.scale,
+        operand.index,
+        operand.base,
+    ) {
+        field_fits(
+            fields::displacement_size(operand.mode, operand.rm, operand.base),
+            operand.displacement,
+        )
+    } else {
+        false
+    }
+}
+
+// Whether there is nothing in an operand.
+fn operand_is_zero(operand: Operand) -> bool
+    ensures { λ r. ⌜ r ≡ operandIsZero operand ⌝ }
+{
+    if operand.mode != 0 {
+        return false;
+    }
+    if operand.reg != 0 {
+        return false;
+    }
+    if operand.rm != 0 {
+        return false;
+    }
+    if operand.scale != 0 {
+        return false;
+    }
+    if operand.index != 0 {
+        return false;
+    }
+    if operand.base != 0 {
+        return false;
+    }
+    operand.displacement == 0
+}
+
+// Whether the operand and the immediate are such as the form has.
+fn parts_fit(form: u32, operand: Operand, immediate: u32) -> bool
+    ensures { λ r. ⌜ r ≡ partsFit (formOf form) operand immediate ⌝ }
+{
+    if form == fields::ABSENT {
+        return false;
+    }
+    if form == fields::EMMS {
+        if operand_is_zero(operand) {
+            return immediate == 0;
+        }
+        return false;
+    }
+    if fields::allowed(form, operand.mode, operand.reg, operand.rm) {
+        if operand_fits(operand) {
+            return field_fits(fields::immediate_size(form), immediate);
+        }
+    }
+    false
+}
+
+// Whether any byte string reads as the record.
+pub(crate) fn has_bytes(form: u32, instruction: Instruction) -> bool
+    requires { ⌜ formOf form ≡ entryOf (instruction .second) .form ⌝ }
+    ensures { λ r. ⌜ r ≡ hasBytes instruction ⌝ }
+{
+    if instruction.first != ESCAPE {
+        return false;
+    }
+    let operand = instruction.operand;
+    parts_fit(form, operand, instruction.immediate)
+}
+
+// How many bytes the record has.
+pub(crate) fn size_of(form: u32, instruction: Instruction) -> usize
+    requires { ⌜ formOf form ≡ entryOf (instruction .second) .form ⌝ }
+    ensures { λ r. ⌜ r ≡ length (bytesOf instruction) ⌝ }
+{
+    if form == fields::EMMS {
+        return OPCODE_SIZE;
+    }
+    let operand = instruction.operand;
+    let k = fields::displacement_size(operand.mode, operand.rm, operand.base)
+        + fields::immediate_size(form);
+    if fields::sib_follows(operand.mode, operand.rm) {
+        SIB_SIZE + k
+    } else {
+        MODRM_SIZE + k
+    }
+}
+
+// A byte of three fields.
+fn byte_of(high: u8, mid: u8, low: u8) -> u8
+    requires { ⌜ (high < 4) × ((mid < 8) × (low < 8)) ⌝ }
+    ensures { λ r. ⌜ r ≡ joined high mid low ⌝ }
+{
+    high * fields::UPPER + mid * fields::MIDDLE + low
+}
+
+// The k bytes of a number, the lowest first.
+fn put_number(buffer: &mut [u8], at: usize, k: usize, value: u32)
+    requires { ⌜ (at + k ≤ length (now buffer)) × Sized k ⌝ }
+    ensures { λ _. ⌜ now (buffer .exit) ≡ sets (now (buffer .entry)) at (bytes k value) ⌝ }
+{
+    if k == fields::NO_BYTE {
+        return;
+    }
+    buffer[at] = (value % fields::BYTE) as u8;
+    if k == fields::ONE_BYTE {
+        return;
+    }
+    let second = value / fields::BYTE;
+    let third = second / fields::BYTE;
+    let fourth = third / fields::BYTE;
+    buffer[at + 1] = (second % fields::BYTE) as u8;
+    buffer[at + 2] = (third % fields::BYTE) as u8;
+    buffer[at + 3] = (fourth % fields::BYTE) as u8;
+}
+
+// The SIB byte, if the operand has one. The position after it.
+fn put_sib(buffer: &mut [u8], at: usize, operand: Operand) -> usize
+    requires { ⌜ (at + length (sibBytes operand) ≤ length (now buffer)) × (operandFits operand ≡ true) ⌝ }
+    ensures { λ r. ⌜ (r ≡ at + length (sibBytes operand)) × (now (buffer .exit) ≡ sets (now (buffer .entry)) at (sibBytes operand)) ⌝ }
+{
+    if fields::sib_follows(operand.mode, operand.rm) {
+        buffer[at] = byte_of(operand.scale, operand.index, operand.base);
+        at + 1
+    } else {
+        at
+    }
+}
+
+// The ModRM byte, and what follows it of the operand. The position after it.
+fn put_operand(buffer: &mut [u8], at: usize, operand: Operand) -> usize
+    requires { ⌜ (at + length (operandBytes operand) ≤ length (now buffer)) × (operandFits operand ≡ true) ⌝ }
+    ensures { λ r. ⌜ (r ≡ at + length (operandBytes operand)) × (now (buffer .exit) ≡ sets (now (buffer .entry)) at (operandBytes operand)) ⌝ }
+{
+    buffer[at] = byte_of(operand.mode, operand.reg, operand.rm);
+    let next = put_sib(buffer, at + 1, operand);
+    let k = fields::displacement_size(operand.mode, operand.rm, operand.base);
+    put_number(buffer, next, k, operand.displacement);
+    next + k
+}
+
+// The bytes of a record that has bytes, at the start of a buffer that has room for them.
+pub(crate) fn put(buffer: &mut [u8], form: u32, instruction: Instruction)
+    requires { ⌜ (formOf form ≡ entryOf (instruction .second) .form) × ((length (bytesOf instruction) ≤ length (now buffer)) × (hasBytes instruction ≡ true)) ⌝ }
+    ensures { λ _. ⌜ now (buffer .exit) ≡ sets (now (buffer .entry)) 0 (bytesOf instruction) ⌝ }
+{
+    buffer[0] = instruction.first;
+    buffer[1] = instruction.second;
+    if form == fields::EMMS {
+        return;
+    }
+    let operand = instruction.operand;
+    let next = put_operand(buffer, OPCODE_SIZE, operand);
+    let k = fields::immediate_size(form);
+    put_number(buffer, next, k, instruction.immediate);
+}

@@ -1,0 +1,212 @@
+// Every encoding of the table read and written back: their number, the differences and the sum of the lengths. Then the edges of both.
+use codec::Instruction;
+use codec::Operand;
+use codec::Reading;
+use codec::Writing;
+use libc::STDOUT_FILENO;
+use std::num::wrapping_add_u64;
+
+// What stands in the writer's buffer before it writes.
+const FILL: u8 = 0xcc;
+
+// Room for the longest encoding and more.
+const ROOM: usize = 12;
+
+// The first byte of every opcode, and the second byte of EMMS, which no operand follows.
+const ESCAPE: u8 = 0x0f;
+
+const EMMS: u8 = 0x77;
+
+// The ModRM bytes from here on have mod 11, and below it this rm asks for an SIB byte.
+const REGISTERS: u8 = 0xc0;
+
+const SIB: u8 = 4;
+
+// Where the SIB byte stands.
+const SIB_AT: usize = 3;
+
+// A second byte with the usual operands, and mod 11.
+const PADDB: u8 = 0xfc;
+
+const REGISTER: u8 = 3;
+
+// What was tried so far.
+struct Tally {
+    encodings: u64,
+    differences: u64,
+    bytes: u64,
+}
+
+// Whether a buffer starts with the first n bytes of a code and is as it was behind them.
+fn agrees(code: &[u8; 12], buffer: &[u8; 12], n: usize) -> bool {
+    for k in 0..ROOM {
+        if k < n {
+            if buffer[k] != code[k] {
+                return false;
+            }
+        } else {
+            if buffer[k] != FILL {
+                return false;
+            }
+        }
+    }
+    true
+}
+
+// Whether the instruction of n bytes that a code starts with is written as it stands there.
+fn writes_back(code: &[u8; 12], instruction: Instruction, n: usize) -> bool {
+    let mut buffer = [FILL; 12];
+    match codec::write(instruction, &mut buffer) {
+        Writing::Wrote(m) => {
+            if m == n {
+                agrees(code, &buffer, n)
+            } else {
+                false
+            }
+        }
+        Writing::Refused(_) => false,
+    }
+}
+
+// Reads a code and writes it back, if it is an encoding.
+fn try_code(tally: Tally, code: &[u8; 12]) -> Tally {
+    match codec::read(code, 0) {
+        Reading::Read(instruction, n) => {
+            let mut differences = tally.differences;
+            if !writes_back(code, instruction, n) {
+                differences = wrapping_add_u64(differences, 1);
+            }
+            Tally {
+                encodings: wrapping_add_u64(tally.encodings, 1),
+                differences: differences,
+                bytes: wrapping_add_u64(tally.bytes, n as u64),
+            }
+        }
+        Reading::Refused(_) => tally,
+    }
+}
+
+// A second byte and a ModRM byte, with each SIB byte if one follows, and more bytes for a displacement and an immediate.
+fn try_modrm(start: Tally, second: u8, modrm: u8) -> Tally {
+    let mut tally = start;
+    let mut code = [
+        ESCAPE,
+        second,
+        modrm,
+        0,
+        0x81,
+        0x42,
+        0xc3,
+        0x24,
+        0x95,
+        0x66,
+        0xf7,
+        0x18,
+    ];
+    if modrm < REGISTERS && modrm % 8 == SIB {
+        for sib in 0u8..=255 {
+            code[SIB_AT] = sib;
+            tally = try_code(tally, &code);
+        }
+        return tally;
+    }
+    try_code(tally, &code)
+}
+
+// A second byte, with each ModRM byte if one follows.
+fn try_second(start: Tally, second: u8) -> Tally {
+    if second == EMMS {
+        return try_modrm(start, second, 0);
+    }
+    let mut tally = start;
+    for modrm in 0u8..=255 {
+        tally = try_modrm(tally, second, modrm);
+    }
+    tally
+}
+
+// Each second byte.
+fn try_all() -> Tally {
+    let mut tally = Tally {
+        encodings: 0,
+        differences: 0,
+        bytes: 0,
+    };
+    for second in 0u8..=255 {
+        tally = try_second(tally, second);
+    }
+    tally
+}
+
+// A line of a name and a number.
+fn print(name: &[u8], n: u64) {
+    io::write_all(STDOUT_FILENO, name);
+    io::write_all(STDOUT_FILENO, b" ");
+    io::print_decimal(STDOUT_FILENO, n);
+    io::write_all(STDOUT_FILENO, b"\n");
+}
+
+// The refusal of reading a code at its start, or 0.
+fn print_reading(name: &[u8], code: &[u8]) {
+    match codec::read(code, 0) {
+        Reading::Read(_, _) => print(name, 0),
+        Reading::Refused(refusal) => print(name, refusal as u64),
+    }
+}
+
+// The refusal of writing PADDB of MM0 and a register, or 0.
+fn print_writing(name: &[u8], register: u8, buffer: &mut [u8]) {
+    let instruction = Instruction {
+        first: ESCAPE,
+        second: PADDB,
+        operand: Operand {
+            mode: REGISTER,
+            reg: 0,
+            rm: register,
+            scale: 0,
+            index: 0,
+            base: 0,
+            displacement: 0,
+        },
+        immediate: 0,
+    };
+    match codec::write(instruction, buffer) {
+        Writing::Wrote(_) => print(name, 0),
+        Writing::Refused(refusal) => print(name, refusal as u64),
+    }
+}
+
+fn print_shifts() {
+    print_reading(b"0F 71 C0 01 is", &[ESCAPE, 0x71, 0xc0, 0x01]);
+    print_reading(b"0F 71 00 is", &[ESCAPE, 0x71, 0x00]);
+    print_reading(b"0F 71 D0 is", &[ESCAPE, 0x71, 0xd0]);
+}
+
+fn print_opcodes() {
+    print_reading(b"66 is", &[0x66]);
+    print_reading(b"0F 0B is", &[ESCAPE, 0x0b]);
+    print_reading(b"90 is", &[0x90]);
+    print_reading(b"0F is", &[ESCAPE]);
+}
+
+fn print_lengths() {
+    print_reading(b"no byte is", &[]);
+    print_reading(b"4097 bytes is", &[ESCAPE; 4097]);
+}
+
+fn print_writings() {
+    let mut buffer = [FILL; 12];
+    print_writing(b"register 8 is", 8, &mut buffer);
+    print_writing(b"a buffer of 2 bytes is", 7, &mut buffer[0..2]);
+}
+
+fn main() {
+    let tally = try_all();
+    print(b"encodings", tally.encodings);
+    print(b"differences", tally.differences);
+    print(b"bytes", tally.bytes);
+    print_shifts();
+    print_opcodes();
+    print_lengths();
+    print_writings();
+}
