@@ -1,0 +1,64 @@
+-- The address of an operand in memory: base plus index times scale plus displacement, in 32 bits.
+use mathlib.Core.Bool.{cond, _&&_}
+use mathlib.Core.Option.{Option, none, some}
+use mathlib.Core.List.{List, [], _∷_, _++_}
+use Prim.Native.Nat.{ℕ, _+_, _*_, _-_, _^_, _%_}
+use lib.Dec.{eqb, leb}
+use lib.ListN.{getD}
+use Rattle.codec.specs.Operands.{hasSib}
+use Rattle.codec.specs.declared.Operand.{Operand}
+
+-- an address by its parts: the numbers of the base and index registers, the scale's two bits, and 32 bits of displacement
+pub record Address : Type 0 where
+  pub base : Option ℕ
+  pub index : Option ℕ
+  pub scale : ℕ
+  pub displacement : ℕ
+
+-- at mod 01 the displacement is a signed byte
+unfoldable pub displacementOf : ℕ → ℕ → ℕ
+displacementOf mode displacement =
+    cond (eqb mode 1 && leb 128 displacement) (displacement + (2 ^ 32 - 2 ^ 8)) displacement
+
+-- at mod 00, 101 is no base
+unfoldable pub baseOf : ℕ → ℕ → Option ℕ
+baseOf mode register = cond (eqb mode 0 && eqb register 5) none (some register)
+
+-- index 100 is no index
+unfoldable pub indexOf : ℕ → Option ℕ
+indexOf register = cond (eqb register 4) none (some register)
+
+-- with an SIB byte, base and index are named there; else rm is the base
+unfoldable pub addressOf : Operand → Address
+addressOf w =
+    cond (hasSib (w .mode) (w .rm))
+    (record {
+      base = baseOf (w .mode) (w .base);
+      index = indexOf (w .index);
+      scale = w .scale;
+      displacement = displacementOf (w .mode) (w .displacement);
+    })
+    (record {
+      base = baseOf (w .mode) (w .rm);
+      index = none;
+      scale = 0;
+      displacement = displacementOf (w .mode) (w .displacement);
+    })
+
+-- what a register adds to the sum, if there is one
+abbrev pub registerPart : List ℕ → Option ℕ → ℕ
+registerPart integers none = 0
+registerPart integers (some k) = getD integers k 0
+
+-- with these integer registers: base plus index times 1, 2, 4 or 8 plus displacement; the sum wraps at 2^32
+unfoldable pub address : List ℕ → Address → ℕ
+address integers a =
+    (registerPart integers (a .base) + registerPart integers (a .index) * 2 ^ (a .scale) + a .displacement) % 2 ^ 32
+
+-- the integer registers that an address is made of
+abbrev pub registersOf : Option ℕ → List ℕ
+registersOf none = []
+registersOf (some k) = k ∷ []
+
+abbrev pub addressRegisters : Address → List ℕ
+addressRegisters a = registersOf (a .base) ++ registersOf (a .index)

@@ -1,0 +1,94 @@
+-- A footprint in the form that the program hands out: registers as masks, memory bytes as a range; and the test whether two of them meet.
+use mathlib.Core.Bool.{Bool, false, not, _&&_, _||_}
+use mathlib.Core.List.{List, [], _∷_, _++_}
+use Prim.Native.Nat.{ℕ, _+_, _^_}
+use lib.Bits.{bitAnd, bitOr}
+use lib.Dec.{eqb, ltb}
+use lib.ListN.{length, getD}
+use Rattle.reorder.specs.Result.{Result, done, refused, mapResult}
+use Rattle.reorder.specs.Footprint as places
+use Rattle.machine.specs.declared.Kind.{Kind}
+use Rattle.machine.specs.declared.Places.{Places}
+use Rattle.machine.specs.declared.Footprint.{Footprint}
+use Rattle.machine.specs.declared.Printed.{Printed}
+use Rattle.machine.specs.declared.Printed.the-variants.{Of, Refused}
+use Rattle.machine.specs.State.{State}
+use Rattle.machine.specs.Places.{Place, mmx, integer, byte}
+use Rattle.machine.specs.Kinds.{kindsMeet}
+use Rattle.machine.specs.Footprints.{footprintAt}
+
+-- the number of a place of one sort, in a list of one or none: MMX registers, integer registers, memory bytes
+
+abbrev pub mmxNumber : Place → List ℕ
+mmxNumber (mmx k) = k ∷ []
+mmxNumber (integer k) = []
+mmxNumber (byte a) = []
+
+abbrev pub integerNumber : Place → List ℕ
+integerNumber (mmx k) = []
+integerNumber (integer k) = k ∷ []
+integerNumber (byte a) = []
+
+abbrev pub byteNumber : Place → List ℕ
+byteNumber (mmx k) = []
+byteNumber (integer k) = []
+byteNumber (byte a) = a ∷ []
+
+-- the numbers of all places of a sort
+abbrev pub numbersOf : (Place → List ℕ) → List Place → List ℕ
+numbersOf number [] = []
+numbersOf number (p ∷ ps) = number p ++ numbersOf number ps
+
+abbrev pub bytesOf : List Place → List ℕ
+bytesOf ps = numbersOf byteNumber ps
+
+-- bit k is set for each k
+abbrev pub mask : List ℕ → ℕ
+mask [] = 0
+mask (k ∷ ks) = bitOr (2 ^ k) (mask ks)
+
+abbrev pub setOf : List Place → Places
+setOf ps =
+    record {
+      mmx = mask (numbersOf mmxNumber ps);
+      integers = mask (numbersOf integerNumber ps);
+      start = getD (bytesOf ps) 0 0;
+      length = length (bytesOf ps);
+    }
+
+abbrev pub print : places.Footprint Place Kind → Footprint
+print f = record { reads = setOf (f .reads); writes = setOf (f .writes); kind = f .kind }
+
+-- what the footprint of the step at a position answers
+unfoldable pub printAt : List ℕ → ℕ → State → Result Footprint
+printAt code at s = mapResult print (footprintAt code at s)
+
+-- the paper's answer for each case of the footprint's
+abbrev pub printGiven : Printed → Result Footprint
+printGiven (Of f) = done f
+printGiven (Refused n) = refused n
+
+-- the m bytes from a on and the n bytes from b on have one in common
+unfoldable pub overlap : ℕ → ℕ → ℕ → ℕ → Bool
+overlap a m b n = ltb 0 m && ltb 0 n && ltb a (b + n) && ltb b (a + m)
+
+-- there is a place in both
+unfoldable pub share : Places → Places → Bool
+share p q =
+    not (eqb (bitAnd (p .mmx) (q .mmx)) 0)
+    || not (eqb (bitAnd (p .integers) (q .integers)) 0)
+    || overlap (p .start) (p .length) (q .start) (q .length)
+
+-- one writes a place that the other reads or writes, or either is EMMS
+unfoldable pub meet : Footprint → Footprint → Bool
+meet f g =
+    kindsMeet (f .kind) (g .kind)
+    || share (f .writes) (g .reads)
+    || share (f .writes) (g .writes)
+    || share (f .reads) (g .writes)
+
+-- the same of what may be footprints: a refused step has none, and meets none
+abbrev pub meetTest : Result (places.Footprint Place Kind) → Result (places.Footprint Place Kind) → Bool
+meetTest (done f) (done g) = meet (print f) (print g)
+meetTest (done f) (refused n) = false
+meetTest (refused n) g = false

@@ -1,0 +1,22 @@
+-- The refusal numbers of steps, runs and footprints, from document 01's table of them (2 to 6 are the reader's).
+use Prim.Native.Nat.{ℕ}
+
+-- the memory is longer than 32,768 bytes
+abbrev pub memoryTooLong : ℕ
+memoryTooLong = 1
+
+-- EM is set
+abbrev pub invalidOpcode : ℕ
+invalidOpcode = 7
+
+-- TS is set
+abbrev pub notAvailable : ℕ
+notAvailable = 8
+
+-- pending is set
+abbrev pub isPending : ℕ
+isPending = 9
+
+-- a byte of the memory operand is outside the memory
+abbrev pub outsideMemory : ℕ
+outsideMemory = 10

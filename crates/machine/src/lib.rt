@@ -1,0 +1,70 @@
+// The player's machine: its state, and what a step, a run and a footprint answer.
+
+// The registers and marks. The memory is lent to each call beside them.
+pub struct Machine {
+    // MM0 to MM7
+    pub mmx: [u64; 8],
+    // EAX ECX EDX EBX ESP EBP ESI EDI
+    pub integers: [u32; 8],
+    // the tag mark: valid, or empty
+    pub valid: bool,
+    // the control marks
+    pub em: bool,
+    pub ts: bool,
+    pub pending: bool,
+}
+
+// What a step came to.
+pub enum Taken {
+    Completed,
+    Refused(u8),
+}
+
+// What a step hands back: the position is that of the next instruction, or the one it was given.
+pub struct Stepped {
+    pub answer: Taken,
+    pub machine: Machine,
+    pub at: usize,
+}
+
+// How a run ended.
+pub enum End {
+    Done,
+    Spent,
+    Refused(u8),
+}
+
+// What a run hands back: the position reached, and the count of instructions completed.
+pub struct Ran {
+    pub end: End,
+    pub at: usize,
+    pub count: u32,
+    pub machine: Machine,
+}
+
+// What an instruction does to the tag mark, and which others it meets wherever they read and write.
+pub enum Kind {
+    Ordinary,
+    Emms,
+}
+
+// Places: registers as masks, bit k for register k, and memory bytes as a range (without bytes it starts at 0).
+pub struct Places {
+    pub mmx: u8,
+    pub integers: u8,
+    pub start: usize,
+    pub length: usize,
+}
+
+// What a step reads and writes.
+pub struct Footprint {
+    pub reads: Places,
+    pub writes: Places,
+    pub kind: Kind,
+}
+
+// The footprint of a step, or the step's refusal.
+pub enum Printed {
+    Of(Footprint),
+    Refused(u8),
+}
