@@ -14,6 +14,7 @@ use Rattle.reorder.proofs.Never.{never}
 use Rattle.reorder.proofs.Reordering.{Swap}
 use Rattle.reorder.proofs.Swapping.{swap}
 use Rattle.reorder.proofs.Rearranging.{reordered-block}
+use Rattle.codec.specs.Reads.{longestCode}
 use Rattle.codec.specs.Refusals.{codeTooLong}
 use Rattle.codec.specs.declared.Instruction.{Instruction}
 use Rattle.machine.specs.declared.Kind.{Kind}
@@ -50,7 +51,7 @@ pub demand-3 : (code order : List ℕ) (budget end total : ℕ) (start final : S
 unfolding runOf
 demand-3 code order budget end total start final h new keeps =
     let (memory-fits, h₁) = passed (isTooLong (start .memory)) memoryTooLong start _ end total final h in
-    let (code-fits, h₂) = passed (ltb 4096 (length code)) codeTooLong start _ end total final h₁ in
+    let (code-fits, h₂) = passed (ltb longestCode (length code)) codeTooLong start _ end total final h₁ in
     let (as-long, runs) = reordered-block read local-reader execute footprint Meets execute-swap code order budget end total start final h₂ new keeps in
-    let new-fits : ltb 4096 (length (rearranged read code order)) ≡ false = ap (ltb 4096) as-long ∙ code-fits in
+    let new-fits : ltb longestCode (length (rearranged read code order)) ≡ false = ap (ltb longestCode) as-long ∙ code-fits in
     rw (memory-fits, new-fits) runs

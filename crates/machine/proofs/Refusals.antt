@@ -14,7 +14,7 @@ use Rattle.reorder.proofs.Never.{never}
 use Rattle.reorder.proofs.Places.{leaves-frozen}
 use Rattle.reorder.proofs.Swapping.{completed as planned}
 use Rattle.codec.specs.Refusals.{codeTooLong}
-use Rattle.codec.specs.Reads.{readAt}
+use Rattle.codec.specs.Reads.{longestCode, readAt}
 use Rattle.codec.specs.declared.Instruction.{Instruction}
 use Rattle.machine.specs.Refusals.{memoryTooLong}
 use Rattle.machine.specs.State.{State, Frozen, frozen, isTooLong}
@@ -64,7 +64,7 @@ step-frozen code at at′ s t e = reading (instructionAt code at s) e
     reading (refused m) h = never (cc)
     reading (done r) h = executing r (execute (r .instruction) s) refl h
 
-module _ (code : List ℕ) (code-fits : ltb 4096 (length code) ≡ false) (n end total : ℕ) (t : State) where
+module _ (code : List ℕ) (code-fits : ltb longestCode (length code) ≡ false) (n end total : ℕ) (t : State) where
   -- a run that stops has come, by as many steps as it counts, to a step that is refused
   abbrev Kept : ℕ → ℕ → State → Type 0
   Kept at count s =
@@ -113,12 +113,12 @@ module _ (code : List ℕ) (code-fits : ltb 4096 (length code) ≡ false) (n end
 pub refused-run : (code : List ℕ) (budget n at count : ℕ) (s t : State) → runOf code budget s ≡ stopped n at count t
     → (stepAt code at t ≡ refusedWith n at t) × ((runOf code count s ≡ spent at count t) ⊎ ((count ≡ 0) × (t ≡ s)))
 unfolding runOf stepAt instructionAt readAt
-refused-run code budget n at count s t h = tests (isTooLong (s .memory)) (ltb 4096 (length code)) refl refl h
+refused-run code budget n at count s t h = tests (isTooLong (s .memory)) (ltb longestCode (length code)) refl refl h
   where
     Goal : Type 0
     Goal = (stepAt code at t ≡ refusedWith n at t) × ((runOf code count s ≡ spent at count t) ⊎ ((count ≡ 0) × (t ≡ s)))
 
-    tests : (a b : Bool) → isTooLong (s .memory) ≡ a → ltb 4096 (length code) ≡ b
+    tests : (a b : Bool) → isTooLong (s .memory) ≡ a → ltb longestCode (length code) ≡ b
         → cond a (stopped memoryTooLong 0 0 s) (cond b (stopped codeTooLong 0 0 s) (run read execute budget code s)) ≡ stopped n at count t → Goal
     tests true b ea eb h =
         let same : t ≡ s = cc in

@@ -7,7 +7,7 @@ use lib.Dec.{eqb, ltb}
 use lib.ListN.{length, drop}
 use Rattle.reorder.specs.Result.{Result, done, refused, caseOf}
 use Rattle.reorder.specs.Run.{Reading, Answer, stopped, runFrom}
-use Rattle.codec.specs.Reads.{readAt}
+use Rattle.codec.specs.Reads.{longestCode, readAt}
 use Rattle.codec.specs.declared.Instruction.{Instruction}
 use Rattle.machine.specs.State.{State, isTooLong}
 use Rattle.machine.specs.Instructions.{execute}
@@ -20,7 +20,7 @@ onward further count (completed at t) = further at (suc count) t
 onward further count (refusedWith n at t) = stopped n at count t
 
 -- the tests of a run's start are passed, and the position is not the end
-module _ (code : List ℕ) (at : ℕ) (s : State) (memory-fits : isTooLong (s .memory) ≡ false) (code-fits : ltb 4096 (length code) ≡ false) where
+module _ (code : List ℕ) (at : ℕ) (s : State) (memory-fits : isTooLong (s .memory) ≡ false) (code-fits : ltb longestCode (length code) ≡ false) where
   instruction-here : instructionAt code at s ≡ read (drop at code)
   unfolding instructionAt read readAt
   instruction-here = simp (memory-fits, code-fits)

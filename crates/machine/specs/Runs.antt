@@ -7,7 +7,7 @@ use lib.ListN.{length}
 use Rattle.reorder.specs.Result.{Result}
 use Rattle.reorder.specs.Run.{Reading, Answer, finished, spent, stopped, run}
 use Rattle.codec.specs.Refusals.{codeTooLong}
-use Rattle.codec.specs.Reads.{readPart}
+use Rattle.codec.specs.Reads.{longestCode, readPart}
 use Rattle.codec.specs.declared.Instruction.{Instruction}
 use Rattle.machine.specs.declared.End.{End}
 use Rattle.machine.specs.declared.End.the-variants.{Done, Spent, Refused}
@@ -25,7 +25,7 @@ read left = resultOf (readPart left)
 unfoldable pub runOf : List ℕ → ℕ → State → Answer State
 runOf code budget s =
     cond (isTooLong (s .memory)) (stopped memoryTooLong 0 0 s)
-    (cond (ltb 4096 (length code)) (stopped codeTooLong 0 0 s)
+    (cond (ltb longestCode (length code)) (stopped codeTooLong 0 0 s)
     (run read execute budget code s))
 
 -- the paper's answer for each case of a run's end, with the position reached, the count of instructions completed and the state
