@@ -13,3 +13,4 @@ pub mod Steps
 pub mod Runs
 pub mod Footprints
 pub mod Prints
+pub mod Starts

@@ -1,4 +1,5 @@
 // The player's machine: its state, and what a step, a run and a footprint answer.
+mod starting;
 
 // The registers and marks. The memory is lent to each call beside them.
 pub struct Machine {
