@@ -3,7 +3,7 @@ use mathlib.Core.Path.{_≡_, refl, sym, ap, _∙_}
 use mathlib.Core.Logic.{_⊎_, inl, inr}
 use mathlib.Core.Bool.{Bool, true, false, cond}
 use mathlib.Core.List.{List}
-use Prim.Native.Nat.{ℕ, zero, suc, _-_, _≤_}
+use Prim.Native.Nat.{ℕ, zero, suc, _-_, _≤_, _+_}
 use native.Mathlib.Nat.{sub-zero}
 use native.Mathlib.Omega.{arith}
 use lib.Dec.{eqb, ltb}
@@ -32,12 +32,12 @@ pub refused-step : (code : List ℕ) (at n at′ : ℕ) (s t : State) → stepAt
 unfolding stepAt
 refused-step code at n at′ s t e = reading (instructionAt code at s) e
   where
-    executing : (size : ℕ) (o : Result State) → concluded at size s o ≡ refusedWith n at′ t → (at′ ≡ at) × (t ≡ s)
+    executing : (size : ℕ) (o : Result State) → concluded at (at + size) s o ≡ refusedWith n at′ t → (at′ ≡ at) × (t ≡ s)
     executing size (refused m) h = (cc, cc)
     executing size (done u) h = never (cc)
 
     reading : (o : Result (Reading Instruction))
-        → caseOf o (λ m. refusedWith m at s) (λ r. concluded at (r .size) s (execute (r .instruction) s)) ≡ refusedWith n at′ t
+        → caseOf o (λ m. refusedWith m at s) (λ r. concluded at (at + r .size) s (execute (r .instruction) s)) ≡ refusedWith n at′ t
         → (at′ ≡ at) × (t ≡ s)
     reading (refused m) h = (cc, cc)
     reading (done r) h = executing (r .size) (execute (r .instruction) s) h
@@ -54,12 +54,12 @@ unfolding stepAt
 step-frozen code at at′ s t e = reading (instructionAt code at s) e
   where
     executing : (r : Reading Instruction) (o : Result State) → execute (r .instruction) s ≡ o
-        → concluded at (r .size) s o ≡ completed at′ t → frozen t ≡ frozen s
+        → concluded at (at + r .size) s o ≡ completed at′ t → frozen t ≡ frozen s
     executing r (refused m) x h = never (cc)
     executing r (done u) x h = execute-frozen (r .instruction) s t (cc)
 
     reading : (o : Result (Reading Instruction))
-        → caseOf o (λ m. refusedWith m at s) (λ r. concluded at (r .size) s (execute (r .instruction) s)) ≡ completed at′ t
+        → caseOf o (λ m. refusedWith m at s) (λ r. concluded at (at + r .size) s (execute (r .instruction) s)) ≡ completed at′ t
         → frozen t ≡ frozen s
     reading (refused m) h = never (cc)
     reading (done r) h = executing r (execute (r .instruction) s) refl h

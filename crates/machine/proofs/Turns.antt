@@ -33,7 +33,7 @@ module _ (code : List ℕ) (at : ℕ) (s : State) (memory-fits : isTooLong (s .m
     where
       executing : (size : ℕ) (o : Result State)
           → caseOf o (λ n. stopped n at count s) (λ t. runFrom read execute left code (at + size) (suc count) t)
-          ≡ onward (runFrom read execute left code) count (concluded at size s o)
+          ≡ onward (runFrom read execute left code) count (concluded at (at + size) s o)
       executing size (refused n) = refl
       executing size (done t) = refl
 
@@ -41,6 +41,6 @@ module _ (code : List ℕ) (at : ℕ) (s : State) (memory-fits : isTooLong (s .m
           → caseOf o (λ n. stopped n at count s)
           (λ r. caseOf (execute (r .instruction) s) (λ n. stopped n at count s) (λ t. runFrom read execute left code (at + r .size) (suc count) t))
           ≡ onward (runFrom read execute left code) count
-          (caseOf o (λ n. refusedWith n at s) (λ r. concluded at (r .size) s (execute (r .instruction) s)))
+          (caseOf o (λ n. refusedWith n at s) (λ r. concluded at (at + r .size) s (execute (r .instruction) s)))
       reading (refused n) = refl
       reading (done r) = executing (r .size) (execute (r .instruction) s)

@@ -3,7 +3,7 @@
 use mathlib.Core.Path.{_≡_, refl, ap, _∙_, subst, subst₂}
 use mathlib.Core.Bool.{Bool, true, false}
 use mathlib.Core.List.{List, List·Memᴰ as In}
-use Prim.Native.Nat.{ℕ}
+use Prim.Native.Nat.{ℕ, _+_}
 use Rattle.reorder.specs.Result.{Result, done, refused, caseOf, andThen, mapResult}
 use Rattle.reorder.specs.Plan.{Plan, looks, leaves}
 use Rattle.reorder.specs.Footprint.{Footprint, footprintOf as ofPlan, asked}
@@ -96,16 +96,16 @@ unfolding stepAt footprintAt execute footprint
 footprint-exactly code at s = reading (instructionAt code at s)
   where
     making : (size : ℕ) (o : Result (List ℕ)) (leave : List ℕ → State) (print : List ℕ → Footprint Place Kind)
-        → Together (concluded at size s (mapResult leave o)) (mapResult print o)
+        → Together (concluded at (at + size) s (mapResult leave o)) (mapResult print o)
     making size (done values) leave print = tt
     making size (refused n) leave print = refl
 
     planning : (r : Reading Instruction) (o : Result (Plan Place Kind)) → plan (effectOf (r .instruction)) s ≡ o
-        → Together (concluded at (r .size) s (execute (r .instruction) s)) (footprint (r .instruction) s)
+        → Together (concluded at (at + r .size) s (execute (r .instruction) s)) (footprint (r .instruction) s)
     planning r (done pl) e = simp e (making (r .size) (pl .make (looks look s (pl .source))) _ _)
     planning r (refused n) e = simp e refl
 
     reading : (o : Result (Reading Instruction))
-        → Together (caseOf o (λ n. refusedWith n at s) (λ r. concluded at (r .size) s (execute (r .instruction) s))) (andThen o (λ r. footprint (r .instruction) s))
+        → Together (caseOf o (λ n. refusedWith n at s) (λ r. concluded at (at + r .size) s (execute (r .instruction) s))) (andThen o (λ r. footprint (r .instruction) s))
     reading (refused n) = refl
     reading (done r) = planning r (plan (effectOf (r .instruction)) s) refl

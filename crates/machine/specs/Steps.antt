@@ -31,15 +31,15 @@ resultOf (found.Refused n) = refused n
 unfoldable pub instructionAt : List ℕ → ℕ → State → Result (Reading Instruction)
 instructionAt code at s = cond (isTooLong (s .memory)) (refused memoryTooLong) (resultOf (readAt code at))
 
--- what an instruction of so many bytes came to: a refusal changes nothing
+-- what an instruction came to, with the position after it: a refusal changes nothing
 abbrev pub concluded : ℕ → ℕ → State → Result State → Outcome
-concluded at size s (done t) = completed (at + size) t
-concluded at size s (refused n) = refusedWith n at s
+concluded at next s (done t) = completed next t
+concluded at next s (refused n) = refusedWith n at s
 
 -- 1 to 6 where there is no instruction, then 7 to 10 by the instruction
 unfoldable pub stepAt : List ℕ → ℕ → State → Outcome
 stepAt code at s =
-    caseOf (instructionAt code at s) (λ n. refusedWith n at s) (λ read. concluded at (read .size) s (execute (read .instruction) s))
+    caseOf (instructionAt code at s) (λ n. refusedWith n at s) (λ read. concluded at (at + read .size) s (execute (read .instruction) s))
 
 -- the paper's answer for each case of the step's
 abbrev pub outcomeOf : Taken → ℕ → State → Outcome

@@ -2,17 +2,20 @@
 ghost use mathlib.Core.Path.{_≡_};
 ghost use Prim.Native.Nat.{_<_, _^_};
 ghost use Rattle.machine.specs.Starts.{nth, eight, markAt, startOf};
-
 use crate::Machine;
 
 // The bytes of an MMX register and of an integer register.
 const QUADWORD: usize = 8;
+
 const DOUBLEWORD: usize = 4;
 
 // The bits of the marks byte.
 const EM: u8 = 1;
+
 const TS: u8 = 2;
+
 const PENDING: u8 = 4;
+
 const VALID: u8 = 8;
 
 fn quadword(field: &[u8], k: usize) -> u64
