@@ -1,0 +1,67 @@
+-- The parts of a file, by what the code has found: whether it is well formed, where a tag's field starts, and where that ends.
+use mathlib.Core.Path.{_≡_, refl, sym, ap, _∙_}
+use mathlib.Core.Bool.{Bool, true, false, not}
+use mathlib.Core.List.{List, []}
+use Prim.Native.Nat.{ℕ, _+_, _-_, _≤_, _<_}
+use native.Mathlib.Omega.{arith}
+use borrow.Author.Tests.{eq-eqb, ne-eqb, eqb-true, eqb-false, le-leb, lt-leb, not-true, not-false}
+use lib.Dec.{eqb}
+use lib.ListN.{length, getD, take, drop, length-drop, List·getD-eq-default}
+use lib.Seq.{drop-drop}
+use Rattle.pagefile.specs.declared.Page.the-variants.{WellFormed, Refused}
+use Rattle.pagefile.specs.Reading.{size, left, wellFormed, contentsOf, pageOf}
+use Rattle.pagefile.proofs.Fronts.{size-within, size-some, holds-sized}
+
+-- whether the file is well formed
+module _ (file : List ℕ) where
+  pub too-long : 65536 < length file → false ≡ wellFormed file
+  unfolding wellFormed
+  too-long long = rw (lt-leb _ _ long)
+
+  ends-there : (end : ℕ) → end ≤ length file → (t : Bool) → eqb end (length file) ≡ t → t ≡ eqb (length file - end) 0
+  ends-there end within true e = sym (eq-eqb (length file - end) 0 (omega (arith, eqb-true end (length file) e)))
+  ends-there end within false e = sym (ne-eqb _ _ (λ (none : length file - end ≡ 0). eqb-false end (length file) e (omega arith)))
+
+  pub nothing-left : (end : ℕ) → drop end file ≡ left 5 file → end ≤ length file → length file ≤ 65536 → eqb end (length file) ≡ wellFormed file
+  unfolding wellFormed
+  nothing-left end rest within short =
+      rw (le-leb _ _ short, ← rest, length-drop) (ends-there end within (eqb end (length file)) refl)
+
+-- the contents of a tag's field
+module _ (file : List ℕ) (tag : ℕ) (good : Bool) (tested : good ≡ wellFormed file) where
+  pub malformed : not good ≡ true → [] ≡ contentsOf tag file
+  unfolding contentsOf
+  malformed bad = rw (← tested, not-true good bad)
+
+  module _ (at end : ℕ) (here : drop at file ≡ left (tag - 1) file) (ends : end ≡ at + size tag (drop at file)) where
+    pub part : not good ≡ false → take (end - (at + 3)) (drop (at + 3) file) ≡ contentsOf tag file
+    unfolding contentsOf
+    part right =
+        let less : end - (at + 3) ≡ size tag (drop at file) - 3 = omega arith in
+        rw (← tested, not-false good right, ← here, holds-sized tag (drop at file), drop-drop 3 at file, less)
+
+    pub absent : not good ≡ false → end ≡ at → [] ≡ contentsOf tag file
+    absent right none = let less : end - (at + 3) ≡ 0 = omega arith in rw less at (part right)
+
+-- a field that is there has its heading, and lies in the file
+pub present : (file : List ℕ) (tag at end : ℕ) → end ≡ at + size tag (drop at file) → (end ≡ at → ⊥) → at ≤ length file
+    → (at + 3 ≤ end) × (end ≤ length file)
+present file tag at end ends some within =
+    let three : 3 ≤ size tag (drop at file) = size-some tag (drop at file) (λ none. some (omega arith)) in
+    (omega arith, omega (arith, size-within tag (drop at file), length-drop at file))
+
+-- the answer
+module _ (file : List ℕ) (good : Bool) (tested : good ≡ wellFormed file) where
+  pub refused : not good ≡ true → Refused 13 ≡ pageOf file
+  unfolding pageOf
+  refused bad = rw (← tested, not-true good bad)
+
+  module _ (marks : List ℕ) (read : marks ≡ contentsOf 5 file) (right : not good ≡ false) where
+    pub marked : WellFormed (getD marks 0 0) ≡ pageOf file
+    unfolding pageOf
+    marked = rw (← tested, not-false good right, read)
+
+    pub unmarked : length marks ≡ 0 → WellFormed 0 ≡ pageOf file
+    unmarked none = ap WellFormed (sym (List·getD-eq-default marks 0 (omega arith))) ∙ marked
+
+pub ruleset parts = (too-long, nothing-left, malformed, absent, part, refused, marked, unmarked)

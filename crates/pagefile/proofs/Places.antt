@@ -1,0 +1,72 @@
+-- Where a field ends that starts at a place of the file, by the tests that the code makes there: what is left from the place on is `drop at file`.
+use mathlib.Core.Path.{_≡_, sym, ap, _∙_}
+use mathlib.Core.Bool.{Bool, true, false, and-false}
+use mathlib.Core.List.{List}
+use Prim.Native.Nat.{ℕ, _+_, _-_, _≤_, _<_}
+use native.Mathlib.Nat.{add-zero, add-sub-cancel-left}
+use native.Mathlib.Numerals.{add-one}
+use native.Mathlib.Omega.{arith}
+use borrow.Author.Tests.{ne-eqb, lt-leb}
+use lib.ListN.{length, getD, take, drop, length-drop}
+use lib.Seq.{getD-drop, drop-drop}
+use Rattle.words.specs.Number.{number}
+use Rattle.words.specs.Buffer.{loaded}
+use Rattle.words.proofs.Laws.{loaded-inside}
+use Rattle.pagefile.specs.Fields.{mayHold}
+use Rattle.pagefile.specs.Reading.{lengthIn, contentsIn, stands, size, left}
+use Rattle.pagefile.proofs.Fronts.{standing, size-within}
+
+module _ (file : List ℕ) (tag at : ℕ) where
+  none : stands tag (drop at file) ≡ false → at ≡ at + size tag (drop at file)
+  unfolding size
+  none fails = rw fails (sym (add-zero at))
+
+  tag-at : getD (drop at file) 0 0 ≡ getD file at 0
+  tag-at = getD-drop at file 0 0 ∙ ap (λ (i : ℕ). getD file i 0) (add-zero at)
+
+  length-at : 3 ≤ length file - at → loaded file (at + 1) 2 ≡ lengthIn (drop at file)
+  length-at room =
+      loaded-inside file (at + 1) 2 (omega arith) (omega arith) ∙ ap (λ (s : List ℕ). number (take 2 s)) (sym (drop-drop 1 at file))
+
+  pub too-short : length file - at < 3 → at ≡ at + size tag (drop at file)
+  too-short short =
+      let less : length (drop at file) < 3 + lengthIn (drop at file) = simp length-drop (omega arith) in
+      none (simp (lt-leb _ _ less, and-false))
+
+  pub other-tag : (getD file at 0 ≡ tag → ⊥) → at ≡ at + size tag (drop at file)
+  other-tag other = none (simp (tag-at, ne-eqb _ _ other))
+
+  module _ (n : ℕ) (read : n ≡ loaded file (at + 1) 2) (room : 3 ≤ length file - at) where
+    counted : lengthIn (drop at file) ≡ n
+    counted = sym (read ∙ length-at room)
+
+    contents-at : contentsIn (drop at file) ≡ take (at + 3 + n - (at + 3)) (drop (at + 3) file)
+    contents-at = rw (counted, drop-drop 3 at file, add-sub-cancel-left (at + 3) n)
+
+    pub runs-past : length file - at - 3 < n → at ≡ at + size tag (drop at file)
+    runs-past cut =
+        let less : length (drop at file) < 3 + n = simp length-drop (omega arith) in
+        none (simp (counted, lt-leb _ _ less, and-false))
+
+    module _ (fits : Bool) (asked : fits ≡ mayHold tag (take (at + 3 + n - (at + 3)) (drop (at + 3) file))) where
+      allowed : mayHold tag (contentsIn (drop at file)) ≡ fits
+      allowed = ap (mayHold tag) contents-at ∙ sym asked
+
+      pub wrong-contents : fits ≡ false → at ≡ at + size tag (drop at file)
+      wrong-contents wrong = none (simp (allowed, wrong, and-false))
+
+      pub whole-field : fits ≡ true → getD file at 0 ≡ tag → n ≤ length file - at - 3 → at + 3 + n ≡ at + size tag (drop at file)
+      whole-field right same within =
+          let enough : 3 + lengthIn (drop at file) ≤ length (drop at file) = simp (length-drop, counted) (omega arith) in
+          let field = standing tag (drop at file) (tag-at ∙ same) enough (allowed ∙ right) in omega (arith, counted)
+
+-- one tag more is read
+pub one-more : (file : List ℕ) (at read end : ℕ) → end ≡ at + size (read + 1) (drop at file) → at ≤ length file → drop at file ≡ left read file
+    → (end ≤ length file) × (drop end file ≡ left (read + 1) file)
+unfolding left
+one-more file at read end e within here = (
+  omega (arith, size-within (read + 1) (drop at file), length-drop at file),
+  rw (e, ← drop-drop (size (read + 1) (drop at file)) at file, here, add-one read),
+)
+
+pub ruleset ends = (too-short, other-tag, runs-past, wrong-contents, whole-field)

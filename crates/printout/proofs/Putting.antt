@@ -1,0 +1,87 @@
+-- Texts that are put one after the other are one text: each starts where the one before it ends.
+use mathlib.Core.Path.{_≡_, refl, sym, ap, _∙_}
+use mathlib.Core.List.{List, [], _∷_, _++_}
+use Prim.Native.Nat.{ℕ, suc, _+_}
+use native.Mathlib.Nat.{add-zero, add-suc, suc-add}
+use native.Mathlib.Omega.{arith}
+use lib.ListN.{length, set, length-append}
+use lib.Seq.{sets, length-sets, set-comm}
+use Rattle.printout.specs.Lent.{put, Fits, Puts}
+
+sets-append : (l xs ys : List ℕ) (at p : ℕ) → p ≡ at + length xs → sets l at (xs ++ ys) ≡ sets (sets l at xs) p ys
+sets-append l [] ys at p e = ap (λ (q : ℕ). sets l q ys) (sym (e ∙ add-zero at))
+sets-append l (x ∷ xs) ys at p e =
+    sets-append (set l at x) xs ys (suc at) p (e ∙ add-suc at (length xs) ∙ sym (suc-add at (length xs)))
+
+put-append : (l xs ys : List ℕ) (at p : ℕ) → p ≡ at + length xs → put l at (xs ++ ys) ≡ put (put l at xs) p ys
+unfolding put
+put-append l xs ys at p e = sets-append l xs ys at p e
+
+pub length-put : (l : List ℕ) (at : ℕ) (xs : List ℕ) → length (put l at xs) ≡ length l
+unfolding put
+length-put l at xs = length-sets l at xs
+
+-- one character
+pub puts-one : (l : List ℕ) (at x : ℕ) → Puts (x ∷ []) at l (at + 1) (set l at x)
+unfolding put
+puts-one l at x = record { ends = refl; content = refl }
+
+-- one text, then another
+pub then : {xs ys l m n : List ℕ} {at p q : ℕ} → Puts xs at l p m → Puts ys p m q n → Puts (xs ++ ys) at l q n
+then {xs} {ys} {l} {m} {n} {at} {p} {q} one two = record {
+  ends = omega (arith, one .ends, two .ends, length-append xs ys);
+  content = two .content ∙ ap (λ (k : List ℕ). put k p ys) (one .content) ∙ sym (put-append l xs ys at p (one .ends));
+}
+
+-- where two texts fit, so does the first, and after it the second
+pub fits-first : {xs l : List ℕ} (ys : List ℕ) {at : ℕ} → Fits (xs ++ ys) at l → Fits xs at l
+fits-first {xs} {l} ys {at} both = record { room = omega (arith, both .room, length-append xs ys) }
+
+pub fits-next : {xs ys l m : List ℕ} {at p : ℕ} → Puts xs at l p m → Fits (xs ++ ys) at l → Fits ys p m
+fits-next {xs} {ys} {l} {m} {at} {p} one both = record {
+  room = omega (arith, one .ends, both .room, length-append xs ys, simp length-put at (ap length (one .content)));
+}
+
+pub ruleset chain = (fits-first, fits-next, then)
+
+-- what is left to put, put at a place, gives the whole
+pub record Left (rest : List ℕ) (p : ℕ) (m : List ℕ) (whole : List ℕ) (at : ℕ) (l : List ℕ) : Type 0 where
+  pub ends : p + length rest ≡ at + length whole
+  pub content : put m p rest ≡ put l at whole
+
+pub all-left : (l : List ℕ) (at : ℕ) (whole : List ℕ) → Left whole at l whole at l
+all-left l at whole = record { ends = refl; content = refl }
+
+pub less-left : {rest xs ys l m n whole : List ℕ} {at p q : ℕ} → rest ≡ xs ++ ys
+    → Left rest p m whole at l → Puts xs p m q n → Left ys q n whole at l
+less-left {rest} {xs} {ys} {l} {m} {n} {whole} {at} {p} {q} e more one = record {
+  ends = omega (arith, more .ends, one .ends, simp length-append at (ap length e));
+  content =
+      ap (λ (k : List ℕ). put k q ys) (one .content) ∙ sym (put-append m xs ys p q (one .ends))
+      ∙ ap (put m p) (sym e) ∙ more .content;
+}
+
+pub none-left : {rest l m whole : List ℕ} {at p : ℕ} → rest ≡ [] → Left rest p m whole at l → Puts whole at l p m
+unfolding put
+none-left {rest} {l} {m} {whole} {at} {p} e left =
+    record { ends = omega (arith, left .ends, ap length e); content = ap (put m p) (sym e) ∙ left .content }
+
+pub same-room : {rest m whole l : List ℕ} {p at : ℕ} → Left rest p m whole at l → length m ≡ length l
+same-room {rest} {m} {whole} {l} {p} {at} left = sym (length-put m p rest) ∙ ap length (left .content) ∙ length-put l at whole
+
+pub fits-left : {rest xs l m whole : List ℕ} (ys : List ℕ) {at p : ℕ} → rest ≡ xs ++ ys
+    → Left rest p m whole at l → Fits whole at l → Fits xs p m
+fits-left {rest} {xs} {l} {m} {whole} ys {at} {p} e left fits = record {
+  room = omega (arith, left .ends, fits .room, simp length-append at (ap length e), same-room left);
+}
+
+-- a character after a text, put before it
+sets-after : (l xs : List ℕ) (at p x : ℕ) → p ≡ at + length xs → sets (set l p x) at xs ≡ sets l at (xs ++ (x ∷ []))
+sets-after l [] at p x e = ap (λ (q : ℕ). set l q x) (e ∙ add-zero at)
+sets-after l (y ∷ ys) at p x e =
+    ap (λ (k : List ℕ). sets k (suc at) ys) (set-comm l p at x y (λ (same : p ≡ at). omega arith))
+    ∙ sets-after (set l at y) ys (suc at) p x (e ∙ add-suc at (length ys) ∙ sym (suc-add at (length ys)))
+
+pub put-after : (l xs : List ℕ) (at p x : ℕ) → p ≡ at + length xs → put (set l p x) at xs ≡ put l at (xs ++ (x ∷ []))
+unfolding put
+put-after l xs at p x e = sets-after l xs at p x e

@@ -1,0 +1,97 @@
+-- What a buffer gets: nothing where it is shorter than the text, and the text where that was put at its start.
+use mathlib.Core.Path.{_≡_, refl, sym, ap, subst, _∙_}
+use mathlib.Core.Bool.{Bool, true, false, not, cond}
+use mathlib.Core.List.{List, _++_}
+use Prim.Native.Nat.{ℕ, _+_, _-_, _*_, _/_, _≤_, _<_}
+use native.Mathlib.Nat.{zero-add}
+use native.Mathlib.Omega.{arith}
+use borrow.Author.Tests.{leb-true, leb-false, le-leb, lt-leb, not-true, not-false}
+use lib.Dec.{leb}
+use lib.ListN.{length, drop, length-append}
+use lib.Seq.{sets-eq}
+use Rattle.printout.specs.declared.Ending.{Ending}
+use Rattle.printout.specs.Characters.{places}
+use Rattle.printout.specs.Lines.{reportText, reportLength, refusalText}
+use Rattle.printout.specs.Lent.{put, Fits, Puts, Printed, printing, printed}
+use Rattle.printout.proofs.Lengths.{length-refusal, length-report}
+
+pub headings-short : (headings buffer total : ℕ) → buffer < headings → headings ≤ total → false ≡ leb total buffer
+headings-short headings buffer total short least = sym (lt-leb total buffer (omega arith))
+
+-- so much memory has room after the headings
+pub memory-fits : (headings memory buffer total : ℕ) → headings ≤ buffer → total ≡ headings + 3 * memory
+    → leb memory ((buffer - headings) / 3) ≡ leb total buffer
+memory-fits headings memory buffer total enough sum = go (leb memory ((buffer - headings) / 3)) refl
+  where
+    go : (t : Bool) → leb memory ((buffer - headings) / 3) ≡ t → t ≡ leb total buffer
+    go true e = sym (le-leb total buffer (omega (arith, leb-true memory ((buffer - headings) / 3) e)))
+    go false e = sym (lt-leb total buffer (omega (arith, leb-false memory ((buffer - headings) / 3) e)))
+
+module _ (text buffer : List ℕ) where
+  pub too-short : length buffer < length text → printing 0 buffer ≡ printed text buffer
+  unfolding printed
+  too-short short = rw (lt-leb _ _ short)
+
+  pub whole : (end : ℕ) (after : List ℕ) → Fits text 0 buffer → Puts text 0 buffer end after → printing end after ≡ printed text buffer
+  unfolding printed put
+  whole end after fits puts =
+      let enough : length text ≤ length buffer = omega (arith, fits .room) in
+      let all : end ≡ length text = omega (arith, puts .ends) in
+      let content : after ≡ text ++ drop (length text) buffer =
+      puts .content ∙ sets-eq text buffer 0 (fits .room) ∙ ap (λ (k : ℕ). text ++ drop k buffer) (zero-add (length text)) in
+      rw (le-leb _ _ enough, all, content)
+
+-- no more is written than the buffer has
+pub written-within : (written : ℕ) (after text buffer : List ℕ) → printing written after ≡ printed text buffer → written ≤ length after
+unfolding printed
+written-within written after text buffer e = subst (λ (p : Printed). p .written ≤ length (p .buffer)) (sym e) (go (leb (length text) (length buffer)))
+  where
+    either : Bool → Printed
+    either t = cond t (printing (length text) (text ++ drop (length text) buffer)) (printing 0 buffer)
+
+    go : (t : Bool) → either t .written ≤ length (either t .buffer)
+    go true = simp length-append (omega arith)
+    go false = omega arith
+
+-- a file's refusal, where the buffer is held against what was counted
+module _ (number count : ℕ) (buffer : List ℕ) (counted : count ≡ places number number) where
+  pub refusal-short : length buffer < 8 + count + 1 → printing 0 buffer ≡ printed (refusalText number) buffer
+  refusal-short short = too-short (refusalText number) buffer (omega (arith, length-refusal number))
+
+  pub refusal-fits : 8 + count + 1 ≤ length buffer → Fits (refusalText number) 0 buffer
+  refusal-fits enough = record { room = omega (arith, length-refusal number) }
+
+  pub refusal-printed : (end : ℕ) (after : List ℕ) → 8 + count + 1 ≤ length buffer → Puts (refusalText number) 0 buffer end after
+      → printing end after ≡ printed (refusalText number) buffer
+  refusal-printed end after enough puts = whole (refusalText number) buffer end after (refusal-fits enough) puts
+
+-- a report, where the test of its room is made; the integer registers are put as wider numbers
+module _ (ending : Ending) (count position : ℕ) (mmx integers : List ℕ) (valid : Bool) (memory buffer : List ℕ) (enough : Bool)
+    (tested : enough ≡ leb (reportLength ending count position (length memory)) (length buffer))
+    (eight : length mmx ≡ 8) (eight′ : length integers ≡ 8) where
+  pub report-short : not enough ≡ true → printing 0 buffer ≡ printed (reportText ending count position mmx integers valid memory) buffer
+  report-short failed =
+      too-short (reportText ending count position mmx integers valid memory) buffer
+      (omega (
+        arith,
+        leb-false _ (length buffer) (sym tested ∙ not-true enough failed),
+        length-report ending count position mmx integers valid memory eight eight′,
+      ))
+
+  module _ (wide : List ℕ) (same : wide ≡ integers) (passed : not enough ≡ false) where
+    pub report-fits : Fits (reportText ending count position mmx wide valid memory) 0 buffer
+    report-fits = rw same (
+        record {
+          room = omega (
+            arith,
+            leb-true _ (length buffer) (sym tested ∙ not-false enough passed),
+            length-report ending count position mmx integers valid memory eight eight′,
+          );
+        })
+
+    pub report-printed : (end : ℕ) (after : List ℕ) → Puts (reportText ending count position mmx wide valid memory) 0 buffer end after
+        → printing end after ≡ printed (reportText ending count position mmx integers valid memory) buffer
+    report-printed end after puts =
+        whole (reportText ending count position mmx integers valid memory) buffer end after (rw same at report-fits) (rw same at puts)
+
+pub ruleset rooms = (refusal-short, refusal-fits, refusal-printed, report-short, report-fits, report-printed)

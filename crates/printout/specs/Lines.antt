@@ -1,0 +1,78 @@
+-- What the page program prints, line by line.
+use mathlib.Core.Bool.{Bool, cond}
+use mathlib.Core.List.{List, [], _∷_, _++_}
+use Prim.Native.Char.{code}
+use Prim.Native.Nat.{ℕ, suc, _+_, _*_, _%_}
+use lib.Dec.{eqb}
+use lib.ListN.{length, take, drop}
+use Rattle.printout.specs.Characters.{ascii, newline, hex, decimal}
+use Rattle.printout.specs.declared.Ending.{Ending}
+use Rattle.printout.specs.declared.Ending.the-variants.{Done, Spent, Refused}
+
+-- `refused 13`
+abbrev pub refused : ℕ → List ℕ
+refused number = ascii "refused " ++ decimal number
+
+-- `done`, `spent` or `refused 10`
+unfoldable pub answer : Ending → List ℕ
+answer Done = ascii "done"
+answer Spent = ascii "spent"
+answer (Refused number) = refused number
+
+-- ` 1 at 3`
+unfoldable pub progress : ℕ → ℕ → List ℕ
+progress count position = (ascii " " ++ decimal count) ++ (ascii " at " ++ decimal position) ++ newline
+
+-- `done 1 at 3`
+unfoldable pub firstLine : Ending → ℕ → ℕ → List ℕ
+firstLine ending count position = answer ending ++ progress count position
+
+-- `mm0 0000000000000001`: a name of three letters and a space, and the register's hex digits
+unfoldable pub registerLines : List ℕ → ℕ → List ℕ → List ℕ
+registerLines names k [] = []
+registerLines names k (value ∷ values) = take 4 names ++ hex k value ++ newline ++ registerLines (drop 4 names) k values
+
+-- the lines of MM0 to MM7, and of the integer registers in the order of their numbers
+abbrev pub mmxNames : List ℕ
+mmxNames = ascii "mm0 mm1 mm2 mm3 mm4 mm5 mm6 mm7 "
+
+abbrev pub integerNames : List ℕ
+integerNames = ascii "eax ecx edx ebx esp ebp esi edi "
+
+unfoldable pub mmxLines : List ℕ → List ℕ
+mmxLines values = registerLines mmxNames 16 values
+
+unfoldable pub integerLines : List ℕ → List ℕ
+integerLines values = registerLines integerNames 8 values
+
+-- `tags valid` or `tags empty`
+unfoldable pub tagsLine : Bool → List ℕ
+tagsLine valid = cond valid (ascii "tags valid\n") (ascii "tags empty\n")
+
+-- `memory 32768`
+unfoldable pub memoryLine : ℕ → List ℕ
+memoryLine count = ascii "memory " ++ decimal count ++ newline
+
+-- after a byte comes a line end, if it is the 16th of its line or if none follows it; else a space
+abbrev pub gapAfter : ℕ → ℕ → ℕ
+gapAfter index following = cond (eqb (index % 16) 15) (code "\n") (cond (eqb following 0) (code "\n") (code " "))
+
+-- the bytes of a memory from an index on: two hex digits each
+unfoldable pub byteLines : ℕ → List ℕ → List ℕ
+byteLines index [] = []
+byteLines index (byte ∷ bytes) = hex 2 byte ++ (gapAfter index (length bytes) ∷ []) ++ byteLines (suc index) bytes
+
+-- all that is printed of a run
+unfoldable pub reportText : Ending → ℕ → ℕ → List ℕ → List ℕ → Bool → List ℕ → List ℕ
+reportText ending count position mmx integers valid memory =
+    (firstLine ending count position ++ mmxLines mmx ++ integerLines integers)
+    ++ (tagsLine valid ++ memoryLine (length memory) ++ byteLines 0 memory)
+
+-- how long that is with n bytes of memory: 8 lines of 21 characters, 8 of 13 and one of 11 stand between the first line and the memory's heading
+abbrev pub reportLength : Ending → ℕ → ℕ → ℕ → ℕ
+reportLength ending count position n =
+    length (firstLine ending count position) + (8 * 21 + 8 * 13 + 11) + length (memoryLine n) + 3 * n
+
+-- all that is printed of a refused file
+unfoldable pub refusalText : ℕ → List ℕ
+refusalText number = refused number ++ newline

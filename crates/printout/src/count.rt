@@ -1,0 +1,105 @@
+// How many characters the text has.
+ghost use mathlib.Core.Path.{_≡_};
+ghost use Prim.Native.Nat.{_≤_};
+ghost use lib.Dec.{leb};
+ghost use lib.ListN.{length};
+ghost use Rattle.printout.specs.Lines.{answer, firstLine, reportLength};
+use crate::Ending;
+use crate::put::decimal_places;
+
+// The characters of `done`, `spent` and `refused `, and of a line end.
+const DONE: usize = 4;
+
+const SPENT: usize = 5;
+
+pub(crate) const REFUSED: usize = 8;
+
+pub(crate) const LINE_END: usize = 1;
+
+// The characters beside the numbers of the first line (` `, ` at ` and its end), and of the memory's heading (`memory ` and its end).
+const FIRST_LINE: usize = 6;
+
+const MEMORY_LINE: usize = 8;
+
+// How many registers there are of each kind, the characters of a name with the space after it, and the hex digits.
+pub(crate) const REGISTERS: usize = 8;
+
+pub(crate) const NAME: usize = 4;
+
+pub(crate) const MMX_DIGITS: usize = 16;
+
+pub(crate) const INTEGER_DIGITS: usize = 8;
+
+// The characters of all lines of the registers, and of the line of the tags.
+const MMX_LINES: usize = REGISTERS * (NAME + MMX_DIGITS + LINE_END);
+
+const INTEGER_LINES: usize = REGISTERS * (NAME + INTEGER_DIGITS + LINE_END);
+
+const TAGS_LINE: usize = 11;
+
+// The hex digits of a byte of the memory, and its characters with the one after it.
+pub(crate) const BYTE_DIGITS: usize = 2;
+
+const BYTE: usize = BYTE_DIGITS + 1;
+
+// The digits of the longest refusal, of the largest number, and of the largest memory's length.
+const REFUSAL_DIGITS: usize = 3;
+
+const NUMBER_DIGITS: usize = 20;
+
+const MEMORY_DIGITS: usize = 5;
+
+// The bytes of the largest memory.
+const LARGEST_MEMORY: usize = 32768;
+
+// The characters of a report where all numbers are longest: without the memory's bytes, and with them.
+const HEADINGS: usize = REFUSED
+    + REFUSAL_DIGITS
+    + 2 * NUMBER_DIGITS
+    + FIRST_LINE
+    + MMX_LINES
+    + INTEGER_LINES
+    + TAGS_LINE
+    + MEMORY_DIGITS
+    + MEMORY_LINE;
+
+pub(crate) const LONGEST: usize = HEADINGS + BYTE * LARGEST_MEMORY;
+
+// How many characters the answer has.
+fn answer_length(ending: Ending) -> usize
+    ensures { λ r. ⌜ (r ≡ length (answer ending)) × (r ≤ 28) ⌝ }
+{
+    match ending {
+        Ending::Done => DONE,
+        Ending::Spent => SPENT,
+        Ending::Refused(number) => REFUSED + decimal_places(number as u64),
+    }
+}
+
+// How many characters the first line has.
+fn first_line_length(ending: Ending, count: usize, position: usize) -> usize
+    ensures { λ r. ⌜ (r ≡ length (firstLine ending count position)) × (r ≤ 74) ⌝ }
+{
+    answer_length(ending)
+        + decimal_places(count as u64)
+        + decimal_places(position as u64)
+        + FIRST_LINE
+}
+
+// Whether a buffer is as long as the report.
+pub(crate) fn has_room(
+    buffer: usize,
+    ending: Ending,
+    count: usize,
+    position: usize,
+    memory: usize,
+) -> bool
+    ensures { λ r. ⌜ r ≡ leb (reportLength ending count position memory) buffer ⌝ }
+{
+    let numbers = first_line_length(ending, count, position) + decimal_places(memory as u64);
+    let headings = numbers + MMX_LINES + INTEGER_LINES + TAGS_LINE + MEMORY_LINE;
+    if buffer < headings {
+        return false;
+    }
+    memory <= (buffer - headings) / BYTE
+}

@@ -1,0 +1,160 @@
+// The lines of the text, put at a place of a lent buffer.
+ghost use mathlib.Core.Path.{_≡_};
+ghost use mathlib.Core.List.{[], _∷_, _++_};
+ghost use Prim.Native.Nat.{_*_};
+ghost use lib.ListN.{length};
+ghost use Rattle.printout.specs.Characters.{newline, hex};
+ghost use Rattle.printout.specs.Lines.{answer, progress, firstLine, registerLines, tagsLine, memoryLine, gapAfter, byteLines};
+ghost use Rattle.printout.specs.Lent.{Fits, Puts};
+use crate::Ending;
+use crate::count::BYTE_DIGITS;
+use crate::count::NAME;
+use crate::count::REGISTERS;
+use crate::put::HEXADECIMAL;
+use crate::put::put_character;
+use crate::put::put_digits;
+use crate::put::put_number;
+use crate::put::put_word;
+
+// How many bytes of the memory stand on a line.
+const LINE: usize = 16;
+
+// How a run ended.
+fn put_answer(out: &mut [u8], at: usize, ending: Ending) -> usize
+    requires { ⌜ Fits (answer ending) at (now out) ⌝ }
+    ensures { λ r. ⌜ Puts (answer ending) at (now (out .entry)) r (now (out .exit)) ⌝ }
+{
+    match ending {
+        Ending::Done => put_word(out, at, b"done"),
+        Ending::Spent => put_word(out, at, b"spent"),
+        Ending::Refused(number) => put_number(out, at, b"refused ", number as u64),
+    }
+}
+
+// How many instructions are completed, and the position.
+fn put_progress(out: &mut [u8], at: usize, count: usize, position: usize) -> usize
+    requires { ⌜ Fits (progress count position) at (now out) ⌝ }
+    ensures { λ r. ⌜ Puts (progress count position) at (now (out .entry)) r (now (out .exit)) ⌝ }
+{
+    let mut end = put_number(out, at, b" ", count as u64);
+    end = put_number(out, end, b" at ", position as u64);
+    put_character(out, end, b'\n')
+}
+
+// The first line.
+pub(crate) fn put_first_line(
+    out: &mut [u8],
+    at: usize,
+    ending: Ending,
+    count: usize,
+    position: usize,
+) -> usize
+    requires { ⌜ Fits (firstLine ending count position) at (now out) ⌝ }
+    ensures { λ r. ⌜ Puts (firstLine ending count position) at (now (out .entry)) r (now (out .exit)) ⌝ }
+{
+    let end = put_answer(out, at, ending);
+    put_progress(out, end, count, position)
+}
+
+// A register's line.
+fn put_register(out: &mut [u8], at: usize, name: &[u8], value: u64, count: usize) -> usize
+    requires { ⌜ Fits (now name ++ hex count value ++ newline) at (now out) ⌝ }
+    ensures { λ r. ⌜ Puts (now (name .entry) ++ hex count value ++ newline) at (now (out .entry)) r (now (out .exit)) ⌝ }
+{
+    let mut end = put_word(out, at, name);
+    end = put_digits(out, end, value, HEXADECIMAL, count);
+    put_character(out, end, b'\n')
+}
+
+// The lines of registers.
+pub(crate) fn put_registers(
+    out: &mut [u8],
+    at: usize,
+    names: &[u8],
+    values: &[u64],
+    count: usize,
+) -> usize
+    requires { ⌜ (length (now names) ≡ 4 * length (now values)) × Fits (registerLines (now names) count (now values)) at (now out) ⌝ }
+    ensures { λ r. ⌜ Puts (registerLines (now (names .entry)) count (now (values .entry))) at (now (out .entry)) r (now (out .exit)) ⌝ }
+{
+    let mut end = at;
+    let mut i: usize = 0;
+    while i < values.len() {
+        end = put_register(
+            out,
+            end,
+            &names[NAME * i..NAME * i + NAME],
+            values[i],
+            count,
+        );
+        i += 1;
+    }
+    end
+}
+
+// The integer registers as wider numbers.
+pub(crate) fn widened(values: [u32; 8]) -> [u64; 8]
+    ensures { λ r. ⌜ r ≡ values ⌝ }
+{
+    let mut wide: [u64; 8] = [0; 8];
+    let mut i: usize = 0;
+    while i < REGISTERS {
+        wide[i] = values[i] as u64;
+        i += 1;
+    }
+    wide
+}
+
+// The line of the tags.
+pub(crate) fn put_tags_line(out: &mut [u8], at: usize, valid: bool) -> usize
+    requires { ⌜ Fits (tagsLine valid) at (now out) ⌝ }
+    ensures { λ r. ⌜ Puts (tagsLine valid) at (now (out .entry)) r (now (out .exit)) ⌝ }
+{
+    if valid {
+        put_word(out, at, b"tags valid\n")
+    } else {
+        put_word(out, at, b"tags empty\n")
+    }
+}
+
+// The memory's heading.
+pub(crate) fn put_memory_line(out: &mut [u8], at: usize, count: usize) -> usize
+    requires { ⌜ Fits (memoryLine count) at (now out) ⌝ }
+    ensures { λ r. ⌜ Puts (memoryLine count) at (now (out .entry)) r (now (out .exit)) ⌝ }
+{
+    let end = put_number(out, at, b"memory ", count as u64);
+    put_character(out, end, b'\n')
+}
+
+// What stands after a byte of the memory.
+fn gap_after(index: usize, following: usize) -> u8
+    ensures { λ r. ⌜ r ≡ gapAfter index following ⌝ }
+{
+    if index % LINE == LINE - 1 {
+        return b'\n';
+    }
+    if following == 0 { b'\n' } else { b' ' }
+}
+
+// A byte of the memory, and what stands after it.
+fn put_byte(out: &mut [u8], at: usize, byte: u8, gap: u8) -> usize
+    requires { ⌜ Fits (hex 2 byte ++ (gap ∷ [])) at (now out) ⌝ }
+    ensures { λ r. ⌜ Puts (hex 2 byte ++ (gap ∷ [])) at (now (out .entry)) r (now (out .exit)) ⌝ }
+{
+    let end = put_digits(out, at, byte as u64, HEXADECIMAL, BYTE_DIGITS);
+    put_character(out, end, gap)
+}
+
+// The lines of the memory's bytes.
+pub(crate) fn put_byte_lines(out: &mut [u8], at: usize, memory: &[u8]) -> usize
+    requires { ⌜ Fits (byteLines 0 (now memory)) at (now out) ⌝ }
+    ensures { λ r. ⌜ Puts (byteLines 0 (now (memory .entry))) at (now (out .entry)) r (now (out .exit)) ⌝ }
+{
+    let mut end = at;
+    let mut i: usize = 0;
+    while i < memory.len() {
+        end = put_byte(out, end, memory[i], gap_after(i, memory.len() - i - 1));
+        i += 1;
+    }
+    end
+}

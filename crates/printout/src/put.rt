@@ -1,0 +1,83 @@
+// Characters, words and numbers, put at a place of a lent buffer. Each function answers the place after what it put.
+ghost use mathlib.Core.Path.{_≡_};
+ghost use mathlib.Core.List.{[], _∷_, _++_};
+ghost use Prim.Native.Nat.{_<_, _≤_};
+ghost use Rattle.printout.specs.Characters.{digitOf, digits, places, decimal};
+ghost use Rattle.printout.specs.Lent.{Fits, Puts};
+
+// The bases of the numbers.
+pub(crate) const DECIMAL: u64 = 10;
+
+pub(crate) const HEXADECIMAL: u64 = 16;
+
+// One digit, 0 to 9 or A to F.
+fn digit(value: u64) -> u8
+    requires { ⌜ value < 16 ⌝ }
+    ensures { λ r. ⌜ r ≡ digitOf value ⌝ }
+{
+    if value < DECIMAL {
+        b'0' + value as u8
+    } else {
+        b'A' + (value - DECIMAL) as u8
+    }
+}
+
+// One character.
+pub(crate) fn put_character(out: &mut [u8], at: usize, character: u8) -> usize
+    requires { ⌜ Fits (character ∷ []) at (now out) ⌝ }
+    ensures { λ r. ⌜ Puts (character ∷ []) at (now (out .entry)) r (now (out .exit)) ⌝ }
+{
+    out[at] = character;
+    at + 1
+}
+
+// A word.
+pub(crate) fn put_word(out: &mut [u8], at: usize, word: &[u8]) -> usize
+    requires { ⌜ Fits (now word) at (now out) ⌝ }
+    ensures { λ r. ⌜ Puts (now (word .entry)) at (now (out .entry)) r (now (out .exit)) ⌝ }
+{
+    let mut end = at;
+    let mut i: usize = 0;
+    while i < word.len() {
+        end = put_character(out, end, word[i]);
+        i += 1;
+    }
+    end
+}
+
+// The lowest digits of a number, from the last one to the first.
+pub(crate) fn put_digits(out: &mut [u8], at: usize, number: u64, base: u64, count: usize) -> usize
+    requires { ⌜ (0 < base) × (base ≤ 16) × Fits (digits base count number) at (now out) ⌝ }
+    ensures { λ r. ⌜ Puts (digits base count number) at (now (out .entry)) r (now (out .exit)) ⌝ }
+{
+    let mut rest = number;
+    let mut left = count;
+    while 0 < left {
+        left -= 1;
+        out[at + left] = digit(rest % base);
+        rest = rest / base;
+    }
+    at + count
+}
+
+// How many decimal digits a number has.
+pub(crate) fn decimal_places(number: u64) -> usize
+    ensures { λ r. ⌜ (r ≡ places number number) × (r ≤ 20) ⌝ }
+{
+    let mut count: usize = 1;
+    let mut rest = number;
+    while DECIMAL <= rest {
+        rest = rest / DECIMAL;
+        count += 1;
+    }
+    count
+}
+
+// A word, and a number in decimal.
+pub(crate) fn put_number(out: &mut [u8], at: usize, word: &[u8], number: u64) -> usize
+    requires { ⌜ Fits (now word ++ decimal number) at (now out) ⌝ }
+    ensures { λ r. ⌜ Puts (now (word .entry) ++ decimal number) at (now (out .entry)) r (now (out .exit)) ⌝ }
+{
+    let end = put_word(out, at, word);
+    put_digits(out, end, number, DECIMAL, decimal_places(number))
+}
