@@ -42,7 +42,7 @@ bytes-in (suc size) a b low high = go (decLt a b) (bytes-in size (a + 1) b)
     go (yes p) rest = later (rest (omega arith) (omega arith))
     go (no p) rest = let same : b ≡ a = omega arith in here same
 
-count-bytes : (size a : ℕ) → length (bytesOf (bytesFrom a size)) ≡ size
+pub count-bytes : (size a : ℕ) → length (bytesOf (bytesFrom a size)) ≡ size
 count-bytes zero a = refl
 count-bytes (suc size) a = ap suc (count-bytes size (a + 1))
 
@@ -98,7 +98,7 @@ module _ (s : State) where
   unmarked false false false vs o h = h
 
   -- the places of a list of one operand
-  abbrev one : Result (List Place) → Result (List Place)
+  abbrev pub one : Result (List Place) → Result (List Place)
   one o = andThen o (λ ps. mapResult (λ qs. ps ++ qs) (done []))
 
   nothing-after : (ps : List Place) → Range (bytesOf ps) → Range (bytesOf (ps ++ []))

@@ -21,7 +21,7 @@ onward further count (refusedWith n at t) = stopped n at count t
 
 -- the tests of a run's start are passed, and the position is not the end
 module _ (code : List ℕ) (at : ℕ) (s : State) (memory-fits : isTooLong (s .memory) ≡ false) (code-fits : ltb longestCode (length code) ≡ false) where
-  instruction-here : instructionAt code at s ≡ read (drop at code)
+  pub instruction-here : instructionAt code at s ≡ read (drop at code)
   unfolding instructionAt read readAt
   instruction-here = simp (memory-fits, code-fits)
 

@@ -14,3 +14,5 @@ pub mod Runs
 pub mod Footprints
 pub mod Prints
 pub mod Starts
+pub mod Works
+pub mod PrintShapes

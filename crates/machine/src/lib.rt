@@ -1,5 +1,17 @@
 // The player's machine: its state, and what a step, a run and a footprint answer.
+mod addresses;
+mod footprints;
+mod gathering;
+mod meetings;
+mod numbers;
+mod reaches;
+mod register_masks;
+mod running;
+mod shifts;
 mod starting;
+mod stepping;
+
+pub use meetings::meets;
 
 // The registers and marks. The memory is lent to each call beside them.
 pub struct Machine {

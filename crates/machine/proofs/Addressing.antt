@@ -1,0 +1,84 @@
+-- The address that the code sums up: each sum wraps at 2^32, and so the whole does once. Rules for the functions of addresses.
+use mathlib.Core.Path.{_≡_, ap, ap₂, _∙_}
+use mathlib.Core.Bool.{and-false}
+use mathlib.Core.List.{List}
+use Prim.Native.Nat.{ℕ, suc, _+_, _*_, _-_, _^_, _%_, _≤_, _<_}
+use native.Mathlib.Nat.{mul-one, add-zero, mul-add, add-mod, mod-add-mod, add-mod-mod, two-pow-succ}
+use native.Mathlib.Omega.{arith}
+use borrow.Author.Needs.{needs}
+use borrow.Author.Tests.{eq-eqb, ne-eqb, le-leb, lt-leb}
+use lib.Dec.{eqb}
+use lib.ListN.{getD}
+use Rattle.codec.specs.Operands.{hasSib}
+use Rattle.codec.specs.declared.Operand.{Operand}
+use Rattle.machine.specs.Addresses.{displacementOf, baseOf, indexOf, addressOf, registerPart, address}
+
+-- the displacement
+module _ (mode displacement : ℕ) where
+  pub extended-none : (mode ≡ 1 → ⊥) → displacement < 2 ^ 32 → displacement ≡ displacementOf mode displacement % 2 ^ 32
+  unfolding displacementOf
+  extended-none other h = simp (ne-eqb mode 1 other) (omega arith)
+
+  pub extended-low : mode ≡ 1 → displacement < 128 → displacement ≡ displacementOf mode displacement % 2 ^ 32
+  unfolding displacementOf
+  extended-low byte h = simp (lt-leb 128 displacement h, and-false (eqb mode 1)) (omega arith)
+
+  pub extended-high : (r : ℕ) → mode ≡ 1 → 128 ≤ displacement → r ≡ (displacement + 0xffffff00) % 2 ^ 32 → r ≡ displacementOf mode displacement % 2 ^ 32
+  unfolding displacementOf
+  extended-high r byte h e = simp (eq-eqb mode 1 byte, le-leb 128 displacement h) e
+
+-- the registers
+module _ (integers : List ℕ) (register : ℕ) where
+  pub base-named : (mode : ℕ) → (register ≡ 5 → ⊥) → getD integers register 0 ≡ registerPart integers (baseOf mode register)
+  unfolding baseOf
+  base-named mode other = simp (ne-eqb register 5 other, and-false (eqb mode 0))
+
+  pub base-none : (mode : ℕ) → register ≡ 5 → mode ≡ 0 → 0 ≡ registerPart integers (baseOf mode register)
+  unfolding baseOf
+  base-none mode five none = simp (eq-eqb register 5 five, eq-eqb mode 0 none)
+
+  pub base-five : (mode : ℕ) → (mode ≡ 0 → ⊥) → getD integers register 0 ≡ registerPart integers (baseOf mode register)
+  unfolding baseOf
+  base-five mode some = simp (ne-eqb mode 0 some)
+
+  pub index-named : (register ≡ 4 → ⊥) → getD integers register 0 ≡ registerPart integers (indexOf register)
+  unfolding indexOf
+  index-named other = simp (ne-eqb register 4 other)
+
+  pub index-none : register ≡ 4 → 0 ≡ registerPart integers (indexOf register)
+  unfolding indexOf
+  index-none four = simp (eq-eqb register 4 four)
+
+-- the scale: what has been doubled as often as is not left of it
+pub scale-starts : (x scale : ℕ) → x < 2 ^ 32 → x ≡ x * 2 ^ (scale - scale) % 2 ^ 32
+scale-starts x scale h = let none : scale - scale ≡ 0 = omega arith in rw none (rw mul-one (omega arith))
+
+pub scale-doubles : (x scale left d r : ℕ) → d ≡ x * 2 ^ (scale - left) % 2 ^ 32 → r ≡ (d + d) % 2 ^ 32 → 0 < left → left ≤ scale
+    → r ≡ x * 2 ^ (scale - (left - 1)) % 2 ^ 32
+scale-doubles x scale left d r e f some h =
+    let once-more : scale - (left - 1) ≡ suc (scale - left) = omega arith in
+    rw (once-more, two-pow-succ (scale - left), mul-add, add-mod, ← e) f
+
+pub scale-ends : (x scale left d : ℕ) → d ≡ x * 2 ^ (scale - left) % 2 ^ 32 → left ≤ 0 → d ≡ x * 2 ^ scale % 2 ^ 32
+scale-ends x scale left d e none = e ∙ ap (λ (n : ℕ). x * 2 ^ n % 2 ^ 32) (omega arith)
+
+-- the sums
+module _ (integers : List ℕ) (w : Operand) (d : ℕ) (displaced : d ≡ displacementOf (w .mode) (w .displacement) % 2 ^ 32) where
+  pub sum-plain : (start r : ℕ) → (w .rm ≡ 4 → ⊥) → start ≡ registerPart integers (baseOf (w .mode) (w .rm)) → r ≡ (start + d) % 2 ^ 32
+      → r ≡ address integers (addressOf w)
+  unfolding address addressOf hasSib
+  sum-plain start r plain based summed =
+      simp (ne-eqb (w .rm) 4 plain, and-false, ← based, add-zero) (summed ∙ ap (λ (n : ℕ). (start + n) % 2 ^ 32) displaced ∙ add-mod-mod start _ _)
+
+  pub sum-sib : (start index x from r : ℕ) → (w .mode ≡ 3 → ⊥) → w .rm ≡ 4 → start ≡ registerPart integers (baseOf (w .mode) (w .base))
+      → index ≡ registerPart integers (indexOf (w .index)) → x ≡ index * 2 ^ (w .scale) % 2 ^ 32
+      → from ≡ (start + x) % 2 ^ 32 → r ≡ (from + d) % 2 ^ 32
+      → r ≡ address integers (addressOf w)
+  unfolding address addressOf hasSib
+  sum-sib start index x from r memory sib based indexed scaled-by summed displaced-by =
+      simp (ne-eqb (w .mode) 3 memory, eq-eqb (w .rm) 4 sib, ← based, ← indexed)
+      (displaced-by
+      ∙ ap₂ (λ (m n : ℕ). (m + n) % 2 ^ 32) (summed ∙ ap (λ (n : ℕ). (start + n) % 2 ^ 32) scaled-by ∙ add-mod-mod start _ _) displaced
+      ∙ add-mod-mod _ _ _ ∙ mod-add-mod _ _ _)
+
+pub ruleset addressing = (needs, extended-none, extended-low, extended-high, base-named, base-none, base-five, index-named, index-none, scale-starts, scale-doubles, scale-ends, sum-plain, sum-sib)

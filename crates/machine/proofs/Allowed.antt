@@ -1,0 +1,104 @@
+-- Any two answers that a public contract allows at one input are equal, and so is what they leave in the lent memory: each contract is one
+-- equation, and the paper's answer gives back the code's, with the memory.
+use mathlib.Core.Path.{_≡_, refl, sym, ap, _∙_}
+use mathlib.Core.List.{List}
+use Prim.Native.Nat.{ℕ}
+use contract.Lifetimes.{Lfts}
+use borrow.Fn.Kinds.{Dens, resT, endedOf}
+use denote.Triple.Clauses.{AtExit}
+use denote.Ref.{now}
+use Rattle.reorder.specs.Run.{Answer, finished, spent, stopped}
+use Rattle.machine.specs.declared.Machine.{Machine}
+use Rattle.machine.specs.declared.Taken.{Taken}
+use Rattle.machine.specs.declared.Taken.the-variants as taken
+use Rattle.machine.specs.declared.Stepped.{Stepped}
+use Rattle.machine.specs.declared.End.{End}
+use Rattle.machine.specs.declared.End.the-variants as end
+use Rattle.machine.specs.declared.Ran.{Ran}
+use Rattle.machine.specs.State.{State, stateOf}
+use Rattle.machine.specs.Steps.{Outcome, completed, refusedWith, outcomeOf, outcome}
+use Rattle.machine.specs.Runs.{answerOf, answered}
+use Rattle.machine.proofs.Machine.step.Reads as step-reads
+use Rattle.machine.proofs.Machine.step.Kinds as step-kinds
+use Rattle.machine.proofs.Machine.run.Reads as run-reads
+use Rattle.machine.proofs.Machine.run.Kinds as run-kinds
+use Rattle.reorder.specs.Result.{Result, done, refused}
+use Rattle.machine.specs.declared.Footprint.{Footprint}
+use Rattle.machine.specs.declared.Printed.{Printed}
+use Rattle.machine.specs.declared.Printed.the-variants as printed
+use Rattle.machine.specs.Prints.{printGiven}
+use Rattle.machine.proofs.Machine.footprint.Reads as footprint-reads
+use Rattle.machine.proofs.Machine.footprint.Kinds as footprint-kinds
+use Rattle.machine.proofs.meetings.meets.Reads as meets-reads
+use Rattle.machine.proofs.meetings.meets.Kinds as meets-kinds
+use Rattle.machine.proofs.Machine.from_page.Reads as from-page-reads
+use Rattle.machine.proofs.Machine.from_page.Kinds as from-page-kinds
+
+-- a step's answer and the memory, from the paper's answer
+record After (A : Type 0) : Type 0 where
+  answer : A
+  memory : List ℕ
+
+stepBack : Outcome → After Stepped
+stepBack (completed at s) = record { answer = record { answer = taken.Completed; machine = s .machine; at = at }; memory = s .memory }
+stepBack (refusedWith n at s) = record { answer = record { answer = taken.Refused n; machine = s .machine; at = at }; memory = s .memory }
+
+step-back : (a : Taken) (at : ℕ) (k : Machine) (m : List ℕ)
+    → stepBack (outcomeOf a at (stateOf k m)) ≡ record { answer = record { answer = a; machine = k; at = at }; memory = m }
+unfolding stepBack
+step-back taken.Completed at k m = refl
+step-back (taken.Refused n) at k m = refl
+
+pub step-one : (κs : Lfts 2) (a : Dens κs step-kinds.ps) (r₁ r₂ : resT step-kinds.r κs .Denot) (s₁ s₂ : AtExit (endedOf 2 step-kinds.ps step-kinds.r) κs)
+    → step-reads.Post κs a r₁ s₁ → step-reads.Post κs a r₂ s₂ → (r₁ ≡ r₂) × (now (s₁ .1 .1 .1 .0) ≡ now (s₂ .1 .1 .1 .0))
+step-one κs a r₁ r₂ s₁ s₂ p q =
+    let m₁ = now (s₁ .1 .1 .1 .0) in
+    let m₂ = now (s₂ .1 .1 .1 .0) in
+    let e : outcome r₁ m₁ ≡ outcome r₂ m₂ = p ∙ sym q in
+    let b = sym (step-back (r₁ .answer) (r₁ .at) (r₁ .machine) m₁) ∙ ap stepBack e ∙ step-back (r₂ .answer) (r₂ .at) (r₂ .machine) m₂ in
+    (ap (λ (x : After Stepped). x .answer) b, ap (λ (x : After Stepped). x .memory) b)
+
+runBack : Answer State → After Ran
+runBack (finished at count s) = record { answer = record { end = end.Done; at = at; count = count; machine = s .machine }; memory = s .memory }
+runBack (spent at count s) = record { answer = record { end = end.Spent; at = at; count = count; machine = s .machine }; memory = s .memory }
+runBack (stopped n at count s) = record { answer = record { end = end.Refused n; at = at; count = count; machine = s .machine }; memory = s .memory }
+
+run-back : (e : End) (at count : ℕ) (k : Machine) (m : List ℕ)
+    → runBack (answerOf e at count (stateOf k m)) ≡ record { answer = record { end = e; at = at; count = count; machine = k }; memory = m }
+unfolding runBack
+run-back end.Done at count k m = refl
+run-back end.Spent at count k m = refl
+run-back (end.Refused n) at count k m = refl
+
+pub run-one : (κs : Lfts 2) (a : Dens κs run-kinds.ps) (r₁ r₂ : resT run-kinds.r κs .Denot) (s₁ s₂ : AtExit (endedOf 2 run-kinds.ps run-kinds.r) κs)
+    → run-reads.Post κs a r₁ s₁ → run-reads.Post κs a r₂ s₂ → (r₁ ≡ r₂) × (now (s₁ .1 .1 .0) ≡ now (s₂ .1 .1 .0))
+run-one κs a r₁ r₂ s₁ s₂ p q =
+    let m₁ = now (s₁ .1 .1 .0) in
+    let m₂ = now (s₂ .1 .1 .0) in
+    let e : answered r₁ m₁ ≡ answered r₂ m₂ = p ∙ sym q in
+    let b = sym (run-back (r₁ .end) (r₁ .at) (r₁ .count) (r₁ .machine) m₁) ∙ ap runBack e ∙ run-back (r₂ .end) (r₂ .at) (r₂ .count) (r₂ .machine) m₂ in
+    (ap (λ (x : After Ran). x .answer) b, ap (λ (x : After Ran). x .memory) b)
+
+-- the program's answer back from the paper's
+abbrev printedAs : Result Footprint → Printed
+printedAs (done f) = printed.Of f
+printedAs (refused n) = printed.Refused n
+
+back : (r : Printed) → printedAs (printGiven r) ≡ r
+back (printed.Of f) = refl
+back (printed.Refused n) = refl
+
+pub footprint-one : (κs : Lfts 2) (a : Dens κs footprint-kinds.ps) (r₁ r₂ : resT footprint-kinds.r κs .Denot)
+    (s₁ s₂ : AtExit (endedOf 2 footprint-kinds.ps footprint-kinds.r) κs)
+    → footprint-reads.Post κs a r₁ s₁ → footprint-reads.Post κs a r₂ s₂ → r₁ ≡ r₂
+footprint-one κs a r₁ r₂ s₁ s₂ p q = sym (back r₁) ∙ ap printedAs (p ∙ sym q) ∙ back r₂
+
+pub meets-one : (κs : Lfts 0) (a : Dens κs meets-kinds.ps) (r₁ r₂ : resT meets-kinds.r κs .Denot)
+    (s₁ s₂ : AtExit (endedOf 0 meets-kinds.ps meets-kinds.r) κs)
+    → meets-reads.Post κs a r₁ s₁ → meets-reads.Post κs a r₂ s₂ → r₁ ≡ r₂
+meets-one κs a r₁ r₂ s₁ s₂ p q = p ∙ sym q
+
+pub from-page-one : (κs : Lfts 2) (a : Dens κs from-page-kinds.ps) (r₁ r₂ : resT from-page-kinds.r κs .Denot)
+    (s₁ s₂ : AtExit (endedOf 2 from-page-kinds.ps from-page-kinds.r) κs)
+    → from-page-reads.Post κs a r₁ s₁ → from-page-reads.Post κs a r₂ s₂ → r₁ ≡ r₂
+from-page-one κs a r₁ r₂ s₁ s₂ p q = p ∙ sym q

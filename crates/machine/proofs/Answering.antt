@@ -1,0 +1,42 @@
+-- The step of a machine by value answers as the step over its registers ended. Rules for `step`.
+use mathlib.Core.Path.{_≡_}
+use mathlib.Core.List.{List}
+use Prim.Native.Nat.{ℕ, _≤_, _<_}
+use borrow.Author.Needs.{needs}
+use borrow.Author.Tests.{eq-eqb, ne-eqb, le-ltb, lt-ltb}
+use lib.ListN.{length}
+use Rattle.codec.specs.Reads.{readAt}
+use Rattle.machine.specs.declared.Taken.the-variants.{Completed, Refused}
+use Rattle.machine.specs.declared.Machine.{Machine}
+use Rattle.machine.specs.declared.gathering.Marks.{Marks}
+use Rattle.machine.specs.declared.stepping.Moved.{Moved}
+use Rattle.machine.specs.State.{stateOf}
+use Rattle.machine.specs.Steps.{instructionAt, stepAt, outcome}
+use Rattle.machine.specs.Works.{machineOf, renewedWith, endedAs}
+
+abbrev marksOf : Machine → ℕ → Marks
+marksOf k bar = record { valid = k .valid; em = k .em; ts = k .ts; pending = k .pending; bar = bar }
+
+-- the tests of the limits
+module _ (code : List ℕ) (at : ℕ) (k : Machine) (m : List ℕ) where
+  pub step-memory : 32768 < length m → outcome (record { answer = Refused 1; machine = k; at = at }) m ≡ stepAt code at (stateOf k m)
+  unfolding stepAt instructionAt
+  step-memory h = simp (lt-ltb 32768 (length m) h)
+
+  pub step-code : length m ≤ 32768 → 4096 < length code → outcome (record { answer = Refused 2; machine = k; at = at }) m ≡ stepAt code at (stateOf k m)
+  unfolding stepAt instructionAt readAt
+  step-code h g = simp (le-ltb 32768 (length m) h, lt-ltb 4096 (length code) g)
+
+  -- how the step over its registers ended
+  module _ (moved : Moved) (registers integers m′ : List ℕ) (marks : Marks)
+      (ended : endedAs moved registers integers marks m′ ≡ stepAt code at (stateOf (machineOf (k .mmx) (k .integers) marks) m)) (own : marks ≡ marksOf k (marks .bar))
+      (k′ : Machine) (renewed : k′ ≡ renewedWith k registers integers (moved .valid)) where
+    pub step-completed : moved .refusal ≡ 0 → outcome (record { answer = Completed; machine = k′; at = moved .next }) m′ ≡ stepAt code at (stateOf k m)
+    unfolding endedAs
+    step-completed e = simp renewed (simp (own, eq-eqb (moved .refusal) 0 e) at ended)
+
+    pub step-refused : (moved .refusal ≡ 0 → ⊥) → outcome (record { answer = Refused (moved .refusal); machine = k′; at = moved .next }) m′ ≡ stepAt code at (stateOf k m)
+    unfolding endedAs
+    step-refused e = simp renewed (simp (own, ne-eqb (moved .refusal) 0 e) at ended)
+
+pub ruleset answering = (needs, step-memory, step-code, step-completed, step-refused)

@@ -1,0 +1,136 @@
+-- The run as the code's loop takes it: what is left of the run after each turn is the whole run, since a turn is a step at its position.
+use mathlib.Core.Path.{_≡_, refl, sym, ap, _∙_}
+use mathlib.Core.Bool.{Bool, true, false}
+use mathlib.Core.List.{List}
+use Prim.Native.Nat.{ℕ, zero, suc, _+_, _-_, _≤_, _<_}
+use native.Mathlib.Nat.{sub-zero}
+use native.Mathlib.Numerals.{add-one}
+use native.Mathlib.Omega.{arith}
+use borrow.Author.Needs.{needs}
+use borrow.Author.Tests.{eq-eqb, ne-eqb, le-ltb, lt-ltb}
+use lib.Dec.{eqb}
+use lib.ListN.{length, drop, length-drop}
+use Rattle.reorder.specs.Result.{Result, done, refused, caseOf}
+use Rattle.reorder.specs.Run.{Answer, finished, spent, stopped, runFrom}
+use Rattle.reorder.proofs.Never.{never}
+use Rattle.codec.specs.Reads.{readPart}
+use Rattle.codec.specs.declared.Reading.{Reading as Found}
+use Rattle.codec.specs.declared.Reading.the-variants as found
+use Rattle.codec.proofs.Theorems.{reading-is-local}
+use Rattle.machine.specs.declared.End.the-variants.{Done, Spent, Refused}
+use Rattle.machine.specs.declared.Machine.{Machine}
+use Rattle.machine.specs.declared.gathering.Marks.{Marks}
+use Rattle.machine.specs.declared.stepping.Moved.{Moved}
+use Rattle.machine.specs.State.{State, stateOf}
+use Rattle.machine.specs.Instructions.{execute}
+use Rattle.machine.specs.Steps.{concluded, completed, refusedWith, resultOf, stepAt}
+use Rattle.machine.specs.Runs.{read, runOf, answered}
+use Rattle.machine.specs.Works.{machineOf, renewedWith, endedAs}
+use Rattle.machine.proofs.Turns.{onward, turn, instruction-here}
+
+-- a run from a position on, with what is left of its budget
+unfoldable pub remaining : ℕ → List ℕ → ℕ → ℕ → State → Answer State
+remaining left code at count s = runFrom read execute left code at count s
+
+-- the start
+module _ (code : List ℕ) (budget : ℕ) (k : Machine) (m : List ℕ) where
+  pub run-memory : 32768 < length m → answered (record { end = Refused 1; at = 0; count = 0; machine = k }) m ≡ runOf code budget (stateOf k m)
+  unfolding runOf
+  run-memory h = simp (lt-ltb 32768 (length m) h)
+
+  pub run-code : length m ≤ 32768 → 4096 < length code → answered (record { end = Refused 2; at = 0; count = 0; machine = k }) m ≡ runOf code budget (stateOf k m)
+  unfolding runOf
+  run-code h g = simp (le-ltb 32768 (length m) h, lt-ltb 4096 (length code) g)
+
+  pub run-starts : length m ≤ 32768 → length code ≤ 4096 → remaining (budget - 0) code 0 0 (stateOf k m) ≡ runOf code budget (stateOf k m)
+  unfolding runOf remaining
+  run-starts h g = simp (le-ltb 32768 (length m) h, le-ltb 4096 (length code) g, sub-zero)
+
+-- a completed step leaves a position of the code
+module _ (code : List ℕ) (at : ℕ) (s : State) (memory-fits : length (s .memory) ≤ 32768) (code-fits : length code ≤ 4096) where
+  within : (next : ℕ) (t : State) → stepAt code at s ≡ completed next t → next ≤ length code
+  unfolding stepAt read
+  within next t e =
+      reading (readPart (drop at code)) refl
+      (simp (instruction-here code at s (le-ltb 32768 (length (s .memory)) memory-fits) (le-ltb 4096 (length code) code-fits)) at e)
+    where
+      executing : (n : ℕ) (o : Result State) → n ≤ length (drop at code) → 0 < n
+          → concluded at (at + n) s o ≡ completed next t → next ≤ length code
+      executing n (refused r) h g z = never (cc)
+      executing n (done u) h g z = let same : at + n ≡ next = cc in omega (arith, length-drop at code)
+
+      reading : (z : Found) → readPart (drop at code) ≡ z
+          → caseOf (resultOf z) (λ r. refusedWith r at s) (λ r. concluded at (at + r .size) s (execute (r .instruction) s)) ≡ completed next t
+          → next ≤ length code
+      reading (found.Read i n) r z =
+          let l = reading-is-local (drop at code) i n r in executing n (execute i s) (l .within) (l .some) z
+      reading (found.Refused n) r z = never (cc)
+
+-- a run that comes to R, at a turn with what is left of its budget
+module _ (code : List ℕ) (at count budget : ℕ) (R : Answer State) where
+  -- at the code's end, and with nothing left
+  module _ (k k′ : Machine) (m : List ℕ) (run : remaining (budget - count) code at count (stateOf k m) ≡ R) (renewed : k′ ≡ k) where
+    pub run-done : length code ≤ at → at ≤ length code → answered (record { end = Done; at = at; count = count; machine = k′ }) m ≡ R
+    unfolding remaining
+    run-done h g = ap (λ (j : Machine). finished at count (stateOf j m)) renewed ∙ by (budget - count) run
+      where
+        ends : eqb at (length code) ≡ true
+        ends = eq-eqb at (length code) (omega arith)
+
+        by : (n : ℕ) → runFrom read execute n code at count (stateOf k m) ≡ R → finished at count (stateOf k m) ≡ R
+        by zero z = simp ends at z
+        by (suc n) z = simp ends at z
+
+    pub run-spent : at < length code → count ≡ budget → answered (record { end = Spent; at = at; count = count; machine = k′ }) m ≡ R
+    unfolding remaining
+    run-spent h e =
+        let none : budget - count ≡ 0 = omega arith in
+        let more : eqb at (length code) ≡ false = ne-eqb at (length code) (λ z. omega arith) in
+        ap (λ (j : Machine). spent at count (stateOf j m)) renewed ∙ (simp (none, more) at run)
+
+  -- a step over lent registers
+  module _ (k : Machine) (registers integers m : List ℕ) (valid : Bool) (run : remaining (budget - count) code at count (stateOf (renewedWith k registers integers valid) m) ≡ R)
+      (here : at < length code) (counted : count ≤ budget) (unspent : count ≡ budget → ⊥) (code-fits : length code ≤ 4096)
+      (m₀ : List ℕ) (kept : length m ≡ length m₀) (memory-fits : length m₀ ≤ 32768)
+      (moved : Moved) (registers′ integers′ m′ : List ℕ) (marks : Marks) (own : marks ≡ record { valid = valid; em = k .em; ts = k .ts; pending = k .pending; bar = marks .bar })
+      (ended : endedAs moved registers′ integers′ marks m′ ≡ stepAt code at (stateOf (machineOf registers integers marks) m)) where
+    abbrev s : State
+    s = stateOf (renewedWith k registers integers valid) m
+
+    abbrev t : State
+    t = stateOf (renewedWith k registers′ integers′ (moved .valid)) m′
+
+    turned : onward (runFrom read execute (budget - (count + 1)) code) count (stepAt code at s) ≡ R
+    unfolding remaining
+    turned =
+        let one : budget - count ≡ suc (budget - (count + 1)) = omega arith in
+        let fits : length m ≤ 32768 = omega arith in
+        sym (turn code at s (le-ltb 32768 (length m) fits) (le-ltb 4096 (length code) code-fits) (budget - (count + 1)) count (ne-eqb at (length code) (λ z. omega arith)))
+        ∙ (simp one at run)
+
+    completes : moved .refusal ≡ 0 → completed (moved .next) t ≡ stepAt code at s
+    unfolding endedAs
+    completes e = simp (own, eq-eqb (moved .refusal) 0 e) at ended
+
+    pub run-within : moved .refusal ≡ 0 → moved .next ≤ length code
+    run-within e =
+        let fits : length m ≤ 32768 = omega arith in
+        within code at s fits code-fits (moved .next) t (sym (completes e))
+
+    pub run-on : moved .refusal ≡ 0 → remaining (budget - (count + 1)) code (moved .next) (count + 1) t ≡ R
+    unfolding remaining
+    run-on e =
+        ap (λ (n : ℕ). runFrom read execute (budget - (count + 1)) code (moved .next) n t) (add-one count)
+        ∙ ap (onward (runFrom read execute (budget - (count + 1)) code) count) (completes e) ∙ turned
+
+    pub run-refused : (k′ : Machine) → k′ ≡ renewedWith k registers′ integers′ (moved .valid) → (moved .refusal ≡ 0 → ⊥)
+        → answered (record { end = Refused (moved .refusal); at = moved .next; count = count; machine = k′ }) m′ ≡ R
+    unfolding endedAs
+    run-refused k′ renewed e =
+        let refuses : refusedWith (moved .refusal) (moved .next) t ≡ stepAt code at s = simp (own, ne-eqb (moved .refusal) 0 e) at ended in
+        ap (λ (j : Machine). stopped (moved .refusal) (moved .next) count (stateOf j m′)) renewed
+        ∙ ap (onward (runFrom read execute (budget - (count + 1)) code) count) refuses ∙ turned
+
+pub ruleset starting = (needs, run-memory, run-code, run-starts)
+
+pub ruleset turning = (needs, run-spent, run-done, run-within, run-on, run-refused)

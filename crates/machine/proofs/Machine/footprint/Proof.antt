@@ -1,0 +1,16 @@
+-- The memory's length, then the reader's refusals, then the instruction.
+use Rattle.machine.proofs.PrintTests.{print-positions}
+use Rattle.machine.proofs.Machine.footprint.Statement.{statement}
+use Rattle.machine.proofs.Machine.footprint.Tie as tie
+
+pub footprint-spec : {M : Type 1} → statement M
+footprint-spec =
+    tie.close
+    (tie.spec
+    (λ c. search print-positions)
+    (λ c κs. search print-positions)
+    (λ c. search print-positions)
+    (λ c κs. search print-positions)
+    (λ c. search print-positions)
+    (λ c. search print-positions)
+    (λ c. search print-positions))

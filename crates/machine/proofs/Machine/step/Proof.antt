@@ -1,0 +1,19 @@
+-- The step of a machine by value.
+use Rattle.machine.proofs.Answering.{answering}
+use Rattle.machine.proofs.Machine.step.Statement.{statement}
+use Rattle.machine.proofs.Machine.step.Tie as tie
+
+pub step-spec : {M : Type 1} → statement M
+step-spec =
+    tie.close
+    (tie.spec
+    (λ c. search answering)
+    (λ c. search answering)
+    (λ c κs. search answering)
+    (λ c κs. search answering)
+    (λ c κs. search answering)
+    (λ c κs. search answering)
+    (λ c. search answering)
+    (λ c. search answering)
+    (λ c. search answering)
+    (λ c. search answering))

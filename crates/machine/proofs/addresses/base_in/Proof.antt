@@ -1,0 +1,16 @@
+-- The base: 101 is none at mod 00.
+use Rattle.machine.proofs.Addressing.{addressing}
+use Rattle.machine.proofs.addresses.base_in.Statement.{statement}
+use Rattle.machine.proofs.addresses.base_in.Tie as tie
+
+pub base-in-spec : {M : Type 1} → statement M
+base-in-spec =
+    tie.close
+    (tie.spec
+    (λ c. search addressing)
+    (λ c. search addressing)
+    (λ c. search addressing)
+    (λ c. search addressing)
+    (λ c. search addressing)
+    (λ c. search addressing)
+    (λ c. search addressing))

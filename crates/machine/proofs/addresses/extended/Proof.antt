@@ -1,0 +1,13 @@
+-- The displacement: a byte keeps its sign.
+use Rattle.machine.proofs.Addressing.{addressing}
+use Rattle.machine.proofs.addresses.extended.Statement.{statement}
+use Rattle.machine.proofs.addresses.extended.Tie as tie
+
+pub extended-spec : {M : Type 1} → statement M
+extended-spec =
+    tie.close
+    (tie.spec
+    (λ c. search addressing)
+    (λ c. search addressing)
+    (λ c κs. search addressing)
+    (λ c. search addressing))

@@ -1,0 +1,25 @@
+-- The scale: each turn doubles once.
+use mathlib.Core.Path.{_≡_}
+use Prim.Native.Nat.{_*_, _-_, _^_, _%_, _≤_}
+use Rattle.machine.proofs.Addressing.{addressing}
+use Rattle.machine.proofs.addresses.scaled.Statement.{statement}
+use Rattle.machine.proofs.addresses.scaled.Tie as tie
+
+abbrev Inv-loop : tie.InvT-loop
+Inv-loop index scale doubled₀ left₀ doubled left = (left ≤ scale) × (doubled ≡ index * 2 ^ (scale - left) % 2 ^ 32)
+
+abbrev μ-loop : tie.MeasureT-loop
+μ-loop index scale doubled₀ left₀ doubled left = left
+
+pub scaled-spec : {M : Type 1} → statement M
+scaled-spec =
+    tie.close
+    (tie.spec
+    Inv-loop
+    μ-loop
+    (λ c. search addressing)
+    (λ c κs. search addressing)
+    (λ c. search addressing)
+    (λ c. search addressing)
+    (λ c. search addressing)
+    (λ c. search addressing))

@@ -1,0 +1,13 @@
+-- A computation reads both.
+use Rattle.machine.proofs.PrintShaping.{print-shapes}
+use Rattle.machine.proofs.footprints.computed.Statement.{statement}
+use Rattle.machine.proofs.footprints.computed.Tie as tie
+
+pub computed-spec : {M : Type 1} → statement M
+computed-spec =
+    tie.close
+    (tie.spec
+    (λ c κs. search print-shapes)
+    (λ c κs. search print-shapes)
+    (λ c κs. search print-shapes)
+    (λ c. search print-shapes))

@@ -1,0 +1,13 @@
+-- An entry: our table has every row.
+use Rattle.machine.proofs.PrintEntries.{print-entries}
+use Rattle.machine.proofs.footprints.entry_for.Statement.{statement}
+use Rattle.machine.proofs.footprints.entry_for.Tie as tie
+
+pub entry-for-spec : {M : Type 1} → statement M
+entry-for-spec =
+    tie.close
+    (tie.spec
+    (λ c κs. search print-entries)
+    (λ c. search print-entries)
+    (λ c. search print-entries)
+    (λ c. search print-entries))

@@ -1,0 +1,19 @@
+-- Two operands: by the form, where r/m is inside the memory.
+use Rattle.machine.proofs.PrintForms.{print-forms}
+use Rattle.machine.proofs.footprints.two_operands.Statement.{statement}
+use Rattle.machine.proofs.footprints.two_operands.Tie as tie
+
+pub two-operands-spec : {M : Type 1} → statement M
+two-operands-spec =
+    tie.close
+    (tie.spec
+    (λ c κs. search print-forms)
+    (λ c. search print-forms)
+    (λ c κs. search print-forms)
+    (λ c κs. search print-forms)
+    (λ c κs. search print-forms)
+    (λ c. search print-forms)
+    (λ c. search print-forms)
+    (λ c. search print-forms)
+    (λ c. search print-forms)
+    (λ c. search print-forms))

@@ -1,0 +1,13 @@
+-- The control marks, in the order of their tests.
+use Rattle.machine.proofs.Testing.{testing}
+use Rattle.machine.proofs.gathering.barred.Statement.{statement}
+use Rattle.machine.proofs.gathering.barred.Tie as tie
+
+pub barred-spec : {M : Type 1} → statement M
+barred-spec =
+    tie.close
+    (tie.spec
+    (λ c. search testing)
+    (λ c. search testing)
+    (λ c. search testing)
+    (λ c. search testing))

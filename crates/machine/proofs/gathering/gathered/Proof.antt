@@ -1,0 +1,16 @@
+-- The instruction at a position: the tests in their order, then its work.
+use Rattle.machine.proofs.Fetching.{fetching}
+use Rattle.machine.proofs.gathering.gathered.Statement.{statement}
+use Rattle.machine.proofs.gathering.gathered.Tie as tie
+
+pub gathered-spec : {M : Type 1} → statement M
+gathered-spec =
+    tie.close
+    (tie.spec
+    (λ c κs. search fetching)
+    (λ c κs. search fetching)
+    (λ c. search fetching)
+    (λ c κs. search fetching)
+    (λ c. search fetching)
+    (λ c κs. search fetching)
+    (λ c. search fetching))

@@ -1,0 +1,27 @@
+-- An operand in memory: its address is tested before it is loaded or stored.
+use Rattle.machine.proofs.Sorting.{placing}
+use Rattle.machine.proofs.gathering.in_memory.Statement.{statement}
+use Rattle.machine.proofs.gathering.in_memory.Tie as tie
+
+pub in-memory-spec : {M : Type 1} → statement M
+in-memory-spec =
+    tie.close
+    (tie.spec
+    (λ c κs. search placing)
+    (λ c. search placing)
+    (λ c. search placing)
+    (λ c. search placing)
+    (λ c κs. search placing)
+    (λ c κs. search placing)
+    (λ c. search placing)
+    (λ c. search placing)
+    (λ c. search placing)
+    (λ c. search placing)
+    (λ c. search placing)
+    (λ c. search placing)
+    (λ c. search placing)
+    (λ c. search placing)
+    (λ c. search placing)
+    (λ c. search placing)
+    (λ c κs. search placing)
+    (λ c. search placing))

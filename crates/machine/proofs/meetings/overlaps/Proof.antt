@@ -1,0 +1,14 @@
+-- Two ranges overlap: by the one that starts first.
+use Rattle.machine.proofs.MeetRules.{meet-rules}
+use Rattle.machine.proofs.meetings.overlaps.Statement.{statement}
+use Rattle.machine.proofs.meetings.overlaps.Tie as tie
+
+pub overlaps-spec : {M : Type 1} → statement M
+overlaps-spec =
+    tie.close
+    (tie.spec
+    (λ c. search meet-rules)
+    (λ c. search meet-rules)
+    (λ c. search meet-rules)
+    (λ c. search meet-rules)
+    (λ c. search meet-rules))

@@ -1,0 +1,17 @@
+-- The operand of r/m: in memory or in a register.
+use Rattle.machine.proofs.PrintReaching.{print-reaching}
+use Rattle.machine.proofs.reaches.reach_operand.Statement.{statement}
+use Rattle.machine.proofs.reaches.reach_operand.Tie as tie
+
+pub reach-operand-spec : {M : Type 1} → statement M
+reach-operand-spec =
+    tie.close
+    (tie.spec
+    (λ c. search print-reaching)
+    (λ c κs. search print-reaching)
+    (λ c. search print-reaching)
+    (λ c κs. search print-reaching)
+    (λ c. search print-reaching)
+    (λ c κs. search print-reaching)
+    (λ c κs. search print-reaching)
+    (λ c. search print-reaching))

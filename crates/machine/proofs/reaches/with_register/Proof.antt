@@ -1,0 +1,11 @@
+-- A register beside other places.
+use Rattle.machine.proofs.PrintMasks.{print-masks}
+use Rattle.machine.proofs.reaches.with_register.Statement.{statement}
+use Rattle.machine.proofs.reaches.with_register.Tie as tie
+
+pub with-register-spec : {M : Type 1} → statement M
+with-register-spec =
+    tie.close
+    (tie.spec
+    (λ c κs. search print-masks)
+    (λ c. search print-masks))

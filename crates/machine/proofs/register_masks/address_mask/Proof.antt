@@ -1,0 +1,14 @@
+-- The mask of an address: its base's, and with an SIB byte its index's.
+use Rattle.machine.proofs.PrintMasks.{print-masks}
+use Rattle.machine.proofs.register_masks.address_mask.Statement.{statement}
+use Rattle.machine.proofs.register_masks.address_mask.Tie as tie
+
+pub address-mask-spec : {M : Type 1} → statement M
+address-mask-spec =
+    tie.close
+    (tie.spec
+    (λ c κs. search print-masks)
+    (λ c. search print-masks)
+    (λ c κs. search print-masks)
+    (λ c κs. search print-masks)
+    (λ c. search print-masks))

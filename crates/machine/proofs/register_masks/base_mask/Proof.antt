@@ -1,0 +1,14 @@
+-- The mask of a base: 101 is none at mod 00.
+use Rattle.machine.proofs.PrintMasks.{print-masks}
+use Rattle.machine.proofs.register_masks.base_mask.Statement.{statement}
+use Rattle.machine.proofs.register_masks.base_mask.Tie as tie
+
+pub base-mask-spec : {M : Type 1} → statement M
+base-mask-spec =
+    tie.close
+    (tie.spec
+    (λ c κs. search print-masks)
+    (λ c. search print-masks)
+    (λ c. search print-masks)
+    (λ c κs. search print-masks)
+    (λ c. search print-masks))

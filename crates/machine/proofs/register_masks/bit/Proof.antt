@@ -1,0 +1,11 @@
+-- The mask of one register.
+use Rattle.machine.proofs.PrintMasks.{print-masks}
+use Rattle.machine.proofs.register_masks.bit.Statement.{statement}
+use Rattle.machine.proofs.register_masks.bit.Tie as tie
+
+pub bit-spec : {M : Type 1} → statement M
+bit-spec =
+    tie.close
+    (tie.spec
+    (λ c. search print-masks)
+    (λ c. search print-masks))

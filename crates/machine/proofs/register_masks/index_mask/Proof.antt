@@ -1,0 +1,12 @@
+-- The mask of an index: 100 is none.
+use Rattle.machine.proofs.PrintMasks.{print-masks}
+use Rattle.machine.proofs.register_masks.index_mask.Statement.{statement}
+use Rattle.machine.proofs.register_masks.index_mask.Tie as tie
+
+pub index-mask-spec : {M : Type 1} → statement M
+index-mask-spec =
+    tie.close
+    (tie.spec
+    (λ c. search print-masks)
+    (λ c κs. search print-masks)
+    (λ c. search print-masks))

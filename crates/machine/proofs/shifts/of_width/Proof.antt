@@ -1,0 +1,13 @@
+-- The operation for a width.
+use Rattle.machine.proofs.Shifting.{shifting}
+use Rattle.machine.proofs.shifts.of_width.Statement.{statement}
+use Rattle.machine.proofs.shifts.of_width.Tie as tie
+
+pub of-width-spec : {M : Type 1} → statement M
+of-width-spec =
+    tie.close
+    (tie.spec
+    (λ c. search shifting)
+    (λ c. search shifting)
+    (λ c. search shifting)
+    (λ c. search shifting))

@@ -1,0 +1,29 @@
+-- The work is done: one store into what is lent, and none on a refusal.
+use borrow.Author.Needs.{needs}
+use Rattle.machine.proofs.Advancing.{operating, storing, putting, ending}
+use Rattle.machine.proofs.stepping.advance.Statement.{statement}
+use Rattle.machine.proofs.stepping.advance.Tie as tie
+
+pub advance-spec : {M : Type 1} → statement M
+advance-spec =
+    tie.close
+    (tie.spec
+    (λ c κs. search needs)
+    (λ c. search operating)
+    (λ c. search operating)
+    (λ c κs. search needs)
+    (λ c. search operating)
+    (λ c. search operating)
+    (λ c. search needs)
+    (λ c. search operating)
+    (λ c. search needs)
+    (λ c κs. search needs)
+    (λ c. search needs)
+    (λ c. search storing)
+    (λ c κs. search putting)
+    (λ c. search needs)
+    (λ c. search putting)
+    (λ c. search needs)
+    (λ c. search ending)
+    (λ c. search needs)
+    (λ c. search ending))

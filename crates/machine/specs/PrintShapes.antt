@@ -1,0 +1,71 @@
+-- The footprint as the program makes it, in masks and ranges: first where an operand is, then what each shape of effect reads and writes.
+use mathlib.Core.Path.{_≡_}
+use mathlib.Core.Bool.{false}
+use mathlib.Core.List.{List, []}
+use Prim.Native.Nat.{ℕ, _^_, _<_}
+use lib.Bits.{bitOr}
+use Rattle.reorder.specs.Result.{Result, done, refused, andThen, mapResult}
+use Rattle.reorder.specs.Footprint.{footprintIn}
+use Rattle.codec.specs.Forms.{isAbsent}
+use Rattle.codec.specs.Opcodes.{Entry}
+use Rattle.codec.specs.Packed.{unpacked}
+use Rattle.codec.specs.declared.Instruction.{Instruction}
+use Rattle.machine.specs.declared.Kind.the-variants.{Ordinary}
+use Rattle.machine.specs.declared.Places.{Places}
+use Rattle.machine.specs.declared.Footprint.{Footprint}
+use Rattle.machine.specs.declared.reaches.Reach.{Reach}
+use Rattle.machine.specs.declared.reaches.Reach.the-variants.{Inside, Refused}
+use Rattle.machine.specs.State.{State}
+use Rattle.machine.specs.Places.{Place, look}
+use Rattle.machine.specs.Locations.{Location, registersBehind}
+use Rattle.machine.specs.Effects.{Effect, placesOfAll, planOn, via}
+use Rattle.machine.specs.Instructions.{effectBy}
+use Rattle.machine.specs.Prints.{mask, setOf, print}
+
+abbrev pub nowhere : Places
+nowhere = setOf []
+
+-- an MMX register beside other places
+abbrev pub beside : ℕ → Places → Places
+beside register p =
+    record { mmx = bitOr (2 ^ register) (p .mmx); integers = p .integers; start = p .start; length = p .length }
+
+-- integer registers, by their mask, beside other places
+abbrev pub through : ℕ → Places → Places
+through registers p =
+    record { mmx = p .mmx; integers = bitOr registers (p .integers); start = p .start; length = p .length }
+
+-- an operand's address registers and places, or its refusal
+abbrev pub reachOf : Location → Result (List Place) → Reach
+reachOf x (done places) = Inside (mask (registersBehind x)) (setOf places)
+reachOf x (refused n) = Refused n
+
+-- an MMX register and the operand of r/m, whose address registers and places are given: the register is stored there, loaded from there, or
+-- computed with it
+
+abbrev pub storing : ℕ → ℕ → Places → Footprint
+storing register registers p =
+    record { reads = through registers (beside register nowhere); writes = p; kind = Ordinary }
+
+abbrev pub loading : ℕ → ℕ → Places → Footprint
+loading register registers p =
+    record { reads = through registers p; writes = beside register nowhere; kind = Ordinary }
+
+abbrev pub computing : ℕ → ℕ → Places → Footprint
+computing register registers p =
+    record { reads = through registers (beside register p); writes = beside register nowhere; kind = Ordinary }
+
+-- what the table says of an instruction that is read
+pub record Tabled (entry : Entry) : Type 0 where
+  pub present : isAbsent (entry .form) ≡ false
+  pub sized : 0 < entry .size
+
+-- the effect of an instruction, by the number that the table has for its second byte
+abbrev pub effectIn : ℕ → Instruction → Effect
+effectIn entry i = effectBy (unpacked entry .form) (unpacked entry) (i .operand) (i .immediate)
+
+-- the footprint of an effect that no control mark stops
+unfoldable pub unmarkedPrint : Effect → State → Result Footprint
+unmarkedPrint e s =
+    mapResult print
+    (footprintIn look (via e) s (andThen (placesOfAll s (e .takes)) (λ source. mapResult (planOn e source) (placesOfAll s (e .gives)))))

@@ -1,0 +1,111 @@
+-- The parts of the code's step in the words of the definitions: lent registers with marks are a machine, what is left to do leaves a state, and
+-- how a step ended is an outcome. Only the contracts of the code's own functions use them.
+use mathlib.Core.Path.{_≡_}
+use mathlib.Core.Bool.{Bool, cond}
+use mathlib.Core.List.{List}
+use Prim.Native.Nat.{ℕ, _%_, _^_, _≤_, _<_}
+use lib.Dec.{eqb}
+use Rattle.lanes.specs.Operations.{operationOf, operate, MOVE}
+use Rattle.words.specs.Buffer.{stored}
+use Rattle.reorder.specs.Result.{Result, caseOf, andThen, mapResult}
+use Rattle.reorder.specs.Plan.{perform}
+use Rattle.codec.specs.Forms.{absent, loadD, loadQ}
+use Rattle.codec.specs.Opcodes.{Entry}
+use Rattle.codec.specs.Packed.{unpacked}
+use Rattle.codec.specs.declared.Instruction.{Instruction}
+use Rattle.machine.specs.declared.Kind.the-variants.{Ordinary, Emms}
+use Rattle.machine.specs.declared.Machine.{Machine}
+use Rattle.machine.specs.declared.gathering.Marks.{Marks}
+use Rattle.machine.specs.declared.gathering.Work.{Work}
+use Rattle.machine.specs.declared.stepping.Moved.{Moved}
+use Rattle.machine.specs.Refusals.{invalidOpcode, notAvailable, isPending}
+use Rattle.machine.specs.State.{State, stateOf}
+use Rattle.machine.specs.Places.{mmx, integer, look, put}
+use Rattle.machine.specs.Kinds.{marked}
+use Rattle.machine.specs.Effects.{Effect, placesOfAll, planOn}
+use Rattle.machine.specs.Instructions.{effectBy}
+use Rattle.machine.specs.Steps.{concluded, Outcome, completed, refusedWith, stepAt}
+
+-- lent registers and marks
+abbrev pub machineOf : List ℕ → List ℕ → Marks → Machine
+machineOf registers integers marks =
+    record { mmx = registers; integers = integers; valid = marks .valid; em = marks .em; ts = marks .ts; pending = marks .pending }
+
+-- the refusal of the control marks, or 0
+unfoldable pub barredBy : Bool → Bool → Bool → ℕ
+barredBy em ts pending = cond em invalidOpcode (cond ts notAvailable (cond pending isPending 0))
+
+-- an effect whose control marks have been tested
+abbrev pub unbarred : Effect → State → Result State
+unbarred e s =
+    perform look put marked s (andThen (placesOfAll s (e .takes)) (λ source. mapResult (planOn e source) (placesOfAll s (e .gives))))
+
+-- the effect of an instruction by the table's number for it
+abbrev pub effectIn : ℕ → Instruction → Effect
+effectIn number i = let entry = unpacked number in effectBy (entry .form) entry (i .operand) (i .immediate)
+
+-- what is said of every entry that is read: its form is there, its operand has at most 8 bytes, and a load moves
+pub record Listed (entry : Entry) : Type 0 where
+  pub present : entry .form ≡ absent → ⊥
+  pub small : entry .size ≤ 8
+  pub moves-D : entry .form ≡ loadD → entry .operation ≡ MOVE
+  pub moves-Q : entry .form ≡ loadQ → entry .operation ≡ MOVE
+
+-- what is left to do, by the code's numbers
+abbrev pub toOperate : ℕ
+toOperate = 0
+
+abbrev pub toStore : ℕ
+toStore = 1
+
+abbrev pub toMove : ℕ
+toMove = 2
+
+abbrev pub toEmpty : ℕ
+toEmpty = 3
+
+abbrev pub toRefuse : ℕ
+toRefuse = 4
+
+-- what a work comes to at a position, in a state: an operation on an MMX register, a store, a move to an integer register, the tag mark set
+-- empty, or a refusal
+unfoldable pub performed : Work → ℕ → State → Outcome
+performed work at s =
+    cond (eqb (work .what) toOperate)
+    (completed (work .next) (marked Ordinary (put s (mmx (work .place)) (operate (operationOf (work .number)) (look s (mmx (work .place))) (work .value)))))
+    (cond (eqb (work .what) toStore)
+    (completed (work .next) (marked Ordinary (stateOf (s .machine) (stored (s .memory) (work .place) (work .number) (work .value)))))
+    (cond (eqb (work .what) toMove) (completed (work .next) (marked Ordinary (put s (integer (work .place)) (work .value % 2 ^ 32))))
+    (cond (eqb (work .what) toEmpty) (completed (work .next) (marked Emms s))
+    (refusedWith (work .number) at s))))
+
+-- the registers that it names are there, and a refusal has a number
+pub record Sound (work : Work) : Type 0 where
+  pub operates : work .what ≡ toOperate → work .place < 8
+  pub moves : work .what ≡ toMove → work .place < 8
+  pub refuses : (work .what ≡ toOperate → ⊥) → (work .what ≡ toStore → ⊥) → (work .what ≡ toMove → ⊥) → (work .what ≡ toEmpty → ⊥) → work .number ≡ 0 → ⊥
+
+-- with these registers and this memory a work does what an effect does, whatever the marks and the position, and goes on at `next`
+pub record Does (work : Work) (registers integers memory : List ℕ) (e : Effect) (next : ℕ) : Type 0 where
+  pub sound : Sound work
+  pub does : (marks : Marks) (at : ℕ) → let s = stateOf (machineOf registers integers marks) memory in performed work at s ≡ concluded at next s (unbarred e s)
+
+-- the work of a refusal
+abbrev pub refusedWork : ℕ → Work
+refusedWork refusal = record { what = toRefuse; number = refusal; place = 0; value = 0; next = 0 }
+
+-- a work does what the step at a position of the code does
+pub record Gathered (work : Work) (registers integers : List ℕ) (marks : Marks) (code : List ℕ) (at : ℕ) (memory : List ℕ) : Type 0 where
+  pub sound : Sound work
+  pub steps : let s = stateOf (machineOf registers integers marks) memory in performed work at s ≡ stepAt code at s
+
+-- a machine with other registers and another tag mark
+abbrev pub renewedWith : Machine → List ℕ → List ℕ → Bool → Machine
+renewedWith machine registers integers valid =
+    record { mmx = registers; integers = integers; valid = valid; em = machine .em; ts = machine .ts; pending = machine .pending }
+
+-- how a step ended, with what is then in the lent registers and memory
+unfoldable pub endedAs : Moved → List ℕ → List ℕ → Marks → List ℕ → Outcome
+endedAs moved registers integers marks memory =
+    let s = stateOf (record { mmx = registers; integers = integers; valid = moved .valid; em = marks .em; ts = marks .ts; pending = marks .pending }) memory in
+    cond (eqb (moved .refusal) 0) (completed (moved .next) s) (refusedWith (moved .refusal) (moved .next) s)

@@ -1,0 +1,160 @@
+// The footprint of the step at a position: what each shape reads and writes, by the form, after the tests of the step.
+use crate::Footprint;
+use crate::Kind;
+use crate::Machine;
+use crate::Places;
+use crate::Printed;
+use crate::numbers::EMMS;
+use crate::numbers::FORM;
+use crate::numbers::INVALID_OPCODE;
+use crate::numbers::IS_PENDING;
+use crate::numbers::LOAD_D;
+use crate::numbers::LOAD_Q;
+use crate::numbers::LONGEST_MEMORY;
+use crate::numbers::MEMORY_TOO_LONG;
+use crate::numbers::NOT_AVAILABLE;
+use crate::numbers::STORE_D;
+use crate::numbers::STORE_Q;
+use crate::reaches;
+use crate::reaches::Reach;
+use codec::Instruction;
+use codec::Reading;
+ghost use mathlib.Core.Path.{_≡_};
+ghost use Prim.Native.Nat.{_/_, _^_, _≤_, _<_};
+ghost use Rattle.reorder.specs.Result.{mapResult};
+ghost use Rattle.codec.proofs.Given.{Registers};
+ghost use Rattle.codec.specs.Opcodes.{entryOf};
+ghost use Rattle.codec.specs.Packed.{unpacked};
+ghost use Rattle.machine.specs.State.{stateOf};
+ghost use Rattle.machine.specs.Instructions.{footprint};
+ghost use Rattle.machine.specs.Prints.{print, printAt, printGiven};
+ghost use Rattle.machine.specs.PrintShapes.{storing, loading, computing, Tabled, effectIn, unmarkedPrint};
+
+// An MMX register is stored in the operand of r/m: what is there is not read.
+fn stored(register: u8, registers: u8, places: Places) -> Footprint
+    requires { ⌜ register < 8 ⌝ }
+    ensures { λ r. ⌜ r ≡ storing register registers places ⌝ }
+{
+    let own = reaches::with_register(register, reaches::NOWHERE);
+    let reads = reaches::with_integers(registers, own);
+    Footprint {
+        reads: reads,
+        writes: places,
+        kind: Kind::Ordinary,
+    }
+}
+
+// An MMX register is loaded from the operand of r/m: it is not read.
+fn loaded(register: u8, registers: u8, places: Places) -> Footprint
+    requires { ⌜ register < 8 ⌝ }
+    ensures { λ r. ⌜ r ≡ loading register registers places ⌝ }
+{
+    let reads = reaches::with_integers(registers, places);
+    let writes = reaches::with_register(register, reaches::NOWHERE);
+    Footprint {
+        reads: reads,
+        writes: writes,
+        kind: Kind::Ordinary,
+    }
+}
+
+// An MMX register is computed with the operand of r/m: both are read.
+fn computed(register: u8, registers: u8, places: Places) -> Footprint
+    requires { ⌜ register < 8 ⌝ }
+    ensures { λ r. ⌜ r ≡ computing register registers places ⌝ }
+{
+    let both = reaches::with_register(register, places);
+    let reads = reaches::with_integers(registers, both);
+    let writes = reaches::with_register(register, reaches::NOWHERE);
+    Footprint {
+        reads: reads,
+        writes: writes,
+        kind: Kind::Ordinary,
+    }
+}
+
+// An instruction with two operands.
+fn two_operands(machine: Machine, entry: u32, instruction: Instruction, memory: &[u8]) -> Printed
+    requires { ⌜ Registers (instruction .operand) × (Tabled (unpacked entry) × (4 ≤ entry / 2 ^ 24)) ⌝ }
+    ensures { λ r. ⌜ printGiven r ≡ unmarkedPrint (effectIn entry instruction) (stateOf machine (now (memory .entry))) ⌝ }
+{
+    let operand = instruction.operand;
+    let form = entry / FORM;
+    let reached = reaches::reach_operand(machine, entry, operand, memory);
+    match reached {
+        Reach::Inside(registers, places) => {
+            match form {
+                STORE_D | STORE_Q => Printed::Of(stored(operand.reg, registers, places)),
+                LOAD_D | LOAD_Q => Printed::Of(loaded(operand.reg, registers, places)),
+                _ => Printed::Of(computed(operand.reg, registers, places)),
+            }
+        }
+        Reach::Refused(refusal) => Printed::Refused(refusal),
+    }
+}
+
+// An instruction that the control marks let pass.
+fn unmarked(machine: Machine, entry: u32, instruction: Instruction, memory: &[u8]) -> Printed
+    requires { ⌜ Registers (instruction .operand) × Tabled (unpacked entry) ⌝ }
+    ensures { λ r. ⌜ printGiven r ≡ unmarkedPrint (effectIn entry instruction) (stateOf machine (now (memory .entry))) ⌝ }
+{
+    let form = entry / FORM;
+    if STORE_D <= form {
+        return two_operands(machine, entry, instruction, memory);
+    }
+    if form == EMMS {
+        return Printed::Of(Footprint {
+            reads: reaches::NOWHERE,
+            writes: reaches::NOWHERE,
+            kind: Kind::Emms,
+        });
+    }
+    let register = reaches::with_register(instruction.operand.rm, reaches::NOWHERE);
+    Printed::Of(Footprint {
+        reads: register,
+        writes: register,
+        kind: Kind::Ordinary,
+    })
+}
+
+// What the table says of a second byte.
+fn entry_for(second: u8) -> u32
+    ensures { λ r. ⌜ unpacked r ≡ entryOf second ⌝ }
+{
+    let table = codec::table();
+    table[second as usize]
+}
+
+// An instruction that is read: the control marks first.
+fn of_instruction(machine: Machine, instruction: Instruction, memory: &[u8]) -> Printed
+    requires { ⌜ Registers (instruction .operand) × Tabled (entryOf (instruction .second)) ⌝ }
+    ensures { λ r. ⌜ printGiven r ≡ mapResult print (footprint instruction (stateOf machine (now (memory .entry)))) ⌝ }
+{
+    if machine.em {
+        return Printed::Refused(INVALID_OPCODE);
+    }
+    if machine.ts {
+        return Printed::Refused(NOT_AVAILABLE);
+    }
+    if machine.pending {
+        return Printed::Refused(IS_PENDING);
+    }
+    let entry = entry_for(instruction.second);
+    unmarked(machine, entry, instruction, memory)
+}
+
+impl Machine {
+    // What the step at a position reads and writes.
+    pub fn footprint(self, code: &[u8], at: usize, memory: &[u8]) -> Printed
+        ensures { λ r. ⌜ printGiven r ≡ printAt (now (code .entry)) at (stateOf self (now (memory .entry))) ⌝ }
+    {
+        if LONGEST_MEMORY < memory.len() {
+            return Printed::Refused(MEMORY_TOO_LONG);
+        }
+        let reading = codec::read(code, at);
+        match reading {
+            Reading::Read(instruction, _) => of_instruction(self, instruction, memory),
+            Reading::Refused(refusal) => Printed::Refused(refusal),
+        }
+    }
+}

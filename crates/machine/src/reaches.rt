@@ -1,0 +1,103 @@
+// Where an operand is, in masks and a range.
+use crate::Machine;
+use crate::Places;
+use crate::addresses;
+use crate::numbers::FORM;
+use crate::numbers::LOAD_D;
+use crate::numbers::OUTSIDE_MEMORY;
+use crate::numbers::PART;
+use crate::numbers::REGISTER;
+use crate::numbers::SIZE;
+use crate::register_masks;
+use codec::Operand;
+ghost use mathlib.Core.Path.{_≡_};
+ghost use Prim.Native.Nat.{_/_, _^_, _≤_, _<_};
+ghost use Rattle.codec.proofs.Given.{Registers};
+ghost use Rattle.codec.specs.Packed.{unpacked};
+ghost use Rattle.machine.specs.State.{stateOf};
+ghost use Rattle.machine.specs.Addresses.{addressOf, address};
+ghost use Rattle.machine.specs.Locations.{memory, rmOf, tested, placesOf};
+ghost use Rattle.machine.specs.PrintShapes.{beside, through, reachOf, Tabled};
+
+// No places.
+pub(crate) const NOWHERE: Places = Places {
+    mmx: 0,
+    integers: 0,
+    start: 0,
+    length: 0,
+};
+
+// Where an operand is: the mask of its address registers and its places; or its refusal.
+pub(crate) enum Reach {
+    Inside(u8, Places),
+    Refused(u8),
+}
+
+// An MMX register beside other places.
+pub(crate) fn with_register(register: u8, places: Places) -> Places
+    requires { ⌜ register < 8 ⌝ }
+    ensures { λ r. ⌜ r ≡ beside register places ⌝ }
+{
+    Places {
+        mmx: register_masks::bit(register) | places.mmx,
+        integers: places.integers,
+        start: places.start,
+        length: places.length,
+    }
+}
+
+// Integer registers beside other places.
+pub(crate) fn with_integers(registers: u8, places: Places) -> Places
+    ensures { λ r. ⌜ r ≡ through registers places ⌝ }
+{
+    Places {
+        mmx: places.mmx,
+        integers: registers | places.integers,
+        start: places.start,
+        length: places.length,
+    }
+}
+
+// An operand in memory: all its bytes must be below the memory's length.
+fn reach_bytes(integers: &[u32; 8], operand: Operand, size: usize, length: usize) -> Reach
+    requires { ⌜ Registers operand × ((operand .mode ≡ 3 → ⊥) × (0 < size)) ⌝ }
+    ensures { λ r. ⌜ r ≡ reachOf (memory (addressOf operand) size) (tested length size (address (now (integers .entry)) (addressOf operand))) ⌝ }
+{
+    let start = addresses::address_of(integers, operand) as usize;
+    if length < size {
+        return Reach::Refused(OUTSIDE_MEMORY);
+    }
+    if length - size < start {
+        return Reach::Refused(OUTSIDE_MEMORY);
+    }
+    let registers = register_masks::address_mask(operand);
+    let places = Places {
+        mmx: 0,
+        integers: 0,
+        start: start,
+        length: size,
+    };
+    Reach::Inside(registers, places)
+}
+
+// The operand that r/m names: MOVD's register is an integer register.
+pub(crate) fn reach_operand(machine: Machine, entry: u32, operand: Operand, memory: &[u8]) -> Reach
+    requires { ⌜ Registers operand × (Tabled (unpacked entry) × (4 ≤ entry / 2 ^ 24)) ⌝ }
+    ensures { λ r. ⌜ r ≡ reachOf (rmOf (unpacked entry) operand) (placesOf (stateOf machine (now (memory .entry))) (rmOf (unpacked entry) operand)) ⌝ }
+{
+    if operand.mode != REGISTER {
+        let integers = machine.integers;
+        return reach_bytes(
+            &integers,
+            operand,
+            (entry / SIZE % PART) as usize,
+            memory.len(),
+        );
+    }
+    if LOAD_D < entry / FORM {
+        let places = with_register(operand.rm, NOWHERE);
+        return Reach::Inside(0, places);
+    }
+    let places = with_integers(register_masks::bit(operand.rm), NOWHERE);
+    Reach::Inside(0, places)
+}

@@ -1,0 +1,55 @@
+// Register sets as masks: one register, and those that an address is made of.
+use crate::numbers::NO_BASE;
+use crate::numbers::NO_DISPLACEMENT;
+use crate::numbers::NO_INDEX;
+use crate::numbers::SIB;
+use codec::Operand;
+ghost use mathlib.Core.Path.{_≡_};
+ghost use Prim.Native.Nat.{_^_, _<_};
+ghost use Rattle.codec.proofs.Given.{Registers};
+ghost use Rattle.machine.specs.Addresses.{baseOf, indexOf, addressOf, registersOf, addressRegisters};
+ghost use Rattle.machine.specs.Prints.{mask};
+
+// The mask of one register.
+pub(crate) fn bit(register: u8) -> u8
+    requires { ⌜ register < 8 ⌝ }
+    ensures { λ r. ⌜ r ≡ 2 ^ register ⌝ }
+{
+    1 << register
+}
+
+// The base: 101 is none at mod 00.
+fn base_mask(mode: u8, register: u8) -> u8
+    requires { ⌜ register < 8 ⌝ }
+    ensures { λ r. ⌜ r ≡ mask (registersOf (baseOf mode register)) ⌝ }
+{
+    if register != NO_BASE {
+        return bit(register);
+    }
+    if mode == NO_DISPLACEMENT {
+        return 0;
+    }
+    bit(register)
+}
+
+// The index: 100 is none.
+fn index_mask(register: u8) -> u8
+    requires { ⌜ register < 8 ⌝ }
+    ensures { λ r. ⌜ r ≡ mask (registersOf (indexOf register)) ⌝ }
+{
+    if register == NO_INDEX {
+        return 0;
+    }
+    bit(register)
+}
+
+// The mask of the registers that an address is made of.
+pub(crate) fn address_mask(operand: Operand) -> u8
+    requires { ⌜ Registers operand × (operand .mode ≡ 3 → ⊥) ⌝ }
+    ensures { λ r. ⌜ r ≡ mask (addressRegisters (addressOf operand)) ⌝ }
+{
+    if operand.rm != SIB {
+        return base_mask(operand.mode, operand.rm);
+    }
+    base_mask(operand.mode, operand.base) | index_mask(operand.index)
+}

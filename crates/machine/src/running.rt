@@ -1,0 +1,81 @@
+// The run: steps over lent registers, as many as the budget has.
+use crate::End;
+use crate::Machine;
+use crate::Ran;
+use crate::gathering;
+use crate::gathering::Marks;
+use crate::numbers::CODE_TOO_LONG;
+use crate::numbers::LONGEST_CODE;
+use crate::numbers::LONGEST_MEMORY;
+use crate::numbers::MEMORY_TOO_LONG;
+use crate::stepping;
+ghost use mathlib.Core.Path.{_≡_};
+ghost use Rattle.machine.specs.State.{stateOf};
+ghost use Rattle.machine.specs.Runs.{answered, runOf};
+
+impl Machine {
+    // The instructions from position 0 on.
+    pub fn run(self, code: &[u8], memory: &mut [u8], budget: u32) -> Ran
+        ensures { λ r. ⌜ answered r (now (memory .exit)) ≡ runOf (now (code .entry)) budget (stateOf self (now (memory .entry))) ⌝ }
+    {
+        if LONGEST_MEMORY < memory.len() {
+            return Ran {
+                end: End::Refused(MEMORY_TOO_LONG),
+                at: 0,
+                count: 0,
+                machine: self,
+            };
+        }
+        if LONGEST_CODE < code.len() {
+            return Ran {
+                end: End::Refused(CODE_TOO_LONG),
+                at: 0,
+                count: 0,
+                machine: self,
+            };
+        }
+        let table = codec::table();
+        let bar = gathering::barred(self.em, self.ts, self.pending);
+        let mut mmx = self.mmx;
+        let mut integers = self.integers;
+        let mut valid = self.valid;
+        let mut at: usize = 0;
+        let mut count: u32 = 0;
+        while at < code.len() {
+            if count == budget {
+                return Ran {
+                    end: End::Spent,
+                    at: at,
+                    count: count,
+                    machine: self.renewed(mmx, integers, valid),
+                };
+            }
+            let marks = Marks {
+                valid: valid,
+                em: self.em,
+                ts: self.ts,
+                pending: self.pending,
+                bar: bar,
+            };
+            let moved = stepping::advance(&table, &mut mmx, &mut integers, marks, code, at, memory);
+            let refusal = moved.refusal;
+            at = moved.next;
+            valid = moved.valid;
+            if refusal != 0 {
+                return Ran {
+                    end: End::Refused(refusal),
+                    at: at,
+                    count: count,
+                    machine: self.renewed(mmx, integers, valid),
+                };
+            }
+            count += 1;
+        }
+        Ran {
+            end: End::Done,
+            at: at,
+            count: count,
+            machine: self.renewed(mmx, integers, valid),
+        }
+    }
+}

@@ -1,0 +1,58 @@
+// The operations of the shifts by an immediate, 71 to 73.
+use lanes::KEEP;
+use lanes::PSLLD;
+use lanes::PSLLQ;
+use lanes::PSLLW;
+use lanes::PSRAD;
+use lanes::PSRAW;
+use lanes::PSRLD;
+use lanes::PSRLQ;
+use lanes::PSRLW;
+ghost use mathlib.Core.Path.{_≡_};
+ghost use Rattle.lanes.specs.Operations.{operationOf};
+ghost use Rattle.machine.specs.Instructions.{ofWidth, shiftOf};
+
+// The digits in reg.
+const RIGHT: u8 = 2;
+
+const RIGHT_SIGNED: u8 = 4;
+
+const LEFT: u8 = 6;
+
+// The lanes' widths.
+const WORD: u8 = 16;
+
+const DOUBLEWORD: u8 = 32;
+
+const QUADWORD: u8 = 64;
+
+// Of a word, doubleword and quadword operation, the one for the width.
+fn of_width(lane: u8, word: u8, doubleword: u8, quadword: u8) -> u8
+    ensures { λ r. ⌜ operationOf r ≡ ofWidth lane (operationOf word) (operationOf doubleword) (operationOf quadword) ⌝ }
+{
+    if lane == WORD {
+        return word;
+    }
+    if lane == DOUBLEWORD {
+        return doubleword;
+    }
+    if lane == QUADWORD {
+        return quadword;
+    }
+    KEEP
+}
+
+pub(crate) fn shift_number(lane: u8, digit: u8) -> u8
+    ensures { λ r. ⌜ operationOf r ≡ shiftOf lane digit ⌝ }
+{
+    if digit == RIGHT {
+        return of_width(lane, PSRLW, PSRLD, PSRLQ);
+    }
+    if digit == RIGHT_SIGNED {
+        return of_width(lane, PSRAW, PSRAD, KEEP);
+    }
+    if digit == LEFT {
+        return of_width(lane, PSLLW, PSLLD, PSLLQ);
+    }
+    KEEP
+}
