@@ -19,7 +19,8 @@ use Rattle.machine.specs.declared.reaches.Reach.the-variants.{Inside, Re
 use Rattle.machine.specs.State.{State}
 use Rattle.machine.specs.Locations.{Location, rmOf, placesOf}
 use Rattle.machine.specs.Instructions.{whole, lowHalf, effectBy}
-use Rattle.machine.specs.PrintShapes.{nowhere, beside, reachOf, storing, loading, computing, Tabled, effectIn, unmarkedPrint}
+use Rattle.machine.specs.PrintShapes.{nowhere, beside, reachOf, storing, loading, computing, Tabled, unmarkedPrint}
+use Rattle.machine.specs.Works.{effectIn}
 use Rattle.machine.proofs.PrintShaping.{shaped, stores, loads, computes}
 
 -- the forms with two operands, by their numbers

@@ -25,7 +25,8 @@ use Rattle.machine.specs.Instructions.{effectBy, effectAt, effectOf, foo
 use Rattle.machine.specs.Steps.{instructionAt}
 use Rattle.machine.specs.Footprints.{footprintAt}
 use Rattle.machine.specs.Prints.{print, printAt, printGiven}
-use Rattle.machine.specs.PrintShapes.{Tabled, effectIn, unmarkedPrint}
+use Rattle.machine.specs.PrintShapes.{Tabled, unmarkedPrint}
+use Rattle.machine.specs.Works.{effectIn}
 use Rattle.machine.proofs.PrintEntries.{read-registers, read-tabled}
 
 -- the control marks

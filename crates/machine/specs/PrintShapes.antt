@@ -8,8 +8,6 @@ use Rattle.reorder.specs.Result.{Result, done, refused, andThen, mapResult}
 use Rattle.reorder.specs.Footprint.{footprintIn}
 use Rattle.codec.specs.Forms.{isAbsent}
 use Rattle.codec.specs.Opcodes.{Entry}
-use Rattle.codec.specs.Packed.{unpacked}
-use Rattle.codec.specs.declared.Instruction.{Instruction}
 use Rattle.machine.specs.declared.Kind.the-variants.{Ordinary}
 use Rattle.machine.specs.declared.Places.{Places}
 use Rattle.machine.specs.declared.Footprint.{Footprint}
@@ -19,7 +17,6 @@ use Rattle.machine.specs.State.{State}
 use Rattle.machine.specs.Places.{Place, look}
 use Rattle.machine.specs.Locations.{Location, registersBehind}
 use Rattle.machine.specs.Effects.{Effect, placesOfAll, planOn, via}
-use Rattle.machine.specs.Instructions.{effectBy}
 use Rattle.machine.specs.Prints.{mask, setOf, print}
 
 abbrev pub nowhere : Places
@@ -59,10 +56,6 @@ computing register registers p =
 pub record Tabled (entry : Entry) : Type 0 where
   pub present : isAbsent (entry .form) ≡ false
   pub sized : 0 < entry .size
-
--- the effect of an instruction, by the number that the table has for its second byte
-abbrev pub effectIn : ℕ → Instruction → Effect
-effectIn entry i = effectBy (unpacked entry .form) (unpacked entry) (i .operand) (i .immediate)
 
 -- the footprint of an effect that no control mark stops
 unfoldable pub unmarkedPrint : Effect → State → Result Footprint

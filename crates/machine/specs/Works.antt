@@ -7,7 +7,7 @@ use Prim.Native.Nat.{ℕ, _%_, _^_, _≤_, _<_}
 use lib.Dec.{eqb}
 use Rattle.lanes.specs.Operations.{operationOf, operate, MOVE}
 use Rattle.words.specs.Buffer.{stored}
-use Rattle.reorder.specs.Result.{Result, caseOf, andThen, mapResult}
+use Rattle.reorder.specs.Result.{Result, andThen, mapResult}
 use Rattle.reorder.specs.Plan.{perform}
 use Rattle.codec.specs.Forms.{absent, loadD, loadQ}
 use Rattle.codec.specs.Opcodes.{Entry}

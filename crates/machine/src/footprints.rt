@@ -28,7 +28,8 @@ ghost use Rattle.codec.specs.Packed.{unpacked};
 ghost use Rattle.machine.specs.State.{stateOf};
 ghost use Rattle.machine.specs.Instructions.{footprint};
 ghost use Rattle.machine.specs.Prints.{print, printAt, printGiven};
-ghost use Rattle.machine.specs.PrintShapes.{storing, loading, computing, Tabled, effectIn, unmarkedPrint};
+ghost use Rattle.machine.specs.PrintShapes.{storing, loading, computing, Tabled, unmarkedPrint};
+ghost use Rattle.machine.specs.Works.{effectIn};
 
 // An MMX register is stored in the operand of r/m: what is there is not read.
 fn stored(register: u8, registers: u8, places: Places) -> Footprint

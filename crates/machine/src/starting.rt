@@ -1,7 +1,7 @@
 // The machine that a page starts from.
 ghost use mathlib.Core.Path.{_≡_};
-ghost use Prim.Native.Nat.{_<_, _^_};
-ghost use Rattle.machine.specs.Starts.{nth, eight, markAt, startOf};
+ghost use Prim.Native.Nat.{_<_};
+ghost use Rattle.machine.specs.Starts.{nth, eight, startOf};
 use crate::Machine;
 
 // The bytes of an MMX register and of an integer register.
