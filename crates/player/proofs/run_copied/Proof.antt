@@ -1,0 +1,18 @@
+-- `player::run_copied` meets its contract: the start of the buffer is the memory.
+use borrow.Author.Needs.{needs}
+use Rattle.player.proofs.Playing.{playing}
+use Rattle.player.proofs.run_copied.Statement.{statement}
+use Rattle.player.proofs.run_copied.Tie as tie
+
+pub run-copied-spec : {M : Type 1} → statement M
+run-copied-spec =
+    tie.close
+    (tie.spec
+    (λ c κs. search needs)
+    (λ c. search needs)
+    (λ c. search needs)
+    (λ c. search needs)
+    (λ c κs. search needs)
+    (λ c. search needs)
+    (λ c. search needs)
+    (λ c. search playing))

@@ -1,0 +1,2 @@
+-- The definition: what is printed of a page file.
+pub mod Page

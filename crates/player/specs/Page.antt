@@ -1,0 +1,61 @@
+-- What is printed of a page file: its refusal, or the report of its code's run in the machine that it starts from.
+use mathlib.Core.Bool.{cond}
+use mathlib.Core.List.{List}
+use Prim.Native.Nat.{ℕ}
+use lib.Dec.{ltb}
+use lib.ListN.{length}
+use Rattle.reorder.specs.Run.{Answer, finished, spent, stopped}
+use Rattle.codec.specs.Refusals.{codeTooLong}
+use Rattle.codec.specs.Reads.{longestCode}
+use Rattle.machine.specs.declared.End.{End}
+use Rattle.machine.specs.declared.End.the-variants as end
+use Rattle.machine.specs.Refusals.{memoryTooLong}
+use Rattle.machine.specs.State.{State, stateOf, isTooLong}
+use Rattle.machine.specs.Starts.{startOf}
+use Rattle.machine.specs.Runs.{runOf}
+use Rattle.pagefile.specs.declared.Page.{Page}
+use Rattle.pagefile.specs.declared.Page.the-variants.{WellFormed, Refused}
+use Rattle.pagefile.specs.Reading.{codeOf, memoryOf, mmxOf, integersOf, pageOf}
+use Rattle.printout.specs.declared.Ending.{Ending}
+use Rattle.printout.specs.declared.Ending.the-variants as ending
+use Rattle.printout.specs.Lines.{reportText, refusalText}
+
+-- the page program's budget
+abbrev pub budget : ℕ
+budget = 4096
+
+-- how the printout names each end of a run
+abbrev pub endingOf : End → Ending
+endingOf end.Done = ending.Done
+endingOf end.Spent = ending.Spent
+endingOf (end.Refused n) = ending.Refused n
+
+-- the report of a state, with how its run ended, the position reached and the count of instructions completed
+unfoldable pub stateText : Ending → ℕ → ℕ → State → List ℕ
+stateText e at count s =
+    reportText e count at (s .machine .mmx) (s .machine .integers) (s .machine .valid) (s .memory)
+
+-- the report of each answer of a run
+abbrev pub answerText : Answer State → List ℕ
+answerText (finished at count s) = stateText ending.Done at count s
+answerText (spent at count s) = stateText ending.Spent at count s
+answerText (stopped n at count s) = stateText (ending.Refused n) at count s
+
+-- the answer of the run of a page's code, in the machine that its registers and marks start, with a memory
+unfoldable pub runIn : List ℕ → ℕ → List ℕ → Answer State
+runIn memory marks file = runOf (codeOf file) budget (stateOf (startOf (mmxOf file) (integersOf file) marks) memory)
+
+-- a well-formed page is refused by 1 (its memory is too long), then by 2 (its code is), or run with its memory
+unfoldable pub wellFormedText : ℕ → List ℕ → List ℕ
+wellFormedText marks file =
+    cond (isTooLong (memoryOf file)) (refusalText memoryTooLong)
+    (cond (ltb longestCode (length (codeOf file))) (refusalText codeTooLong)
+    (answerText (runIn (memoryOf file) marks file)))
+
+-- 13 comes first
+abbrev pub textOf : Page → List ℕ → List ℕ
+textOf (WellFormed marks) file = wellFormedText marks file
+textOf (Refused n) file = refusalText n
+
+unfoldable pub pageText : List ℕ → List ℕ
+pageText file = textOf (pageOf file) file

@@ -1,0 +1,103 @@
+// From a page file to what is printed of it.
+use machine::End;
+use machine::Machine;
+use machine::Ran;
+use pagefile::Page;
+use printout::Ending;
+ghost use mathlib.Core.Path.{_≡_};
+ghost use Prim.Native.Nat.{_≤_};
+ghost use lib.ListN.{length};
+ghost use Rattle.machine.specs.Runs.{answered};
+ghost use Rattle.printout.specs.Lent.{printing, printed};
+ghost use Rattle.player.specs.Page.{endingOf, answerText, runIn, wellFormedText, pageText};
+
+// The instructions that a page may run.
+const BUDGET: u32 = 4096;
+
+// The bytes of the longest memory and of the longest code, and the refusals of longer ones.
+const LONGEST_MEMORY: usize = 32768;
+
+const LONGEST_CODE: usize = 4096;
+
+const MEMORY_TOO_LONG: u8 = 1;
+
+const CODE_TOO_LONG: u8 = 2;
+
+// How the printout names the end of a run.
+fn ending(end: End) -> Ending
+    ensures { λ r. ⌜ r ≡ endingOf end ⌝ }
+{
+    match end {
+        End::Done => Ending::Done,
+        End::Spent => Ending::Spent,
+        End::Refused(number) => Ending::Refused(number),
+    }
+}
+
+// Prints what a run handed back, and the memory that it left.
+fn print(ran: Ran, memory: &[u8], out: &mut [u8]) -> usize
+    ensures { λ r. ⌜ printing r (now (out .exit)) ≡ printed (answerText (answered ran (now (memory .entry)))) (now (out .entry)) ⌝ }
+{
+    let end = ran.end;
+    let machine = ran.machine;
+    let mmx = machine.mmx;
+    let integers = machine.integers;
+    printout::report(
+        out,
+        ending(end),
+        ran.count as usize,
+        ran.at,
+        mmx,
+        integers,
+        machine.valid,
+        memory,
+    )
+}
+
+// Runs a page's code in a memory, and prints.
+fn run(file: &[u8], marks: u8, memory: &mut [u8], out: &mut [u8]) -> usize
+    ensures { λ r. ⌜ printing r (now (out .exit)) ≡ printed (answerText (runIn (now (memory .entry)) marks (now (file .entry)))) (now (out .entry)) ⌝ }
+{
+    let machine = Machine::from_page(
+        pagefile::mmx_registers(file),
+        pagefile::integer_registers(file),
+        marks,
+    );
+    let ran = machine.run(pagefile::code(file), memory, BUDGET);
+    print(ran, memory, out)
+}
+
+// The same in a copy of the memory, at the start of a buffer.
+fn run_copied(file: &[u8], marks: u8, memory: &[u8], buffer: &mut [u8], out: &mut [u8]) -> usize
+    requires { ⌜ length (now memory) ≤ length (now buffer) ⌝ }
+    ensures { λ r. ⌜ printing r (now (out .exit)) ≡ printed (answerText (runIn (now (memory .entry)) marks (now (file .entry)))) (now (out .entry)) ⌝ }
+{
+    let n = bytes::copy(memory, buffer);
+    run(file, marks, &mut buffer[0..n], out)
+}
+
+// What is printed of a well-formed page.
+fn play_well_formed(file: &[u8], marks: u8, out: &mut [u8]) -> usize
+    ensures { λ r. ⌜ printing r (now (out .exit)) ≡ printed (wellFormedText marks (now (file .entry))) (now (out .entry)) ⌝ }
+{
+    let memory = pagefile::memory(file);
+    if LONGEST_MEMORY < memory.len() {
+        return printout::refusal(out, MEMORY_TOO_LONG);
+    }
+    if LONGEST_CODE < pagefile::code(file).len() {
+        return printout::refusal(out, CODE_TOO_LONG);
+    }
+    let mut buffer = [0u8; LONGEST_MEMORY];
+    run_copied(file, marks, memory, &mut buffer, out)
+}
+
+// All that is printed of a page file goes to the start of a buffer, and the answer is how many bytes that is. A buffer that is shorter stays as
+// it is, and the answer is 0.
+pub fn play(file: &[u8], out: &mut [u8]) -> usize
+    ensures { λ r. ⌜ printing r (now (out .exit)) ≡ printed (pageText (now (file .entry))) (now (out .entry)) ⌝ }
+{
+    match pagefile::read(file) {
+        Page::WellFormed(marks) => play_well_formed(file, marks, out),
+        Page::Refused(number) => printout::refusal(out, number),
+    }
+}
