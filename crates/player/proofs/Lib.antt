@@ -1,3 +1,4 @@
--- The laws: what is printed of a page, piece by piece; and that the contract allows one answer.
+-- The laws: what is printed of a page, piece by piece; the customer's example; and that the contract allows one answer.
 pub mod Playing
+pub mod Example
 pub mod Allowed

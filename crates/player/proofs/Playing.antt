@@ -1,9 +1,8 @@
 -- What is printed of a page, piece by piece: each text is the definition's in the case that the code has reached.
-use mathlib.Core.Path.{_≡_, refl, sym, _∙_}
+use mathlib.Core.Path.{_≡_, refl, sym}
 use mathlib.Core.List.{List, _++_}
 use Prim.Native.Nat.{ℕ, _-_, _≤_, _<_}
 use native.Mathlib.Nat.{sub-zero}
-use borrow.Author.Needs.{needs}
 use borrow.Author.Tests.{lt-ltb, le-ltb}
 use lib.ListN.{length, take, drop}
 use lib.Seq.{take-append-seam, take-length}
@@ -78,4 +77,4 @@ module _ (file buffer : List ℕ) (page : Page) (number : ℕ) (p : Printed) (re
   unfolding pageText
   malformed is told = rw (sym read, is) told
 
-pub ruleset playing = (reported, run-of-parts, run-of-copy, long-memory, long-code, page-run, well-formed, malformed, needs)
+pub ruleset playing = (reported, long-memory, long-code, page-run, well-formed, malformed)

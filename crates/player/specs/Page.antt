@@ -52,10 +52,11 @@ wellFormedText marks file =
     (cond (ltb longestCode (length (codeOf file))) (refusalText codeTooLong)
     (answerText (runIn (memoryOf file) marks file)))
 
--- 13 comes first
+-- 13 comes before 1 and 2: it is what the reading of a malformed file answers
 abbrev pub textOf : Page → List ℕ → List ℕ
 textOf (WellFormed marks) file = wellFormedText marks file
 textOf (Refused n) file = refusalText n
 
+-- all that is printed of a page file
 unfoldable pub pageText : List ℕ → List ℕ
 pageText file = textOf (pageOf file) file

@@ -1,6 +1,6 @@
 -- `player::run` meets its contract: the run of the page's parts is the page's.
 use borrow.Author.Needs.{needs}
-use Rattle.player.proofs.Playing.{playing}
+use Rattle.player.proofs.Playing.{run-of-parts}
 use Rattle.player.proofs.run.Statement.{statement}
 use Rattle.player.proofs.run.Tie as tie
 
@@ -16,4 +16,4 @@ run-spec =
     (λ c κs. search needs)
     (λ c. search needs)
     (λ c. search needs)
-    (λ c. search playing))
+    (λ c. search (run-of-parts, needs)))

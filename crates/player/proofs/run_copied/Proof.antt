@@ -1,6 +1,6 @@
 -- `player::run_copied` meets its contract: the start of the buffer is the memory.
 use borrow.Author.Needs.{needs}
-use Rattle.player.proofs.Playing.{playing}
+use Rattle.player.proofs.Playing.{run-of-copy}
 use Rattle.player.proofs.run_copied.Statement.{statement}
 use Rattle.player.proofs.run_copied.Tie as tie
 
@@ -15,4 +15,4 @@ run-copied-spec =
     (λ c κs. search needs)
     (λ c. search needs)
     (λ c. search needs)
-    (λ c. search playing))
+    (λ c. search (run-of-copy, needs)))
