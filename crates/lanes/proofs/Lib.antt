@@ -1,3 +1,4 @@
+-- The laws: of lanes and registers, of integers as differences, of each family, and of the operations by number.
 pub mod Registers
 pub mod Powers
 pub mod Bitwise

@@ -1,5 +1,5 @@
 -- The laws: the machine obeys the laws of places, reading is local, and so demand 3; a run is its steps; what refusals keep; what a footprint says;
--- masks, ranges and meeting; the manual's headings; and examples that the definitions compute.
+-- masks, ranges and meeting; the manual's headings; examples that the definitions compute; and the rules by which the code meets its contracts.
 pub mod Lists
 pub mod Laws
 pub mod Locality

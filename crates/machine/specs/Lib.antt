@@ -1,5 +1,5 @@
 -- The definitions, in document 01's order: the machine, its places and kinds, where an operand is, what each instruction takes and gives, one
--- step, the run, footprints.
+-- step, the run, footprints, the machine of a page; then the words of the code's private contracts.
 pub mod State
 pub mod Refusals
 pub mod Places
