@@ -9,6 +9,13 @@ const OPERATIONS: u8 = 46;
 
 const ROUNDS: u64 = 1000;
 
+// The sorts of sources, the least number that is never a shift count of theirs, and where the third differs from the destination.
+const SOURCES: u64 = 3;
+
+const COUNTS: u64 = 72;
+
+const ONE_BYTE: u64 = 0xff_0000_0000;
+
 // The generator's number after x.
 fn next(x: u64) -> u64 {
     let y = x ^ (x << 13);
@@ -16,12 +23,15 @@ fn next(x: u64) -> u64 {
     z ^ (z << 17)
 }
 
-// A source: any number, or one that is a shift count about as often as not.
-fn source_of(x: u64, i: u64) -> u64 {
-    if i % 2 == 0 {
+// The source of a round, in turn: any number; one that is a shift count about as often as not; the destination but for one byte.
+fn source_of(x: u64, destination: u64, i: u64) -> u64 {
+    if i % SOURCES == 0 {
         return x;
     }
-    x % 72
+    if i % SOURCES == 1 {
+        return x % COUNTS;
+    }
+    destination ^ (x & ONE_BYTE)
 }
 
 // The results of an operation in so many rounds, mixed into one number.
@@ -31,7 +41,8 @@ fn mixed(operation: u8, rounds: u64) -> u64 {
     let mut total: u64 = 1;
     let mut i: u64 = 0;
     while i < rounds {
-        total = next(total ^ lanes::operate(operation, destination, source_of(source, i)));
+        let result = lanes::operate(operation, destination, source_of(source, destination, i));
+        total = std::num::wrapping_add_u64(next(total), result);
         destination = next(destination);
         source = next(source);
         i += 1;
