@@ -13,5 +13,5 @@ pub mod Multiplying
 pub mod Packing
 pub mod Shifting
 pub mod Naming
-pub mod Plates
+pub mod Illustrations
 pub mod Allowed

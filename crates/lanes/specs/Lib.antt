@@ -3,4 +3,4 @@ pub mod Lane
 pub mod Signed
 pub mod Rules
 pub mod Operations
-pub mod Plates
+pub mod Illustrations

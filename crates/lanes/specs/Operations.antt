@@ -1,5 +1,6 @@
 -- The packed operations by the manual's headings, in the order of document 01's table of opcode bytes, what each leaves, and their numbers.
 use Prim.Native.Nat.{ℕ}
+use mathlib.Core.Path.{_≡_, refl}
 use mathlib.Core.List.{List, [], _∷_}
 use lib.ListN.{getD}
 use lib.Bits.{bitAnd, bitOr, bitXor}
@@ -84,3 +85,52 @@ operations =
 -- the operation that a number names; one that names none keeps the destination
 abbrev pub operationOf : ℕ → Operation
 operationOf number = getD operations number KEEP
+
+-- every operation has a number, one that names it
+abbrev pub numbered : (operation : Operation) → (number : ℕ) × (operationOf number ≡ operation)
+numbered PUNPCKLBW = (0, refl)
+numbered PUNPCKLWD = (1, refl)
+numbered PUNPCKLDQ = (2, refl)
+numbered PACKSSWB = (3, refl)
+numbered PACKUSWB = (4, refl)
+numbered PACKSSDW = (5, refl)
+numbered PCMPGTB = (6, refl)
+numbered PCMPGTW = (7, refl)
+numbered PCMPGTD = (8, refl)
+numbered PUNPCKHBW = (9, refl)
+numbered PUNPCKHWD = (10, refl)
+numbered PUNPCKHDQ = (11, refl)
+numbered MOVE = (12, refl)
+numbered PCMPEQB = (13, refl)
+numbered PCMPEQW = (14, refl)
+numbered PCMPEQD = (15, refl)
+numbered PSRLW = (16, refl)
+numbered PSRLD = (17, refl)
+numbered PSRLQ = (18, refl)
+numbered PSRAW = (19, refl)
+numbered PSRAD = (20, refl)
+numbered PSLLW = (21, refl)
+numbered PSLLD = (22, refl)
+numbered PSLLQ = (23, refl)
+numbered PMULLW = (24, refl)
+numbered PMULHW = (25, refl)
+numbered PMADDWD = (26, refl)
+numbered PSUBUSB = (27, refl)
+numbered PSUBUSW = (28, refl)
+numbered PADDUSB = (29, refl)
+numbered PADDUSW = (30, refl)
+numbered PSUBSB = (31, refl)
+numbered PSUBSW = (32, refl)
+numbered PADDSB = (33, refl)
+numbered PADDSW = (34, refl)
+numbered PAND = (35, refl)
+numbered PANDN = (36, refl)
+numbered POR = (37, refl)
+numbered PXOR = (38, refl)
+numbered PSUBB = (39, refl)
+numbered PSUBW = (40, refl)
+numbered PSUBD = (41, refl)
+numbered PADDB = (42, refl)
+numbered PADDW = (43, refl)
+numbered PADDD = (44, refl)
+numbered KEEP = (255, refl)

@@ -1,0 +1,28 @@
+-- Illustrations of manual 004, for what document 01's plates leave out: whole registers.
+use Prim.Native.Nat.{ℕ}
+use mathlib.Core.Bool.{Bool, true, _&&_}
+use mathlib.Core.List.{List, [], _∷_}
+use lib.Dec.{eqb}
+use Rattle.lanes.specs.Operations.{Operation, PUNPCKLWD, PACKSSWB, PCMPGTW, PUNPCKHWD, PCMPEQB, PMULLW, PADDUSB, PANDN, operate}
+
+-- an operation, its destination, its source, and what it leaves
+pub data Illustration : Type 0 where
+  shows : Operation → ℕ → ℕ → ℕ → Illustration
+
+abbrev pub hold : List Illustration → Bool
+hold [] = true
+hold (shows operation destination source result ∷ rest) = eqb (operate operation destination source) result && hold rest
+
+abbrev pub illustrations : List Illustration
+illustrations =
+    -- the halves, the order of lanes, signs, and an unsigned clamp
+    shows PACKSSWB 0xFF020085007E81CF 0x007E7F00EF9DFF88 0x7E7F8088807F7E80
+    ∷ shows PCMPGTW 0xDA14800000011243 0x00018000FFFF1234 0x00000000FFFFFFFF
+    ∷ shows PCMPEQB 0xDD1542FF80EEA114 0xDB1543FF80CEA104 0x00FF00FFFF00FF00
+    ∷ shows PMULLW 0xD25053217007FFFF 0x8807EC220FF9FFFF 0x403076625FCF0001
+    ∷ shows PUNPCKHWD 0x403076625FCF0001 0x1569F98C06FD0000 0x15694030F98C7662
+    ∷ shows PUNPCKLWD 0x403076625FCF0001 0x1569F98C06FD0000 0x06FD5FCF00000001
+    ∷ shows PADDUSB 0x7FD253427770079A 0x8188EC0E1444F7A8 0xFFFFFF508BB4FEFF
+    -- 004 has no numbers for PANDN: it inverts its destination
+    ∷ shows PANDN 0xF0F0F0F0F0F0F0F0 0xFFFF0000FFFF0000 0x0F0F00000F0F0000
+    ∷ []
