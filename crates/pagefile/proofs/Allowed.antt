@@ -5,6 +5,9 @@ use contract.Lifetimes.{Lfts}
 use borrow.Fn.Kinds.{Dens, resT, endedOf}
 use denote.Triple.Clauses.{AtExit}
 use denote.Ref.{now}
+use Rattle.pagefile.specs.declared.Page.{Page}
+use Rattle.pagefile.specs.declared.Page.the-variants.{WellFormed, Refused}
+use Rattle.pagefile.specs.Reading.{outcomeOf}
 use Rattle.pagefile.proofs.read.Reads as read-reads
 use Rattle.pagefile.proofs.read.Kinds as read-kinds
 use Rattle.pagefile.proofs.code.Reads as code-reads
@@ -16,10 +19,17 @@ use Rattle.pagefile.proofs.mmx_registers.Kinds as mmx-kinds
 use Rattle.pagefile.proofs.integer_registers.Reads as integers-reads
 use Rattle.pagefile.proofs.integer_registers.Kinds as integers-kinds
 
+-- the paper's answers of two cases are equal only where the cases are
+same : (p q : Page) → outcomeOf p ≡ outcomeOf q → p ≡ q
+same (WellFormed m) (WellFormed n) e = cc
+same (WellFormed m) (Refused n) e = cc
+same (Refused m) (WellFormed n) e = cc
+same (Refused m) (Refused n) e = cc
+
 pub read-one : (κs : Lfts 1) (a : Dens κs read-kinds.ps) (r₁ r₂ : resT read-kinds.r κs .Denot)
     (s₁ s₂ : AtExit (endedOf 1 read-kinds.ps read-kinds.r) κs)
     → read-reads.Post κs a r₁ s₁ → read-reads.Post κs a r₂ s₂ → r₁ ≡ r₂
-read-one κs a r₁ r₂ s₁ s₂ p q = p ∙ sym q
+read-one κs a r₁ r₂ s₁ s₂ p q = same r₁ r₂ (p ∙ sym q)
 
 pub code-one : (κs : Lfts 1) (a : Dens κs code-kinds.ps) (r₁ r₂ : resT code-kinds.r κs .Denot)
     (s₁ s₂ : AtExit (endedOf 1 code-kinds.ps code-kinds.r) κs)

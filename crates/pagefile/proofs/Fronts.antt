@@ -1,6 +1,6 @@
 -- What the tests of a field at the front tell: they all hold, and the field takes its heading and its contents; or it takes no byte.
 use mathlib.Core.Path.{_≡_, refl}
-use mathlib.Core.Bool.{Bool, true, false, _&&_, false≢true}
+use mathlib.Core.Bool.{Bool, true, false, _&&_}
 use mathlib.Core.List.{List, []}
 use mathlib.Core.Logic.{_⊎_, inl, inr}
 use Prim.Native.Nat.{ℕ, _+_, _-_, _≤_}
@@ -8,12 +8,9 @@ use native.Mathlib.Omega.{arith}
 use borrow.Author.Tests.{eqb-true, leb-true, eq-eqb, le-leb}
 use lib.Dec.{eqb, leb}
 use lib.ListN.{length, getD, take, drop}
+use Rattle.words.proofs.Laws.{and-both}
 use Rattle.pagefile.specs.Fields.{mayHold}
 use Rattle.pagefile.specs.Reading.{lengthIn, contentsIn, stands, size, holds}
-
-pub both : (a b : Bool) → (a && b) ≡ true → (a ≡ true) × (b ≡ true)
-both true b h = (refl, h)
-both false b h = absurd (false≢true h)
 
 pub record Stands (tag : ℕ) (s : List ℕ) : Type 0 where
   pub tagged : getD s 0 0 ≡ tag
@@ -39,8 +36,8 @@ module _ (tag : ℕ) (s : List ℕ) where
     where
       go : (t : Bool) → stands tag s ≡ t → Stands tag s ⊎ Missing tag s
       go true all =
-          let (first, right) = both (eqb (getD s 0 0) tag && leb (3 + lengthIn s) (length s)) (mayHold tag (contentsIn s)) all in
-          let (same, fits) = both (eqb (getD s 0 0) tag) (leb (3 + lengthIn s) (length s)) first in
+          let (first, right) = and-both (eqb (getD s 0 0) tag && leb (3 + lengthIn s) (length s)) (mayHold tag (contentsIn s)) all in
+          let (same, fits) = and-both (eqb (getD s 0 0) tag) (leb (3 + lengthIn s) (length s)) first in
           inl (standing (eqb-true (getD s 0 0) tag same) (leb-true (3 + lengthIn s) (length s) fits) right)
       go false fails = inr (record { sized = rw fails; held = rw fails })
 

@@ -1,20 +1,21 @@
 -- A file is well formed exactly if it is made of fields as a page file is, and its parts are what these fields hold: tag by tag, what is left
 -- of the file is the bytes of the fields that are left.
 use mathlib.Core.Path.{_≡_, refl, sym, ap, subst, _∙_}
-use mathlib.Core.Bool.{true}
+use mathlib.Core.Bool.{Bool, true, false, cond}
 use mathlib.Core.List.{List, [], _∷_, _++_}
-use mathlib.Core.Logic.{_⊎_, inl, inr}
+use mathlib.Core.Logic.{_⊎_, inl, inr, _↔_}
 use Prim.Native.Nat.{ℕ, zero, suc, _+_, _-_, _≤_, _<_}
 use native.Mathlib.Nat.{eq-or-lt-of-le}
 use native.Mathlib.Omega.{arith}
 use borrow.Author.Tests.{eq-eqb, ne-eqb, eqb-true, leb-true, le-leb}
 use lib.Dec.{eqb, leb}
-use lib.ListN.{length, drop, length-append}
+use lib.ListN.{length, getD, drop, length-append}
 use lib.Seq.{getD-drop}
 use Rattle.words.proofs.Numbers.{AllBytes}
+use Rattle.words.proofs.Laws.{and-both}
 use Rattle.pagefile.specs.Fields.{Field, written, Ascending, concatenated, MadeOf, held}
-use Rattle.pagefile.specs.Reading.{contentsIn, size, holds, left, wellFormed, contentsOf}
-use Rattle.pagefile.proofs.Fronts.{both, Stands, Missing, front}
+use Rattle.pagefile.specs.Reading.{contentsIn, size, holds, left, wellFormed, contentsOf, marksOf, malformed, wellFormedWith, refusedWith, pageOf}
+use Rattle.pagefile.proofs.Fronts.{Stands, Missing, front}
 use Rattle.pagefile.proofs.Written.{taken, kept, missing, rebuilt}
 
 -- fields above a tag hold nothing under it
@@ -138,10 +139,27 @@ all-back (suc t) file most all made = all-back t file (omega arith) all (back t 
 pub well-formed-made : (file : List ℕ) → AllBytes file → wellFormed file ≡ true → (fields : List Field) × MadeOf fields file
 unfolding wellFormed
 well-formed-made file all good =
-    let (short, none) = both (leb (length file) 65536) (eqb (length (left 5 file)) 0) good in
+    let (short, none) = and-both (leb (length file) 65536) (eqb (length (left 5 file)) 0) good in
     let made = all-back 5 file (omega arith) all (record { fields = []; ascending = tt; bytes = empty (left 5 file) (eqb-true (length (left 5 file)) 0 none) }) in
     (made .fields, record { ascending = made .ascending; whole = made .bytes; short = leb-true (length file) 65536 short })
   where
     empty : (l : List ℕ) → length l ≡ 0 → l ≡ []
     empty [] e = refl
     empty (x ∷ l) e = absurd (omega arith)
+
+-- 13 is given exactly when a file of bytes is not made of such fields
+pub thirteen-exactly : (file : List ℕ) → AllBytes file → (pageOf file ≡ refusedWith malformed) ↔ ((fields : List Field) → MadeOf fields file → ⊥)
+unfolding pageOf
+thirteen-exactly file all = (λ e. by (wellFormed file) refl e, λ none. back (wellFormed file) refl none)
+  where
+    by : (t : Bool) → wellFormed file ≡ t → cond t (wellFormedWith (getD (marksOf file) 0 0)) (refusedWith malformed) ≡ refusedWith malformed
+        → (fields : List Field) → MadeOf fields file → ⊥
+    by true t e fields made = let z : _≡_ {A = ℕ} 0 1 = cc in omega arith
+    by false t e fields made =
+        let yes : wellFormed file ≡ true = made-well-formed fields file made in
+        let z : _≡_ {A = ℕ} 0 1 = cc in omega arith
+
+    back : (t : Bool) → wellFormed file ≡ t → ((fields : List Field) → MadeOf fields file → ⊥)
+        → cond t (wellFormedWith (getD (marksOf file) 0 0)) (refusedWith malformed) ≡ refusedWith malformed
+    back true t none = let (fields, made) = well-formed-made file all t in absurd (none fields made)
+    back false t none = refl

@@ -8,9 +8,9 @@ use borrow.Author.Tests.{eq-eqb, ne-eqb, eqb-true, eqb-false, le-leb, lt-leb, no
 use lib.Dec.{eqb}
 use lib.ListN.{length, getD, take, drop, length-drop, List·getD-eq-default}
 use lib.Seq.{drop-drop}
-use Rattle.pagefile.specs.declared.Page.the-variants.{WellFormed, Refused}
-use Rattle.pagefile.specs.Reading.{size, left, wellFormed, contentsOf, pageOf}
-use Rattle.pagefile.proofs.Fronts.{size-within, size-some, holds-sized}
+use Rattle.pagefile.specs.Reading.{size, left, wellFormed, contentsOf, malformed, wellFormedWith, refusedWith, pageOf}
+use Rattle.pagefile.proofs.Fronts.{holds-sized}
+use Rattle.pagefile.proofs.Places.{places}
 
 -- whether the file is well formed
 module _ (file : List ℕ) where
@@ -29,9 +29,9 @@ module _ (file : List ℕ) where
 
 -- the contents of a tag's field
 module _ (file : List ℕ) (tag : ℕ) (good : Bool) (tested : good ≡ wellFormed file) where
-  pub malformed : not good ≡ true → [] ≡ contentsOf tag file
+  pub no-part : not good ≡ true → [] ≡ contentsOf tag file
   unfolding contentsOf
-  malformed bad = rw (← tested, not-true good bad)
+  no-part bad = rw (← tested, not-true good bad)
 
   module _ (at end : ℕ) (here : drop at file ≡ left (tag - 1) file) (ends : end ≡ at + size tag (drop at file)) where
     pub part : not good ≡ false → take (end - (at + 3)) (drop (at + 3) file) ≡ contentsOf tag file
@@ -43,25 +43,18 @@ module _ (file : List ℕ) (tag : ℕ) (good : Bool) (tested : good ≡ wellForm
     pub absent : not good ≡ false → end ≡ at → [] ≡ contentsOf tag file
     absent right none = let less : end - (at + 3) ≡ 0 = omega arith in rw less at (part right)
 
--- a field that is there has its heading, and lies in the file
-pub present : (file : List ℕ) (tag at end : ℕ) → end ≡ at + size tag (drop at file) → (end ≡ at → ⊥) → at ≤ length file
-    → (at + 3 ≤ end) × (end ≤ length file)
-present file tag at end ends some within =
-    let three : 3 ≤ size tag (drop at file) = size-some tag (drop at file) (λ none. some (omega arith)) in
-    (omega arith, omega (arith, size-within tag (drop at file), length-drop at file))
-
 -- the answer
 module _ (file : List ℕ) (good : Bool) (tested : good ≡ wellFormed file) where
-  pub refused : not good ≡ true → Refused 13 ≡ pageOf file
+  pub refused : not good ≡ true → refusedWith malformed ≡ pageOf file
   unfolding pageOf
   refused bad = rw (← tested, not-true good bad)
 
   module _ (marks : List ℕ) (read : marks ≡ contentsOf 5 file) (right : not good ≡ false) where
-    pub marked : WellFormed (getD marks 0 0) ≡ pageOf file
+    pub marked : wellFormedWith (getD marks 0 0) ≡ pageOf file
     unfolding pageOf
     marked = rw (← tested, not-false good right, read)
 
-    pub unmarked : length marks ≡ 0 → WellFormed 0 ≡ pageOf file
-    unmarked none = ap WellFormed (sym (List·getD-eq-default marks 0 (omega arith))) ∙ marked
+    pub unmarked : length marks ≡ 0 → wellFormedWith 0 ≡ pageOf file
+    unmarked none = ap wellFormedWith (sym (List·getD-eq-default marks 0 (omega arith))) ∙ marked
 
-pub ruleset parts = (too-long, nothing-left, malformed, absent, part, refused, marked, unmarked)
+pub ruleset parts = (places, too-long, nothing-left, no-part, absent, part, refused, marked, unmarked)

@@ -1,11 +1,12 @@
 -- Where a field ends that starts at a place of the file, by the tests that the code makes there: what is left from the place on is `drop at file`.
-use mathlib.Core.Path.{_≡_, sym, ap, _∙_}
+use mathlib.Core.Path.{_≡_, refl, sym, ap, _∙_}
 use mathlib.Core.Bool.{Bool, true, false, and-false}
 use mathlib.Core.List.{List}
 use Prim.Native.Nat.{ℕ, _+_, _-_, _≤_, _<_}
 use native.Mathlib.Nat.{add-zero, add-sub-cancel-left}
 use native.Mathlib.Numerals.{add-one}
 use native.Mathlib.Omega.{arith}
+use borrow.Author.Needs.{needs}
 use borrow.Author.Tests.{ne-eqb, lt-leb}
 use lib.ListN.{length, getD, take, drop, length-drop}
 use lib.Seq.{getD-drop, drop-drop}
@@ -14,7 +15,7 @@ use Rattle.words.specs.Buffer.{loaded}
 use Rattle.words.proofs.Laws.{loaded-inside}
 use Rattle.pagefile.specs.Fields.{mayHold}
 use Rattle.pagefile.specs.Reading.{lengthIn, contentsIn, stands, size, left}
-use Rattle.pagefile.proofs.Fronts.{standing, size-within}
+use Rattle.pagefile.proofs.Fronts.{standing, size-within, size-some}
 
 module _ (file : List ℕ) (tag at : ℕ) where
   none : stands tag (drop at file) ≡ false → at ≡ at + size tag (drop at file)
@@ -60,13 +61,27 @@ module _ (file : List ℕ) (tag at : ℕ) where
           let enough : 3 + lengthIn (drop at file) ≤ length (drop at file) = simp (length-drop, counted) (omega arith) in
           let field = standing tag (drop at file) (tag-at ∙ same) enough (allowed ∙ right) in omega (arith, counted)
 
--- one tag more is read
-pub one-more : (file : List ℕ) (at read end : ℕ) → end ≡ at + size (read + 1) (drop at file) → at ≤ length file → drop at file ≡ left read file
-    → (end ≤ length file) × (drop end file ≡ left (read + 1) file)
-unfolding left
-one-more file at read end e within here = (
-  omega (arith, size-within (read + 1) (drop at file), length-drop at file),
-  rw (e, ← drop-drop (size (read + 1) (drop at file)) at file, here, add-one read),
-)
+-- a field's end lies in the file, and past its heading where the field is there
+module _ (file : List ℕ) (tag at end : ℕ) (ends : end ≡ at + size tag (drop at file)) where
+  pub end-within : at ≤ length file → end ≤ length file
+  end-within within = omega (arith, size-within tag (drop at file), length-drop at file)
 
-pub ruleset ends = (too-short, other-tag, runs-past, wrong-contents, whole-field)
+  pub past-heading : (end ≡ at → ⊥) → at + 3 ≤ end
+  past-heading some = omega (arith, size-some tag (drop at file) (λ none. some (omega arith)))
+
+-- what is left of the file from the place on: all, then one field less, until all tags are read
+pub none-read : (file : List ℕ) → file ≡ left 0 file
+unfolding left
+none-read file = refl
+
+module _ (file : List ℕ) (at read : ℕ) (here : drop at file ≡ left read file) where
+  pub one-read : (end : ℕ) → end ≡ at + size (read + 1) (drop at file) → drop end file ≡ left (read + 1) file
+  unfolding left
+  one-read end ends = rw (ends, ← drop-drop (size (read + 1) (drop at file)) at file, here, add-one read)
+
+  pub all-read : (tag : ℕ) → read ≤ tag → tag ≤ read → drop at file ≡ left tag file
+  all-read tag most least = let all : read ≡ tag = omega arith in rw all at here
+
+pub ruleset ends = (needs, too-short, other-tag, runs-past, wrong-contents, whole-field)
+
+pub ruleset places = (needs, end-within, past-heading, none-read, one-read, all-read)

@@ -56,6 +56,20 @@ integersOf file = contentsOf 4 file
 abbrev pub marksOf : List ℕ → List ℕ
 marksOf file = contentsOf 5 file
 
--- the marks of a well-formed file, 0 where they are absent; a malformed one is refusal 13
-unfoldable pub pageOf : List ℕ → Page
-pageOf file = cond (wellFormed file) (WellFormed (getD (marksOf file) 0 0)) (Refused 13)
+-- the refusal of a malformed file
+abbrev pub malformed : ℕ
+malformed = 13
+
+-- what the reading of a file comes to: well formed, with its marks; or refused, with the refusal's number
+pub data Outcome : Type 0 where
+  wellFormedWith : ℕ → Outcome
+  refusedWith : ℕ → Outcome
+
+-- the marks of a well-formed file, 0 where they are absent
+unfoldable pub pageOf : List ℕ → Outcome
+pageOf file = cond (wellFormed file) (wellFormedWith (getD (marksOf file) 0 0)) (refusedWith malformed)
+
+-- the paper's answer for each case of the code's
+abbrev pub outcomeOf : Page → Outcome
+outcomeOf (WellFormed marks) = wellFormedWith marks
+outcomeOf (Refused number) = refusedWith number

@@ -3,7 +3,7 @@ ghost use mathlib.Core.Path.{_≡_};
 ghost use Prim.Native.Nat.{_+_, _<_, _≤_};
 ghost use lib.ListN.{length, drop};
 ghost use Rattle.pagefile.specs.Fields.{mayHold};
-ghost use Rattle.pagefile.specs.Reading.{size, left, wellFormed, contentsOf, codeOf, memoryOf, mmxOf, integersOf, pageOf};
+ghost use Rattle.pagefile.specs.Reading.{size, left, wellFormed, contentsOf, codeOf, memoryOf, mmxOf, integersOf, pageOf, outcomeOf};
 
 // The tags of the five fields.
 const CODE: u8 = 1;
@@ -32,7 +32,7 @@ const MARKS_BYTES: usize = 1;
 const MARKS_LIMIT: u8 = 16;
 
 // The bytes of the longest file.
-const LONGEST: usize = 65536;
+pub const LONGEST_FILE: usize = 65536;
 
 // The refusal of a malformed file.
 const MALFORMED: u8 = 13;
@@ -104,7 +104,7 @@ fn fields_end(file: &[u8], tag: u8) -> usize
 fn well_formed(file: &[u8]) -> bool
     ensures { λ r. ⌜ r ≡ wellFormed (now (file .entry)) ⌝ }
 {
-    if LONGEST < file.len() {
+    if LONGEST_FILE < file.len() {
         return false;
     }
     fields_end(file, MARKS) == file.len()
@@ -129,7 +129,7 @@ fn contents(file: &[u8], tag: u8) -> &[u8]
 
 // Whether a file is well formed. The marks are 0 where their field is absent.
 pub fn read(file: &[u8]) -> Page
-    ensures { λ r. ⌜ r ≡ pageOf (now (file .entry)) ⌝ }
+    ensures { λ r. ⌜ outcomeOf r ≡ pageOf (now (file .entry)) ⌝ }
 {
     if !well_formed(file) {
         return Page::Refused(MALFORMED);

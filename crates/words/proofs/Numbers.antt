@@ -66,7 +66,6 @@ pub number-fits : (k value : ℕ) → value < 256 ^ k → number (bytes k value)
 number-fits k value h = number-bytes k value ∙ mod-eq-of-lt h
 
 -- the first k bytes of a list
-
 pub all-take : (k : ℕ) (l : List ℕ) → AllBytes l → AllBytes (take k l)
 all-take zero l all = all-none
 all-take (suc k) [] all = all-none
