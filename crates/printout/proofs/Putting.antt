@@ -1,9 +1,10 @@
--- Texts that are put one after the other are one text: each starts where the one before it ends.
+-- Texts that are put one after the other are one text: each starts where the one before it ends. And what is left of a text, put, gives the whole.
 use mathlib.Core.Path.{_≡_, refl, sym, ap, _∙_}
 use mathlib.Core.List.{List, [], _∷_, _++_}
 use Prim.Native.Nat.{ℕ, suc, _+_}
 use native.Mathlib.Nat.{add-zero, add-suc, suc-add}
 use native.Mathlib.Omega.{arith}
+use borrow.Author.Needs.{needs}
 use lib.ListN.{length, set, length-append}
 use lib.Seq.{sets, length-sets, set-comm}
 use Rattle.printout.specs.Lent.{put, Fits, Puts}
@@ -17,7 +18,7 @@ put-append : (l xs ys : List ℕ) (at p : ℕ) → p ≡ at + length xs → put 
 unfolding put
 put-append l xs ys at p e = sets-append l xs ys at p e
 
-pub length-put : (l : List ℕ) (at : ℕ) (xs : List ℕ) → length (put l at xs) ≡ length l
+length-put : (l : List ℕ) (at : ℕ) (xs : List ℕ) → length (put l at xs) ≡ length l
 unfolding put
 length-put l at xs = length-sets l at xs
 
@@ -33,7 +34,7 @@ then {xs} {ys} {l} {m} {n} {at} {p} {q} one two = record {
   content = two .content ∙ ap (λ (k : List ℕ). put k p ys) (one .content) ∙ sym (put-append l xs ys at p (one .ends));
 }
 
--- where two texts fit, so does the first, and after it the second
+-- where texts fit, so does the first, after it the second, and after both the third
 pub fits-first : {xs l : List ℕ} (ys : List ℕ) {at : ℕ} → Fits (xs ++ ys) at l → Fits xs at l
 fits-first {xs} {l} ys {at} both = record { room = omega (arith, both .room, length-append xs ys) }
 
@@ -42,7 +43,17 @@ fits-next {xs} {ys} {l} {m} {at} {p} one both = record {
   room = omega (arith, one .ends, both .room, length-append xs ys, simp length-put at (ap length (one .content)));
 }
 
-pub ruleset chain = (fits-first, fits-next, then)
+pub fits-third : {xs ys zs l m n : List ℕ} {at p q : ℕ} → Puts ys p m q n → Puts xs at l p m → Fits (xs ++ ys ++ zs) at l → Fits zs q n
+fits-third two one all = fits-next (then one two) all
+
+pub ruleset chain = (needs, puts-one, fits-first, fits-next, fits-third, then)
+
+-- a text by another name
+pub fits-as : {xs ys l : List ℕ} {at : ℕ} → Fits xs at l → xs ≡ ys → Fits ys at l
+fits-as fits same = rw same at fits
+
+pub puts-as : {xs ys l m : List ℕ} {at p : ℕ} → Puts ys at l p m → xs ≡ ys → Puts xs at l p m
+puts-as puts same = rw same puts
 
 -- what is left to put, put at a place, gives the whole
 pub record Left (rest : List ℕ) (p : ℕ) (m : List ℕ) (whole : List ℕ) (at : ℕ) (l : List ℕ) : Type 0 where
@@ -52,28 +63,29 @@ pub record Left (rest : List ℕ) (p : ℕ) (m : List ℕ) (whole : List ℕ) (a
 pub all-left : (l : List ℕ) (at : ℕ) (whole : List ℕ) → Left whole at l whole at l
 all-left l at whole = record { ends = refl; content = refl }
 
-pub less-left : {rest xs ys l m n whole : List ℕ} {at p q : ℕ} → rest ≡ xs ++ ys
-    → Left rest p m whole at l → Puts xs p m q n → Left ys q n whole at l
-less-left {rest} {xs} {ys} {l} {m} {n} {whole} {at} {p} {q} e more one = record {
+pub less-left : {rest xs ys l m n whole : List ℕ} {at p q : ℕ} → Puts xs p m q n → Left rest p m whole at l → rest ≡ xs ++ ys
+    → Left ys q n whole at l
+less-left {rest} {xs} {ys} {l} {m} {n} {whole} {at} {p} {q} one more e = record {
   ends = omega (arith, more .ends, one .ends, simp length-append at (ap length e));
   content =
       ap (λ (k : List ℕ). put k q ys) (one .content) ∙ sym (put-append m xs ys p q (one .ends))
       ∙ ap (put m p) (sym e) ∙ more .content;
 }
 
-pub none-left : {rest l m whole : List ℕ} {at p : ℕ} → rest ≡ [] → Left rest p m whole at l → Puts whole at l p m
+pub none-left : {rest l m whole : List ℕ} {at p : ℕ} → Left rest p m whole at l → rest ≡ [] → Puts whole at l p m
 unfolding put
-none-left {rest} {l} {m} {whole} {at} {p} e left =
+none-left {rest} {l} {m} {whole} {at} {p} left e =
     record { ends = omega (arith, left .ends, ap length e); content = ap (put m p) (sym e) ∙ left .content }
 
 pub same-room : {rest m whole l : List ℕ} {p at : ℕ} → Left rest p m whole at l → length m ≡ length l
 same-room {rest} {m} {whole} {l} {p} {at} left = sym (length-put m p rest) ∙ ap length (left .content) ∙ length-put l at whole
 
-pub fits-left : {rest xs l m whole : List ℕ} (ys : List ℕ) {at p : ℕ} → rest ≡ xs ++ ys
-    → Left rest p m whole at l → Fits whole at l → Fits xs p m
-fits-left {rest} {xs} {l} {m} {whole} ys {at} {p} e left fits = record {
+pub fits-left : {rest xs l m whole : List ℕ} (ys : List ℕ) {at p : ℕ} → Left rest p m whole at l → rest ≡ xs ++ ys → Fits whole at l → Fits xs p m
+fits-left {rest} {xs} {l} {m} {whole} ys {at} {p} left e fits = record {
   room = omega (arith, left .ends, fits .room, simp length-append at (ap length e), same-room left);
 }
+
+pub ruleset turning = (needs, all-left, less-left, none-left, same-room, fits-left)
 
 -- a character after a text, put before it
 sets-after : (l xs : List ℕ) (at p x : ℕ) → p ≡ at + length xs → sets (set l p x) at xs ≡ sets l at (xs ++ (x ∷ []))

@@ -5,6 +5,7 @@ use mathlib.Core.List.{List, _++_}
 use Prim.Native.Nat.{ℕ, _+_, _-_, _*_, _/_, _≤_, _<_}
 use native.Mathlib.Nat.{zero-add}
 use native.Mathlib.Omega.{arith}
+use borrow.Author.Needs.{needs}
 use borrow.Author.Tests.{leb-true, leb-false, le-leb, lt-leb, not-true, not-false}
 use lib.Dec.{leb}
 use lib.ListN.{length, drop, length-append}
@@ -13,26 +14,31 @@ use Rattle.printout.specs.declared.Ending.{Ending}
 use Rattle.printout.specs.Characters.{places}
 use Rattle.printout.specs.Lines.{reportText, reportLength, refusalText}
 use Rattle.printout.specs.Lent.{put, Fits, Puts, Printed, printing, printed}
-use Rattle.printout.proofs.Lengths.{length-refusal, length-report}
+use Rattle.printout.proofs.Lengths.{length-done, length-spent, length-refused, length-refusal, length-report, counted-report}
 
-pub headings-short : (headings buffer total : ℕ) → buffer < headings → headings ≤ total → false ≡ leb total buffer
-headings-short headings buffer total short least = sym (lt-leb total buffer (omega arith))
+-- the test of the room for a report: its headings, and then 3 characters for each byte of the memory
+module _ (ending : Ending) (count position memory buffer headings : ℕ) where
+  pub no-room : buffer < headings → reportLength ending count position memory ≡ headings + 3 * memory
+      → false ≡ leb (reportLength ending count position memory) buffer
+  no-room short sum = sym (lt-leb (reportLength ending count position memory) buffer (omega arith))
 
--- so much memory has room after the headings
-pub memory-fits : (headings memory buffer total : ℕ) → headings ≤ buffer → total ≡ headings + 3 * memory
-    → leb memory ((buffer - headings) / 3) ≡ leb total buffer
-memory-fits headings memory buffer total enough sum = go (leb memory ((buffer - headings) / 3)) refl
-  where
-    go : (t : Bool) → leb memory ((buffer - headings) / 3) ≡ t → t ≡ leb total buffer
-    go true e = sym (le-leb total buffer (omega (arith, leb-true memory ((buffer - headings) / 3) e)))
-    go false e = sym (lt-leb total buffer (omega (arith, leb-false memory ((buffer - headings) / 3) e)))
+  pub room-after : headings ≤ buffer → reportLength ending count position memory ≡ headings + 3 * memory
+      → leb memory ((buffer - headings) / 3) ≡ leb (reportLength ending count position memory) buffer
+  room-after enough sum = go (leb memory ((buffer - headings) / 3)) refl
+    where
+      go : (t : Bool) → leb memory ((buffer - headings) / 3) ≡ t → t ≡ leb (reportLength ending count position memory) buffer
+      go true e = sym (le-leb _ buffer (omega (arith, leb-true memory ((buffer - headings) / 3) e)))
+      go false e = sym (lt-leb _ buffer (omega (arith, leb-false memory ((buffer - headings) / 3) e)))
 
+pub ruleset counting = (needs, length-done, length-spent, length-refused, counted-report, no-room, room-after)
+
+-- what a buffer gets
 module _ (text buffer : List ℕ) where
-  pub too-short : length buffer < length text → printing 0 buffer ≡ printed text buffer
+  too-short : length buffer < length text → printing 0 buffer ≡ printed text buffer
   unfolding printed
   too-short short = rw (lt-leb _ _ short)
 
-  pub whole : (end : ℕ) (after : List ℕ) → Fits text 0 buffer → Puts text 0 buffer end after → printing end after ≡ printed text buffer
+  whole : (end : ℕ) (after : List ℕ) → Fits text 0 buffer → Puts text 0 buffer end after → printing end after ≡ printed text buffer
   unfolding printed put
   whole end after fits puts =
       let enough : length text ≤ length buffer = omega (arith, fits .room) in
@@ -94,4 +100,4 @@ module _ (ending : Ending) (count position : ℕ) (mmx integers : List ℕ) (val
     report-printed end after puts =
         whole (reportText ending count position mmx integers valid memory) buffer end after (rw same at report-fits) (rw same at puts)
 
-pub ruleset rooms = (refusal-short, refusal-fits, refusal-printed, report-short, report-fits, report-printed)
+pub ruleset rooms = (needs, refusal-short, refusal-fits, refusal-printed, report-short, report-fits, report-printed)

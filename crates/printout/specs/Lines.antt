@@ -19,18 +19,15 @@ answer Done = ascii "done"
 answer Spent = ascii "spent"
 answer (Refused number) = refused number
 
--- ` 1 at 3`
-unfoldable pub progress : ℕ → ℕ → List ℕ
-progress count position = (ascii " " ++ decimal count) ++ (ascii " at " ++ decimal position) ++ newline
-
 -- `done 1 at 3`
 unfoldable pub firstLine : Ending → ℕ → ℕ → List ℕ
-firstLine ending count position = answer ending ++ progress count position
+firstLine ending count position =
+    answer ending ++ (ascii " " ++ decimal count) ++ (ascii " at " ++ decimal position ++ newline)
 
 -- `mm0 0000000000000001`: a name of three letters and a space, and the register's hex digits
 unfoldable pub registerLines : List ℕ → ℕ → List ℕ → List ℕ
 registerLines names k [] = []
-registerLines names k (value ∷ values) = take 4 names ++ hex k value ++ newline ++ registerLines (drop 4 names) k values
+registerLines names k (value ∷ values) = take 4 names ++ (hex k value ++ newline) ++ registerLines (drop 4 names) k values
 
 -- the lines of MM0 to MM7, and of the integer registers in the order of their numbers
 abbrev pub mmxNames : List ℕ
@@ -72,6 +69,10 @@ reportText ending count position mmx integers valid memory =
 abbrev pub reportLength : Ending → ℕ → ℕ → ℕ → ℕ
 reportLength ending count position n =
     length (firstLine ending count position) + (8 * 21 + 8 * 13 + 11) + length (memoryLine n) + 3 * n
+
+-- the longest report of a memory that the machine takes: a refusal has up to 3 digits, a count and a position up to 20 each, the memory's length 5
+abbrev pub longestReport : ℕ
+longestReport = (11 + 20 + 20 + 6) + (8 * 21 + 8 * 13 + 11) + (5 + 8) + 3 * 32768
 
 -- all that is printed of a refused file
 unfoldable pub refusalText : ℕ → List ℕ

@@ -3,7 +3,7 @@ ghost use mathlib.Core.Path.{_≡_};
 ghost use Prim.Native.Nat.{_≤_};
 ghost use lib.Dec.{leb};
 ghost use lib.ListN.{length};
-ghost use Rattle.printout.specs.Lines.{answer, firstLine, reportLength};
+ghost use Rattle.printout.specs.Lines.{answer, reportLength};
 use crate::Ending;
 use crate::put::decimal_places;
 
@@ -76,16 +76,6 @@ fn answer_length(ending: Ending) -> usize
     }
 }
 
-// How many characters the first line has.
-fn first_line_length(ending: Ending, count: usize, position: usize) -> usize
-    ensures { λ r. ⌜ (r ≡ length (firstLine ending count position)) × (r ≤ 74) ⌝ }
-{
-    answer_length(ending)
-        + decimal_places(count as u64)
-        + decimal_places(position as u64)
-        + FIRST_LINE
-}
-
 // Whether a buffer is as long as the report.
 pub(crate) fn has_room(
     buffer: usize,
@@ -96,8 +86,11 @@ pub(crate) fn has_room(
 ) -> bool
     ensures { λ r. ⌜ r ≡ leb (reportLength ending count position memory) buffer ⌝ }
 {
-    let numbers = first_line_length(ending, count, position) + decimal_places(memory as u64);
-    let headings = numbers + MMX_LINES + INTEGER_LINES + TAGS_LINE + MEMORY_LINE;
+    let numbers = answer_length(ending)
+        + decimal_places(count as u64)
+        + decimal_places(position as u64)
+        + decimal_places(memory as u64);
+    let headings = numbers + FIRST_LINE + MMX_LINES + INTEGER_LINES + TAGS_LINE + MEMORY_LINE;
     if buffer < headings {
         return false;
     }

@@ -1,8 +1,8 @@
 // What the page program prints: the report of a run, or the refusal of a file, put at the start of a lent buffer.
 ghost use mathlib.Core.Path.{_≡_};
 ghost use mathlib.Core.List.{_++_};
-ghost use lib.ListN.{length};
-ghost use Rattle.printout.specs.Lines.{firstLine, mmxLines, integerLines, tagsLine, memoryLine, byteLines, reportText, refusalText};
+ghost use lib.ListN.{length, replicate};
+ghost use Rattle.printout.specs.Lines.{firstLine, mmxLines, integerLines, tagsLine, memoryLine, byteLines, reportText, longestReport, refusalText};
 ghost use Rattle.printout.specs.Lent.{Fits, Puts, printing, printed};
 
 mod count;
@@ -17,15 +17,13 @@ use count::REFUSED;
 use count::has_room;
 use line::put_byte_lines;
 use line::put_first_line;
-use line::put_memory_line;
 use line::put_registers;
 use line::put_tags_line;
 use line::widened;
 use put::decimal_places;
-use put::put_character;
-use put::put_number;
+use put::put_number_line;
 
-// The bytes of a buffer that has room for every report of a memory that the machine takes.
+// The bytes of the longest report of a memory that the machine takes.
 pub const LONGEST_REPORT: usize = LONGEST;
 
 // How a run ended: a refusal carries its number.
@@ -33,6 +31,13 @@ pub enum Ending {
     Done,
     Spent,
     Refused(u8),
+}
+
+// A buffer with room for every such report.
+pub fn buffer() -> [u8; LONGEST_REPORT]
+    ensures { λ r. ⌜ r ≡ replicate longestReport 0 ⌝ }
+{
+    [0; LONGEST_REPORT]
 }
 
 // The first line and the registers.
@@ -70,7 +75,7 @@ fn put_bottom(out: &mut [u8], at: usize, valid: bool, memory: &[u8]) -> usize
     ensures { λ r. ⌜ Puts (tagsLine valid ++ memoryLine (length (now (memory .entry))) ++ byteLines 0 (now (memory .entry))) at (now (out .entry)) r (now (out .exit)) ⌝ }
 {
     let mut end = put_tags_line(out, at, valid);
-    end = put_memory_line(out, end, memory.len());
+    end = put_number_line(out, end, b"memory ", memory.len() as u64);
     put_byte_lines(out, end, memory)
 }
 
@@ -120,6 +125,5 @@ pub fn refusal(out: &mut [u8], number: u8) -> usize
     if out.len() < REFUSED + decimal_places(number as u64) + LINE_END {
         return 0;
     }
-    let end = put_number(out, 0, b"refused ", number as u64);
-    put_character(out, end, b'\n')
+    put_number_line(out, 0, b"refused ", number as u64)
 }

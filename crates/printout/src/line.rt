@@ -1,19 +1,18 @@
 // The lines of the text, put at a place of a lent buffer.
 ghost use mathlib.Core.Path.{_≡_};
-ghost use mathlib.Core.List.{[], _∷_, _++_};
+ghost use mathlib.Core.List.{_++_};
 ghost use Prim.Native.Nat.{_*_};
 ghost use lib.ListN.{length};
 ghost use Rattle.printout.specs.Characters.{newline, hex};
-ghost use Rattle.printout.specs.Lines.{answer, progress, firstLine, registerLines, tagsLine, memoryLine, gapAfter, byteLines};
+ghost use Rattle.printout.specs.Lines.{answer, firstLine, registerLines, tagsLine, gapAfter, byteLines};
 ghost use Rattle.printout.specs.Lent.{Fits, Puts};
 use crate::Ending;
 use crate::count::BYTE_DIGITS;
 use crate::count::NAME;
 use crate::count::REGISTERS;
-use crate::put::HEXADECIMAL;
-use crate::put::put_character;
-use crate::put::put_digits;
+use crate::put::put_hex;
 use crate::put::put_number;
+use crate::put::put_number_line;
 use crate::put::put_word;
 
 // How many bytes of the memory stand on a line.
@@ -31,16 +30,6 @@ fn put_answer(out: &mut [u8], at: usize, ending: Ending) -> usize
     }
 }
 
-// How many instructions are completed, and the position.
-fn put_progress(out: &mut [u8], at: usize, count: usize, position: usize) -> usize
-    requires { ⌜ Fits (progress count position) at (now out) ⌝ }
-    ensures { λ r. ⌜ Puts (progress count position) at (now (out .entry)) r (now (out .exit)) ⌝ }
-{
-    let mut end = put_number(out, at, b" ", count as u64);
-    end = put_number(out, end, b" at ", position as u64);
-    put_character(out, end, b'\n')
-}
-
 // The first line.
 pub(crate) fn put_first_line(
     out: &mut [u8],
@@ -52,18 +41,18 @@ pub(crate) fn put_first_line(
     requires { ⌜ Fits (firstLine ending count position) at (now out) ⌝ }
     ensures { λ r. ⌜ Puts (firstLine ending count position) at (now (out .entry)) r (now (out .exit)) ⌝ }
 {
-    let end = put_answer(out, at, ending);
-    put_progress(out, end, count, position)
+    let mut end = put_answer(out, at, ending);
+    end = put_number(out, end, b" ", count as u64);
+    put_number_line(out, end, b" at ", position as u64)
 }
 
 // A register's line.
 fn put_register(out: &mut [u8], at: usize, name: &[u8], value: u64, count: usize) -> usize
-    requires { ⌜ Fits (now name ++ hex count value ++ newline) at (now out) ⌝ }
-    ensures { λ r. ⌜ Puts (now (name .entry) ++ hex count value ++ newline) at (now (out .entry)) r (now (out .exit)) ⌝ }
+    requires { ⌜ Fits (now name ++ (hex count value ++ newline)) at (now out) ⌝ }
+    ensures { λ r. ⌜ Puts (now (name .entry) ++ (hex count value ++ newline)) at (now (out .entry)) r (now (out .exit)) ⌝ }
 {
-    let mut end = put_word(out, at, name);
-    end = put_digits(out, end, value, HEXADECIMAL, count);
-    put_character(out, end, b'\n')
+    let end = put_word(out, at, name);
+    put_hex(out, end, value, count, b'\n')
 }
 
 // The lines of registers.
@@ -117,15 +106,6 @@ pub(crate) fn put_tags_line(out: &mut [u8], at: usize, valid: bool) -> usize
     }
 }
 
-// The memory's heading.
-pub(crate) fn put_memory_line(out: &mut [u8], at: usize, count: usize) -> usize
-    requires { ⌜ Fits (memoryLine count) at (now out) ⌝ }
-    ensures { λ r. ⌜ Puts (memoryLine count) at (now (out .entry)) r (now (out .exit)) ⌝ }
-{
-    let end = put_number(out, at, b"memory ", count as u64);
-    put_character(out, end, b'\n')
-}
-
 // What stands after a byte of the memory.
 fn gap_after(index: usize, following: usize) -> u8
     ensures { λ r. ⌜ r ≡ gapAfter index following ⌝ }
@@ -136,15 +116,6 @@ fn gap_after(index: usize, following: usize) -> u8
     if following == 0 { b'\n' } else { b' ' }
 }
 
-// A byte of the memory, and what stands after it.
-fn put_byte(out: &mut [u8], at: usize, byte: u8, gap: u8) -> usize
-    requires { ⌜ Fits (hex 2 byte ++ (gap ∷ [])) at (now out) ⌝ }
-    ensures { λ r. ⌜ Puts (hex 2 byte ++ (gap ∷ [])) at (now (out .entry)) r (now (out .exit)) ⌝ }
-{
-    let end = put_digits(out, at, byte as u64, HEXADECIMAL, BYTE_DIGITS);
-    put_character(out, end, gap)
-}
-
 // The lines of the memory's bytes.
 pub(crate) fn put_byte_lines(out: &mut [u8], at: usize, memory: &[u8]) -> usize
     requires { ⌜ Fits (byteLines 0 (now memory)) at (now out) ⌝ }
@@ -153,7 +124,13 @@ pub(crate) fn put_byte_lines(out: &mut [u8], at: usize, memory: &[u8]) -> usize
     let mut end = at;
     let mut i: usize = 0;
     while i < memory.len() {
-        end = put_byte(out, end, memory[i], gap_after(i, memory.len() - i - 1));
+        end = put_hex(
+            out,
+            end,
+            memory[i] as u64,
+            BYTE_DIGITS,
+            gap_after(i, memory.len() - i - 1),
+        );
         i += 1;
     }
     end

@@ -1,14 +1,15 @@
 // Characters, words and numbers, put at a place of a lent buffer. Each function answers the place after what it put.
 ghost use mathlib.Core.Path.{_≡_};
 ghost use mathlib.Core.List.{[], _∷_, _++_};
-ghost use Prim.Native.Nat.{_<_, _≤_};
-ghost use Rattle.printout.specs.Characters.{digitOf, digits, places, decimal};
+ghost use Prim.Native.Nat.{_+_, _<_, _≤_};
+ghost use lib.ListN.{length};
+ghost use Rattle.printout.specs.Characters.{newline, digitOf, digits, hex, places, decimal};
 ghost use Rattle.printout.specs.Lent.{Fits, Puts};
 
 // The bases of the numbers.
-pub(crate) const DECIMAL: u64 = 10;
+const DECIMAL: u64 = 10;
 
-pub(crate) const HEXADECIMAL: u64 = 16;
+const HEXADECIMAL: u64 = 16;
 
 // One digit, 0 to 9 or A to F.
 fn digit(value: u64) -> u8
@@ -23,7 +24,7 @@ fn digit(value: u64) -> u8
 }
 
 // One character.
-pub(crate) fn put_character(out: &mut [u8], at: usize, character: u8) -> usize
+fn put_character(out: &mut [u8], at: usize, character: u8) -> usize
     requires { ⌜ Fits (character ∷ []) at (now out) ⌝ }
     ensures { λ r. ⌜ Puts (character ∷ []) at (now (out .entry)) r (now (out .exit)) ⌝ }
 {
@@ -46,8 +47,8 @@ pub(crate) fn put_word(out: &mut [u8], at: usize, word: &[u8]) -> usize
 }
 
 // The lowest digits of a number, from the last one to the first.
-pub(crate) fn put_digits(out: &mut [u8], at: usize, number: u64, base: u64, count: usize) -> usize
-    requires { ⌜ (0 < base) × (base ≤ 16) × Fits (digits base count number) at (now out) ⌝ }
+fn put_digits(out: &mut [u8], at: usize, number: u64, base: u64, count: usize) -> usize
+    requires { ⌜ (0 < base) × (base ≤ 16) × (at + count ≤ length (now out)) ⌝ }
     ensures { λ r. ⌜ Puts (digits base count number) at (now (out .entry)) r (now (out .exit)) ⌝ }
 {
     let mut rest = number;
@@ -80,4 +81,22 @@ pub(crate) fn put_number(out: &mut [u8], at: usize, word: &[u8], number: u64) ->
 {
     let end = put_word(out, at, word);
     put_digits(out, end, number, DECIMAL, decimal_places(number))
+}
+
+// The same, and a line end.
+pub(crate) fn put_number_line(out: &mut [u8], at: usize, word: &[u8], number: u64) -> usize
+    requires { ⌜ Fits (now word ++ decimal number ++ newline) at (now out) ⌝ }
+    ensures { λ r. ⌜ Puts (now (word .entry) ++ decimal number ++ newline) at (now (out .entry)) r (now (out .exit)) ⌝ }
+{
+    let end = put_number(out, at, word, number);
+    put_character(out, end, b'\n')
+}
+
+// A number's lowest hex digits, and the character after them.
+pub(crate) fn put_hex(out: &mut [u8], at: usize, number: u64, count: usize, after: u8) -> usize
+    requires { ⌜ Fits (hex count number ++ (after ∷ [])) at (now out) ⌝ }
+    ensures { λ r. ⌜ Puts (hex count number ++ (after ∷ [])) at (now (out .entry)) r (now (out .exit)) ⌝ }
+{
+    let end = put_digits(out, at, number, HEXADECIMAL, count);
+    put_character(out, end, after)
 }

@@ -1,0 +1,54 @@
+-- Every text of a page has room in a buffer of `longestReport` bytes, so none is cut: its numbers have no more digits than the largest of their kinds.
+use mathlib.Core.Path.{_≡_, refl}
+use mathlib.Core.Bool.{Bool}
+use mathlib.Core.List.{List, _++_}
+use Prim.Native.Nat.{ℕ, _^_, _≤_, _<_}
+use native.Mathlib.Nat.{pow-suc}
+use native.Mathlib.Omega.{arith}
+use borrow.Author.Tests.{le-leb}
+use lib.ListN.{length, drop}
+use Rattle.printout.specs.declared.Ending.{Ending}
+use Rattle.printout.specs.declared.Ending.the-variants.{Done, Spent, Refused}
+use Rattle.printout.specs.Characters.{places}
+use Rattle.printout.specs.Lines.{answer, reportText, longestReport, refusalText}
+use Rattle.printout.specs.Lent.{printing, printed}
+use Rattle.printout.proofs.Numbers.{places-most}
+use Rattle.printout.proofs.Lengths.{length-refused, length-refusal, length-report, counted-report}
+
+-- the refusals' numbers are bytes
+abbrev pub Small : Ending → Type 0
+Small Done = Unit {0}
+Small Spent = Unit {0}
+Small (Refused number) = number < 256
+
+byte-most : (number : ℕ) → number < 256 → places number number ≤ 3
+byte-most number small = places-most 2 number number (omega (arith, pow-suc 10 0, pow-suc 10 1, pow-suc 10 2))
+
+answer-most : (ending : Ending) → Small ending → length (answer ending) ≤ 11
+unfolding answer
+answer-most Done small = omega arith
+answer-most Spent small = omega arith
+answer-most (Refused number) small = omega (arith, length-refused (Refused number) number _ refl refl, byte-most number small)
+
+pub refusal-most : (number : ℕ) → number < 256 → length (refusalText number) ≤ longestReport
+refusal-most number small = omega (arith, length-refusal number, byte-most number small)
+
+-- a report of a memory that the machine takes, with a count and a position that the code can hold
+pub report-most : (ending : Ending) (count position : ℕ) (mmx integers : List ℕ) (valid : Bool) (memory : List ℕ)
+    → Small ending → count < 2 ^ 64 → position < 2 ^ 64 → length mmx ≡ 8 → length integers ≡ 8 → length memory ≤ 32768
+    → length (reportText ending count position mmx integers valid memory) ≤ longestReport
+report-most ending count position mmx integers valid memory small less less′ eight eight′ largest =
+    omega (
+      arith,
+      length-report ending count position mmx integers valid memory eight eight′,
+      counted-report ending count position (length memory) _ _ _ _ refl refl refl refl,
+      answer-most ending small,
+      places-most 19 count count (omega arith),
+      places-most 19 position position (omega arith),
+      places-most 4 (length memory) (length memory) (omega arith),
+    )
+
+-- a text that has room is printed whole
+pub printed-whole : (text buffer : List ℕ) → length text ≤ length buffer → printed text buffer ≡ printing (length text) (text ++ drop (length text) buffer)
+unfolding printed
+printed-whole text buffer enough = rw (le-leb _ _ enough)
