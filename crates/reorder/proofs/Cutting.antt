@@ -1,4 +1,5 @@
 -- A run that finishes is the row of its pieces: each step of the run cuts one whole instruction off the code, and the way back.
+use mathlib.Core.Bool.{false≢true}
 use mathlib.Core.Path.{_≡_, refl, sym, ap, _∙_, subst}
 use mathlib.Core.List.{List, [], _∷_, _++_, append-nil, flatten}
 use Prim.Native.Nat.{ℕ, zero, suc, _+_, _<_, _≤_, _-_}
@@ -12,7 +13,6 @@ use Rattle.reorder.specs.Result.{Result, done, refused, andThen, caseOf}
 use Rattle.reorder.specs.Row.{execAll}
 use Rattle.reorder.specs.Run.{Reading, Answer, finished, spent, stopped, runFrom}
 use Rattle.reorder.specs.Block.{onBytes}
-use Rattle.reorder.proofs.Never.{never}
 use Rattle.reorder.proofs.Reordering.{first}
 
 -- a reader that goes by the instruction's own bytes, of which there is at least one
@@ -74,13 +74,13 @@ module _ {S I : Type 0} (read : List ℕ → Result (Reading I)) (exec : I → S
       ran r er (done s₁) es = (r, s₁, er, es, sym (stepped left code position count s s₁ r er es) ∙ h)
       ran r er (refused n) es =
           let z : stopped n position count s ≡ finished end total t = simp (er, es) at h in
-          never (cc)
+          absurd (false≢true (cc))
 
       found : (o : Result (Reading I)) → read (drop position code) ≡ o → Stepped left code position count s (finished end total t)
       found (done r) er = ran r er (exec (r .instruction) s) refl
       found (refused n) er =
           let z : stopped n position count s ≡ finished end total t = simp er at h in
-          never (cc)
+          absurd (false≢true (cc))
 
   cut-step : (left : ℕ) (code : List ℕ) (position count : ℕ) (s : S) (end total : ℕ) (t : S) → position ≤ length code
       → ((position′ count′ : ℕ) (s′ : S) → position′ ≤ length code → runFrom read exec left code position′ count′ s′ ≡ finished end total t
@@ -112,7 +112,7 @@ module _ {S I : Type 0} (read : List ℕ → Result (Reading I)) (exec : I → S
       go (yes e) = cut-end zero code position count s end total t e (simp (eq-eqb _ _ e) at h)
       go (no e) =
           let z : spent position count s ≡ finished end total t = simp (ne-eqb _ _ e) at h in
-          never (cc)
+          absurd (false≢true (cc))
   cut (suc left) code position count s end total t l h =
       go (λ position′ count′ s′. cut left code position′ count′ s′ end total t) (ℕ-discrete position (length code))
     where

@@ -1,11 +1,11 @@
 -- A footprint is honest: a step goes by what it reads alone, and changes nothing but what it writes. For reading and writing are the plan's own.
+use mathlib.Core.Bool.{false≢true}
 use mathlib.Core.Path.{_≡_, refl, ap, _∙_, subst}
 use mathlib.Core.List.{List, List·Memᴰ as In, Memᴰ·append-left, Memᴰ·append-right}
 use Prim.Native.Nat.{ℕ}
 use Rattle.reorder.specs.Result.{Result, done, refused, mapResult}
 use Rattle.reorder.specs.Plan.{Plan, looks, leaves, perform, execBy}
 use Rattle.reorder.specs.Footprint.{Footprint, footprintOf, footprintIn, footprintBy, asked}
-use Rattle.reorder.proofs.Never.{never}
 use Rattle.reorder.proofs.Places.{Laws, Local, looks-alike, leaves-frozen, leaves-look, leaves-same}
 use Rattle.reorder.proofs.Swapping.{completes, completed}
 
@@ -23,11 +23,11 @@ via-asked via (done plan) p m = Memᴰ·append-left (plan .source) m
 -- where a step has a footprint, what it asks is what the footprint reads
 pub asked-reads : {S P K : Type 0} (look : S → P → ℕ) (via : List P) (s : S) (o : Result (Plan P K)) (f : Footprint P K)
     → footprintIn look via s o ≡ done f → asked via o ≡ f .reads
-asked-reads look via s (refused n) f e = never (cc)
+asked-reads look via s (refused n) f e = absurd (false≢true (cc))
 asked-reads look via s (done plan) f e = go (plan .make (looks look s (plan .source))) e
   where
     go : (made : Result (List ℕ)) → mapResult (λ ws. footprintOf via plan) made ≡ done f → asked via (done plan) ≡ f .reads
-    go (refused n) h = never (cc)
+    go (refused n) h = absurd (false≢true (cc))
     go (done ws) h = let same : footprintOf via plan ≡ f = cc in ap (λ g. g .reads) same
 
 module _ {S P K Z I : Type 0} (look : S → P → ℕ) (put : S → P → ℕ → S) (marked : K → S → S) (frozen : S → Z) (KindsMeet : K → K → Type 0)

@@ -1,5 +1,4 @@
 -- The laws: of lists and permutations, of a reordered row, of plans and footprints, of runs and blocks.
-pub mod Never
 pub mod Membership
 pub mod Permutation
 pub mod Reordering

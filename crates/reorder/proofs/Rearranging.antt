@@ -1,4 +1,5 @@
 -- The reordering theorem over code bytes: a block is its pieces, the row of pieces is reordered, and the new row is the new block's run.
+use mathlib.Core.Bool.{false≢true}
 use mathlib.Core.Path.{_≡_, refl, sym, ap, ap₂, _∙_, subst, subst₂}
 use mathlib.Core.List.{List, [], _∷_, _++_, map, flatten, List·Memᴰ as In, List·Memᴰ·head as here, List·Memᴰ·tail as later}
 use Prim.Native.Nat.{ℕ, zero, suc, _+_, _<_, _≤_}
@@ -11,7 +12,6 @@ use Rattle.reorder.specs.Order.{NewOrder, Keeps}
 use Rattle.reorder.specs.Row.{execAll, footprintAt}
 use Rattle.reorder.specs.Run.{Reading, finished, run}
 use Rattle.reorder.specs.Block.{piecesUpTo, piecesOf, inOrder, rearranged, onBytes, footprintInCode}
-use Rattle.reorder.proofs.Never.{never}
 use Rattle.reorder.proofs.Permutation.{Permutation, from, order-permutation, order-below}
 use Rattle.reorder.proofs.Reordering.{Swap, reordered}
 use Rattle.reorder.proofs.Cutting.{LocalReader, Whole, AllWhole, read-front, cut, joined}
@@ -82,8 +82,8 @@ module _ {I : Type 0} (read : List ℕ → Result (Reading I)) where
       -- the swap law, for what reads as an instruction or doesn't
       swap-read : Swap S (Result (Reading I)) (Result F) (λ o s. andThen o (λ r. exec (r .instruction) s)) (λ o s. andThen o (λ r. footprint (r .instruction) s)) Meets
       swap-read (done a) (done b) s s₁ s₂ ea eb n = swap (a .instruction) (b .instruction) s s₁ s₂ ea eb n
-      swap-read (done a) (refused n) s s₁ s₂ ea eb m = never (cc)
-      swap-read (refused n) o s s₁ s₂ ea eb m = never (cc)
+      swap-read (done a) (refused n) s s₁ s₂ ea eb m = absurd (false≢true (cc))
+      swap-read (refused n) o s s₁ s₂ ea eb m = absurd (false≢true (cc))
 
       pieces-reordered : (pieces : List (List ℕ)) (order : List ℕ) (budget : ℕ) (s t : S) → AllWhole read pieces
           → execAll (onBytes read exec) pieces s ≡ done t → length pieces ≤ budget → NewOrder (length pieces) order

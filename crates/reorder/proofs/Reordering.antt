@@ -1,5 +1,6 @@
 -- A row of instructions in a new order leaves the same state, over any machine that obeys the swap law: each instruction of the new order
 -- goes to the front past those that it does not meet.
+use mathlib.Core.Bool.{false≢true}
 use mathlib.Core.Path.{_≡_, refl, sym, ap, _∙_, subst}
 use mathlib.Core.List.{List, [], _∷_, _++_, map, List·Memᴰ as In, List·Memᴰ·head as here, List·Memᴰ·tail as later, Memᴰ·append-left}
 use Prim.Native.Nat.{ℕ, zero, suc, _+_, _<_}
@@ -9,7 +10,6 @@ use lib.ListN.{length, getD}
 use Rattle.reorder.specs.Result.{Result, done, refused, andThen, caseOf}
 use Rattle.reorder.specs.Order.{NewOrder, Keeps}
 use Rattle.reorder.specs.Row.{execAll, before, footprintAt}
-use Rattle.reorder.proofs.Never.{never}
 use Rattle.reorder.proofs.Membership.{in-at, at-in}
 use Rattle.reorder.proofs.Permutation.{Ascending, Permutation, from, ascending-before, ascending-without, ascending-from, permutation-in, order-permutation, order-below}
 
@@ -20,7 +20,7 @@ first {S} exec i row s t h = go (exec i s) refl
   where
     go : (o : Result S) → exec i s ≡ o → (s₁ : S) × (exec i s ≡ done s₁) × (execAll exec row s₁ ≡ done t)
     go (done s₁) e = (s₁, e, cc)
-    go (refused n) e = never (cc)
+    go (refused n) e = absurd (false≢true (cc))
 
 module _ (S I F : Type 0) (exec : I → S → Result S) (footprint : I → S → F) (Meets : F → F → Type 0) where
   -- the swap law: two neighbours that both complete and don't meet change places, come to the same state, and keep their footprints

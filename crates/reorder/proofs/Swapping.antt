@@ -1,4 +1,5 @@
 -- The swap law of plans: the first changes nothing that the second goes by, nor the second what the first goes by, and their targets are apart.
+use mathlib.Core.Bool.{false≢true}
 use mathlib.Core.Path.{_≡_, refl, sym, ap, _∙_, subst}
 use mathlib.Core.Logic.{_⊎_, inl, inr}
 use mathlib.Core.List.{List, Memᴰ·append-left, Memᴰ·append-right}
@@ -6,7 +7,6 @@ use Prim.Native.Nat.{ℕ}
 use Rattle.reorder.specs.Result.{Result, done, refused, mapResult}
 use Rattle.reorder.specs.Plan.{Plan, looks, leaves, perform, execBy}
 use Rattle.reorder.specs.Footprint.{Footprint, footprintOf, footprintIn, footprintBy, Share, Meets}
-use Rattle.reorder.proofs.Never.{never}
 use Rattle.reorder.proofs.Reordering.{Swap}
 use Rattle.reorder.proofs.Places.{Laws, Local, Apart, looks-alike, leaves-frozen, leaves-look, leaves-comm}
 
@@ -32,13 +32,13 @@ module _ {S P K I : Type 0} (look : S → P → ℕ) (put : S → P → ℕ → 
         made pl ep (done vs) em = (pl, vs, ep, em, cc (completes pl vs ep em .0))
         made pl ep (refused n) em =
             let z : refused n ≡ done t = sym (ap (perform look put marked s) ep ∙ ap (mapResult (leaves put marked pl s)) em) ∙ e in
-            never (cc)
+            absurd (false≢true (cc))
 
         planned : (o : Result (Plan P K)) → plan i s ≡ o → Planned t
         planned (done pl) ep = made pl ep (pl .make (looks look s (pl .source))) refl
         planned (refused n) ep =
             let z : refused n ≡ done t = sym (ap (perform look put marked s) ep) ∙ e in
-            never (cc)
+            absurd (false≢true (cc))
 
 module _ {S P K Z I : Type 0} (look : S → P → ℕ) (put : S → P → ℕ → S) (marked : K → S → S) (frozen : S → Z) (KindsMeet : K → K → Type 0)
     (laws : Laws look put marked frozen KindsMeet) (via : I → List P) (plan : I → S → Result (Plan P K)) (local : Local look frozen via plan) where
