@@ -3,6 +3,7 @@ use Prim.Native.Nat.{ℕ, zero, suc, _^_, _<_}
 use mathlib.Core.Path.{_≡_, refl, sym, ap, _∙_}
 use mathlib.Core.Bool.{Bool, true, false, and-true}
 use native.Mathlib.Omega.{arith}
+use borrow.Author.Needs.{needs}
 use borrow.Author.Tests.{lt-ltb, eq-eqb, ne-eqb, le-ltb}
 use lib.Dec.{eqb, ltb}
 use Rattle.codec.specs.Forms.{Form, allows, immediateSize}
@@ -12,6 +13,7 @@ use Rattle.codec.specs.Operands.{hasSib, displacementSize, Sized}
 use Rattle.codec.specs.Fits.{fits, sibFits, operandFits, operandIsZero, partsFit, hasBytes}
 use Rattle.codec.specs.declared.Operand.{Operand}
 use Rattle.codec.specs.declared.Instruction.{Instruction}
+use Rattle.codec.proofs.Tests.{tests}
 use Rattle.codec.proofs.FormNumbers.{with-operand}
 
 -- a field of no bytes
@@ -30,7 +32,7 @@ module _ (k v : ℕ) where
   field-1 e = simp e
 
   pub field-4 : Sized k → (k ≡ 0 → ⊥) → (k ≡ 1 → ⊥) → v < 2 ^ 32 → true ≡ fits k v
-  field-4 z n m h = simp (z n m) (sym (lt-ltb v (2 ^ 32) h))
+  field-4 z n m h = simp (z .four n m) (sym (lt-ltb v (2 ^ 32) h))
 
 -- an operand
 module _ (w : Operand) (p : w .mode < 4) (q : w .reg < 8) (r : w .rm < 8) (t x : Bool) (e : t ≡ hasSib (w .mode) (w .rm))
@@ -89,4 +91,4 @@ has-parts i n r e g h f =
     simp (eq-eqb (i .first) escape g, lt-ltb (i .second) 256 h, and-true)
     (f ∙ ap (λ (x : Form). partsFit x (i .operand) (i .immediate)) e)
 
-pub ruleset checks = (field-0, field-1, field-4, operand-no, operand-yes, parts-absent, zero-no, zero-yes, parts-stop, parts-no, parts-yes, has-no, has-parts)
+pub ruleset checks = (needs, tests, field-0, field-1, field-4, operand-no, operand-yes, parts-absent, zero-no, zero-yes, parts-stop, parts-no, parts-yes, has-no, has-parts)

@@ -8,13 +8,13 @@ use native.Mathlib.Nat.{zero-add, add-zero}
 use borrow.Author.Tests.{ltb-true, ltb-false, eqb-true}
 use lib.Dec.{eqb, ltb}
 use lib.ListN.{length, getD, List·getD-eq-default}
-use Rattle.lanes.specs.Operations.{operationOf}
+use Rattle.lanes.specs.Operations.{operationOf, numbered}
 use Rattle.codec.specs.Forms.{Form, absent, emms, shiftWD, shiftQ, storeD, loadD, storeQ, loadQ, usual}
 use Rattle.codec.specs.Opcodes.{Entry, Row, row, rows, find, entryOf, escape}
-use Rattle.codec.specs.Packed.{numbered, formNumber, formOf, packed, listed, packedRows, unpacked, entryIn}
+use Rattle.codec.specs.Packed.{formNumber, formOf, packed, listed, packedRows, unpacked, entryIn}
 use Rattle.codec.specs.Reader.{refuse, byte}
 use Rattle.codec.specs.Reads.{formReader, secondReader, instructionReader, refusalOf}
-use Rattle.codec.proofs.Tests.{and-both}
+use Rattle.words.proofs.Laws.{and-both}
 
 -- a form gives its number, and the number the form
 form-numbered : (form : Form) (size : ℕ) → formOf (formNumber form size) ≡ form

@@ -1,17 +1,19 @@
 -- The writer's tests as facts: all of a list of tests is true exactly where each of them is.
 use Prim.Native.Nat.{ℕ, _^_, _<_}
 use mathlib.Core.Path.{_≡_, refl, sym, ap, _∙_}
-use mathlib.Core.Bool.{Bool, true, false, not, cond, _&&_}
+use mathlib.Core.Bool.{Bool, true, false, not, cond, _&&_, false≢true}
 use mathlib.Core.List.{List, [], _∷_}
 use borrow.Author.Tests.{lt-ltb, ltb-true, eqb-true, eq-eqb, not-true}
 use lib.Dec.{eqb, ltb}
 use Rattle.codec.specs.Forms.{Form, isAbsent, hasOperand, allows, immediateSize, accepts}
 use Rattle.codec.specs.Opcodes.{entryOf, escape}
-use Rattle.codec.specs.Operands.{hasSib, displacementSize, noOperand}
+use Rattle.codec.specs.Packed.{formOf}
+use Rattle.codec.specs.Operands.{hasSib, displacementSize, noOperand, Fields}
 use Rattle.codec.specs.Fits.{all, fits, sibFits, operandFits, operandIsZero, partsFit, hasBytes}
 use Rattle.codec.specs.declared.Operand.{Operand}
 use Rattle.codec.specs.declared.Instruction.{Instruction}
-use Rattle.codec.proofs.Tests.{never, and-both}
+use Rattle.words.proofs.Laws.{and-both}
+use Rattle.codec.proofs.FormNumbers.{not-emms}
 
 abbrev All : List Bool → Type 0
 All [] = Unit {0}
@@ -20,7 +22,7 @@ All (t ∷ ts) = (t ≡ true) × All ts
 all-true : (ts : List Bool) → all ts ≡ true → All ts
 all-true [] e = tt
 all-true (true ∷ ts) e = (refl, all-true ts e)
-all-true (false ∷ ts) e = never (cc)
+all-true (false ∷ ts) e = absurd (false≢true (cc))
 
 true-all : (ts : List Bool) → All ts → all ts ≡ true
 true-all [] h = refl
@@ -28,16 +30,16 @@ true-all (true ∷ ts) h = true-all ts (h .1)
 true-all (false ∷ ts) h = h .0
 
 -- the fields of an SIB byte, and of none
-pub sib-there : (scale index base : ℕ) → sibFits true scale index base ≡ true → (scale < 4) × ((index < 8) × (base < 8))
+pub sib-there : (scale index base : ℕ) → sibFits true scale index base ≡ true → Fields scale index base
 unfolding sibFits
 sib-there scale index base e =
     let h = all-true (ltb scale 4 ∷ ltb index 8 ∷ ltb base 8 ∷ []) e in
-    (ltb-true _ _ (h .0), (ltb-true _ _ (h .1 .0), ltb-true _ _ (h .1 .1 .0)))
+    record { upper-fits = ltb-true _ _ (h .0); middle-fits = ltb-true _ _ (h .1 .0); lower-fits = ltb-true _ _ (h .1 .1 .0) }
 
-pub there-sib : (scale index base : ℕ) → scale < 4 → index < 8 → base < 8 → sibFits true scale index base ≡ true
+pub there-sib : (scale index base : ℕ) → Fields scale index base → sibFits true scale index base ≡ true
 unfolding sibFits
-there-sib scale index base p q r =
-    true-all (ltb scale 4 ∷ ltb index 8 ∷ ltb base 8 ∷ []) (lt-ltb _ _ p, (lt-ltb _ _ q, (lt-ltb _ _ r, tt)))
+there-sib scale index base f =
+    true-all (ltb scale 4 ∷ ltb index 8 ∷ ltb base 8 ∷ []) (lt-ltb _ _ (f .upper-fits), (lt-ltb _ _ (f .middle-fits), (lt-ltb _ _ (f .lower-fits), tt)))
 
 pub sib-absent : (scale index base : ℕ) → sibFits false scale index base ≡ true → (scale ≡ 0) × ((index ≡ 0) × (base ≡ 0))
 unfolding sibFits
@@ -51,9 +53,7 @@ absent-sib = refl
 
 -- an operand whose fields fit their places
 pub record Fit (w : Operand) : Type 0 where
-  pub mode : w .mode < 4
-  pub reg : w .reg < 8
-  pub rm : w .rm < 8
+  pub modrm : Fields (w .mode) (w .reg) (w .rm)
   pub sib : sibFits (hasSib (w .mode) (w .rm)) (w .scale) (w .index) (w .base) ≡ true
   pub displacement : w .displacement < 256 ^ displacementSize (w .mode) (w .rm) (w .base)
 
@@ -71,9 +71,7 @@ unfolding operandFits
 fit w e =
     let h = all-true (tests w) e in
     record {
-      mode = ltb-true _ _ (h .0);
-      reg = ltb-true _ _ (h .1 .0);
-      rm = ltb-true _ _ (h .1 .1 .0);
+      modrm = record { upper-fits = ltb-true _ _ (h .0); middle-fits = ltb-true _ _ (h .1 .0); lower-fits = ltb-true _ _ (h .1 .1 .0) };
       sib = h .1 .1 .1 .0;
       displacement = ltb-true _ _ (h .1 .1 .1 .1 .0);
     }
@@ -82,15 +80,15 @@ pub fit-true : (w : Operand) → Fit w → operandFits w ≡ true
 unfolding operandFits
 fit-true w f =
     true-all (tests w)
-    (lt-ltb _ _ (f .mode), (lt-ltb _ _ (f .reg), (lt-ltb _ _ (f .rm), (f .sib, (lt-ltb _ _ (f .displacement), tt)))))
+    (lt-ltb _ _ (f .modrm .upper-fits), (lt-ltb _ _ (f .modrm .middle-fits), (lt-ltb _ _ (f .modrm .lower-fits), (f .sib, (lt-ltb _ _ (f .displacement), tt)))))
 
--- the bounds of the fields of both bytes
-pub modrm-bounds : (w : Operand) → operandFits w ≡ true → (w .mode < 4) × ((w .reg < 8) × (w .rm < 8))
-modrm-bounds w e = let f = fit w e in (f .mode, (f .reg, f .rm))
+-- the fields of both bytes
+pub modrm-fields : (w : Operand) → operandFits w ≡ true → Fields (w .mode) (w .reg) (w .rm)
+modrm-fields w e = fit w e .modrm
 
-pub sib-bounds : (w : Operand) (t : Bool) → operandFits w ≡ true → t ≡ hasSib (w .mode) (w .rm) → t ≡ true
-    → (w .scale < 4) × ((w .index < 8) × (w .base < 8))
-sib-bounds w t e g h =
+pub sib-fields : (w : Operand) (t : Bool) → operandFits w ≡ true → t ≡ hasSib (w .mode) (w .rm) → t ≡ true
+    → Fields (w .scale) (w .index) (w .base)
+sib-fields w t e g h =
     sib-there (w .scale) (w .index) (w .base) (simp (sym g ∙ h) at (fit w e .sib))
 
 -- an operand of zeros
@@ -160,11 +158,10 @@ bytewise-true i b =
     true-all (recordTests i)
     (eq-eqb (i .first) escape (b .first), (lt-ltb (i .second) 256 (b .second), (parts-true (entryOf (i .second) .form) (i .operand) (i .immediate) (b .parts), tt)))
 
-pub bytes-operand : (i : Instruction) (form : Form) → form ≡ entryOf (i .second) .form → hasOperand form ≡ true
-    → hasBytes i ≡ true
+pub bytes-operand : (i : Instruction) (n : ℕ) → formOf n ≡ entryOf (i .second) .form → (n ≡ 1 → ⊥) → hasBytes i ≡ true
     → operandFits (i .operand) ≡ true
-bytes-operand i form g h e =
+bytes-operand i n g h e =
     let f = entryOf (i .second) .form in
     let w = i .operand in
-    let p : hasOperand f ≡ true = ap hasOperand (sym g) ∙ h in
+    let p : hasOperand f ≡ true = ap hasOperand (sym g) ∙ not-emms n h in
     and-both (allows f (w .mode) (w .reg) (w .rm)) (operandFits w) (simp p at (bytewise i e .parts .operand)) .1

@@ -1,12 +1,13 @@
 -- What the code's tests on a form's number say of the form: rules for the functions that take one.
-use Prim.Native.Nat.{ℕ, zero, suc, _≤_, _<_}
-use mathlib.Core.Path.{_≡_, refl}
+use Prim.Native.Nat.{ℕ, zero, suc, _-_, _≤_, _<_}
+use mathlib.Core.Path.{_≡_, refl, subst}
 use mathlib.Core.Bool.{true, false}
 use native.Mathlib.Omega.{arith}
 use borrow.Author.Tests.{ne-eqb}
 use lib.Dec.{eqb}
 use Rattle.codec.specs.Forms.{Form, isAbsent, hasOperand, allows, immediateSize}
 use Rattle.codec.specs.Packed.{formOf}
+use Rattle.codec.proofs.Sizes.{sized-0, sized-1}
 
 -- past the shifts: any operand, no immediate
 record Plain (form : Form) : Type 0 where
@@ -26,11 +27,7 @@ plain (suc (suc (suc (suc (suc zero))))) = record { listed = refl; operand = ref
 plain (suc (suc (suc (suc (suc (suc k)))))) = record { listed = refl; operand = refl; free = λ mode reg rm. refl; bare = refl }
 
 past : (n : ℕ) → 3 < n → Plain (formOf n)
-past zero h = absurd (let z : ⊥ = omega arith in z)
-past (suc zero) h = absurd (let z : ⊥ = omega arith in z)
-past (suc (suc zero)) h = absurd (let z : ⊥ = omega arith in z)
-past (suc (suc (suc zero))) h = absurd (let z : ⊥ = omega arith in z)
-past (suc (suc (suc (suc k)))) h = plain k
+past n h = subst (λ (k : ℕ). Plain (formOf k)) (let z : suc (suc (suc (suc (n - 4)))) ≡ n = omega arith in z) (plain (n - 4))
 
 -- a shift's number is 2 or 3
 shifts : (P : ℕ → Type 0) (n : ℕ) → n ≤ 3 → 2 ≤ n → P 2 → P 3 → P n
@@ -102,4 +99,4 @@ immediate-before (suc (suc k)) h = absurd (let z : ⊥ = omega arith in z)
 pub immediate-shift : (n : ℕ) → n ≤ 3 → 2 ≤ n → 1 ≡ immediateSize (formOf n)
 immediate-shift n p q = shifts (λ k. 1 ≡ immediateSize (formOf k)) n p q refl refl
 
-pub ruleset forms = (allowed-past, allowed-before, allowed-memory, allowed-2, allowed-6, allowed-4, allowed-none, immediate-past, immediate-before, immediate-shift)
+pub ruleset forms = (sized-0, sized-1, allowed-past, allowed-before, allowed-memory, allowed-2, allowed-6, allowed-4, allowed-none, immediate-past, immediate-before, immediate-shift)

@@ -1,6 +1,6 @@
--- What every reading gives, whatever the table and the bytes: the second byte, registers below 8, the refusals 3 to 6. Part by part.
+-- What every reading gives, whatever the table and the bytes: registers below 8, a form that is there, the refusals 3 to 6. Part by part.
 use Prim.Native.Nat.{ℕ, _≤_, _<_}
-use mathlib.Core.Path.{_≡_, refl}
+use mathlib.Core.Path.{_≡_, refl, ap, _∙_}
 use mathlib.Core.Bool.{Bool, true, false, cond}
 use mathlib.Core.List.{List}
 use native.Mathlib.Omega.{arith}
@@ -9,7 +9,7 @@ use Rattle.codec.specs.Refusals.{prefixed, notListed}
 use Rattle.codec.specs.Forms.{Form, isAmong, isAbsent, hasOperand, allows}
 use Rattle.codec.specs.Opcodes.{Entry, escape, prefixes}
 use Rattle.codec.specs.Operands.{upper, middle, lower, hasSib, operandOf, noOperand}
-use Rattle.codec.specs.Reader.{Reader, reads}
+use Rattle.codec.specs.Reader.{Reader, refuse, reads}
 use Rattle.codec.specs.Reads.{immediateReader, displacementReader, sibReader, modrmReader, formReader, secondReader, instructionReader, refusalOf}
 use Rattle.codec.specs.declared.Operand.{Operand}
 use Rattle.codec.specs.declared.Instruction.{Instruction}
@@ -56,12 +56,6 @@ module _ (form : Form) (first second : ℕ) where
         (every-cond (Given second) Refusal (hasSib (upper m) (lower m)) _ _ (omega arith, displacement-gives m) (displacement-gives m 0)) (omega arith),
   )
 
-  form-gives : Gives second (formReader form first second)
-  unfolding formReader
-  form-gives =
-      every-cond (Given second) Refusal (isAbsent form) _ _ (omega arith)
-      (every-cond (Given second) Refusal (hasOperand form) _ _ modrm-gives (immediate-gives noOperand no-registers))
-
 first-refuses : (first : ℕ) → Refusal (refusalOf first)
 unfolding refusalOf
 first-refuses first = by (isAmong first prefixes)
@@ -70,16 +64,28 @@ first-refuses first = by (isAmong first prefixes)
     by true = omega arith
     by false = omega arith
 
-abbrev pub Named : Instruction → Type 0
-Named i = Registers (i .operand)
+-- what is read names registers below 8, and its form is there, by what a table says of its second byte
+pub record Known (entry : ℕ → Entry) (i : Instruction) : Type 0 where
+  pub registers : Registers (i .operand)
+  pub present : isAbsent (entry (i .second) .form) ≡ false
 
--- An instruction that is read names registers below 8, and one that is not is refused by 3 to 6.
-pub reads-gives : (entry : ℕ → Entry) (at : ℕ) (s : List ℕ) → Holds Named Refusal (reads (instructionReader entry) at s)
-unfolding instructionReader secondReader
-reads-gives entry at s =
-    every Named Refusal (instructionReader entry) (
-      omega arith,
-      λ first. every-cond Named Refusal (eqb first escape) _ _
-          (omega arith, λ second. every-map (Given second) Named Refusal (λ i g. g .registers) (formReader (entry second .form) first second) (form-gives (entry second .form) first second))
-          (first-refuses first),
-    ) at s
+module _ (entry : ℕ → Entry) where
+  form-known : (first second : ℕ) (form : Form) (t : Bool) → isAbsent form ≡ t → entry second .form ≡ form
+      → Every (Known entry) Refusal (cond t (refuse notListed) (cond (hasOperand form) (modrmReader form first second) (immediateReader form first second noOperand)))
+  form-known first second form true e f = omega arith
+  form-known first second form false e f =
+      every-map (Given second) (Known entry) Refusal
+      (λ i g. record { registers = g .registers; present = ap (λ (k : ℕ). isAbsent (entry k .form)) (g .kept) ∙ ap isAbsent f ∙ e })
+      (cond (hasOperand form) (modrmReader form first second) (immediateReader form first second noOperand))
+      (every-cond (Given second) Refusal (hasOperand form) _ _ (modrm-gives form first second) (immediate-gives form first second noOperand no-registers))
+
+  -- An instruction that is read is known, and one that is not is refused by 3 to 6.
+  pub reads-known : (at : ℕ) (s : List ℕ) → Holds (Known entry) Refusal (reads (instructionReader entry) at s)
+  unfolding instructionReader secondReader formReader
+  reads-known at s =
+      every (Known entry) Refusal (instructionReader entry) (
+        omega arith,
+        λ first. every-cond (Known entry) Refusal (eqb first escape) _ _
+            (omega arith, λ second. form-known first second (entry second .form) (isAbsent (entry second .form)) refl refl)
+            (first-refuses first),
+      ) at s

@@ -2,13 +2,10 @@
 use Prim.Native.Nat.{ℕ, _<_}
 use mathlib.Core.Path.{_≡_}
 use native.Mathlib.Omega.{arith}
-use Rattle.codec.specs.Operands.{upper, middle, lower, joined}
+use Rattle.codec.specs.Operands.{upper, middle, lower, joined, Fields}
 
 pub joined-fields : (b : ℕ) → joined (upper b) (middle b) (lower b) ≡ b
 joined-fields b = omega arith
-
-pub upper-lt : (b : ℕ) → b < 256 → upper b < 4
-upper-lt b h = omega arith
 
 pub middle-lt : (b : ℕ) → middle b < 8
 middle-lt b = omega arith
@@ -16,7 +13,10 @@ middle-lt b = omega arith
 pub lower-lt : (b : ℕ) → lower b < 8
 lower-lt b = omega arith
 
-module _ (high mid low : ℕ) (p : mid < 8) (q : low < 8) where
+pub fields : (b : ℕ) → b < 256 → Fields (upper b) (middle b) (lower b)
+fields b h = record { upper-fits = omega arith; middle-fits = middle-lt b; lower-fits = lower-lt b }
+
+module _ (high mid low : ℕ) (f : Fields high mid low) where
   pub upper-joined : upper (joined high mid low) ≡ high
   upper-joined = omega arith
 
@@ -26,5 +26,5 @@ module _ (high mid low : ℕ) (p : mid < 8) (q : low < 8) where
   pub lower-joined : lower (joined high mid low) ≡ low
   lower-joined = omega arith
 
-pub joined-lt : (high mid low : ℕ) → high < 4 → mid < 8 → low < 8 → joined high mid low < 256
-joined-lt high mid low p q r = omega arith
+  pub joined-lt : joined high mid low < 256
+  joined-lt = omega arith

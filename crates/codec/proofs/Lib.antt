@@ -1,13 +1,12 @@
 -- The laws of the codec, in the order in which they build on each other; its theorems are in Theorems and Allowed.
 pub mod Tests
-pub mod Positions
 pub mod Joined
+pub mod Sizes
 pub mod FormNumbers
 pub mod Readers
 pub mod Given
 pub mod Entries
 pub mod Steps
-pub mod Sizes
 pub mod OurTable
 pub mod Facts
 pub mod Checks
@@ -15,6 +14,6 @@ pub mod Puts
 pub mod Spelling
 pub mod ReadingBack
 pub mod Ranges
-pub mod Answers
 pub mod Theorems
+pub mod Exactly
 pub mod Allowed

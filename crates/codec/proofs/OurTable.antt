@@ -5,6 +5,7 @@ use mathlib.Core.Bool.{Bool, cond}
 use mathlib.Core.List.{List}
 use native.Mathlib.Omega.{arith}
 use native.Mathlib.Nat.{add-zero}
+use borrow.Author.Needs.{needs}
 use borrow.Author.Tests.{lt-ltb, le-ltb}
 use lib.ListN.{length, drop}
 use Rattle.codec.specs.Refusals.{codeTooLong}
@@ -14,10 +15,9 @@ use Rattle.codec.specs.Reader.{Reader, reads}
 use Rattle.codec.specs.Reads.{instructionReader, longestCode, readPart, readAt}
 use Rattle.codec.specs.Lent.{foundIn, findWith}
 use Rattle.codec.specs.declared.Found.{Found}
-use Rattle.codec.specs.declared.Reading.{Reading}
-use Rattle.codec.specs.declared.Reading.the-variants.{Read, Refused}
+use Rattle.codec.specs.Answers.{Answer, good, refused}
 use Rattle.codec.proofs.Readers.{Holds, moved, reads-moved}
-use Rattle.codec.proofs.Given.{Named, Refusal, reads-gives}
+use Rattle.codec.proofs.Given.{Known, Refusal, reads-known}
 use Rattle.codec.proofs.Entries.{same-reader}
 
 module _ (code : List ℕ) (at : ℕ) where
@@ -30,42 +30,42 @@ module _ (code : List ℕ) (at : ℕ) where
       (ap (λ (n : ℕ). reads (instructionReader entryOf) n (drop at code)) (sym (add-zero at))
       ∙ reads-moved (instructionReader entryOf) at 0 (drop at code))
 
-  pub read-long : longestCode < length code → Refused codeTooLong ≡ readAt code at
+  pub read-long : longestCode < length code → refused codeTooLong ≡ readAt code at
   unfolding readAt
   read-long h = simp (lt-ltb longestCode (length code) h)
 
   read-fits : length code ≤ longestCode → readPart (drop at code) ≡ readAt code at
   unfolding readAt
-  read-fits h = ap (λ (t : Bool). cond t (Refused codeTooLong) (readPart (drop at code))) (sym (le-ltb longestCode (length code) h))
+  read-fits h = ap (λ (t : Bool). cond t (refused codeTooLong) (readPart (drop at code))) (sym (le-ltb longestCode (length code) h))
 
   -- from what was found to the reading z
   module _ (x : Found) where
-    good : (z : Reading) → x ≡ foundIn packedRows (moved at z) → Holds Named Refusal z → x .refusal ≡ 0
-        → (at ≤ x .next) × (Read (x .instruction) (x .next - at) ≡ z)
-    good (Read i n) e h r =
+    found-good : (z : Answer) → x ≡ foundIn packedRows (moved at z) → Holds (Known entryOf) Refusal z → x .refusal ≡ 0
+        → (at ≤ x .next) × (good (x .instruction) (x .next - at) ≡ z)
+    found-good (good i n) e h r =
         let p : x .next ≡ at + n = ap (λ (y : Found). y .next) e in
         let q : x .next - at ≡ n = omega arith in
         let j : x .instruction ≡ i = ap (λ (y : Found). y .instruction) e in
         (omega arith, cc)
-    good (Refused n) e h r =
+    found-good (refused n) e h r =
         let p : x .refusal ≡ n = ap (λ (y : Found). y .refusal) e in
         absurd (let z : ⊥ = omega (arith, h .0) in z)
 
-    bad : (z : Reading) → x ≡ foundIn packedRows (moved at z) → (x .refusal ≡ 0 → ⊥) → Refused (x .refusal) ≡ z
-    bad (Read i n) e r = absurd (r (ap (λ (y : Found). y .refusal) e))
-    bad (Refused n) e r = ap (λ (y : Found). Refused (y .refusal)) e
+    found-refused : (z : Answer) → x ≡ foundIn packedRows (moved at z) → (x .refusal ≡ 0 → ⊥) → refused (x .refusal) ≡ z
+    found-refused (good i n) e r = absurd (r (ap (λ (y : Found). y .refusal) e))
+    found-refused (refused n) e r = ap (λ (y : Found). refused (y .refusal)) e
 
     module _ (table : List ℕ) (t : table ≡ packedRows) (e : x ≡ findWith table code at) where
       found-ours : x ≡ foundIn packedRows (moved at (readPart (drop at code)))
       found-ours = e ∙ ap (λ (l : List ℕ). findWith l code at) t ∙ find-ours
 
       pub read-next : x .refusal ≡ 0 → at ≤ x .next
-      read-next r = good (readPart (drop at code)) found-ours (reads-gives entryOf 0 (drop at code)) r .0
+      read-next r = found-good (readPart (drop at code)) found-ours (reads-known entryOf 0 (drop at code)) r .0
 
-      pub read-on : length code ≤ longestCode → x .refusal ≡ 0 → Read (x .instruction) (x .next - at) ≡ readAt code at
-      read-on h r = good (readPart (drop at code)) found-ours (reads-gives entryOf 0 (drop at code)) r .1 ∙ read-fits h
+      pub read-on : length code ≤ longestCode → x .refusal ≡ 0 → good (x .instruction) (x .next - at) ≡ readAt code at
+      read-on h r = found-good (readPart (drop at code)) found-ours (reads-known entryOf 0 (drop at code)) r .1 ∙ read-fits h
 
-      pub read-stop : length code ≤ longestCode → (x .refusal ≡ 0 → ⊥) → Refused (x .refusal) ≡ readAt code at
-      read-stop h r = bad (readPart (drop at code)) found-ours r ∙ read-fits h
+      pub read-stop : length code ≤ longestCode → (x .refusal ≡ 0 → ⊥) → refused (x .refusal) ≡ readAt code at
+      read-stop h r = found-refused (readPart (drop at code)) found-ours r ∙ read-fits h
 
-pub ruleset our-table = (read-long, read-next, read-on, read-stop)
+pub ruleset our-table = (needs, read-long, read-next, read-on, read-stop)

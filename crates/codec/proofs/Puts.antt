@@ -6,22 +6,25 @@ use mathlib.Core.List.{List, [], _∷_, _++_}
 use native.Mathlib.Numerals.{towards-suc}
 use native.Mathlib.Omega.{arith}
 use native.Mathlib.Nat.{add-zero, add-suc, suc-add}
+use borrow.Author.Needs.{needs}
 use borrow.Author.Tests.{le-leb, lt-leb}
-use lib.ListN.{length, set, drop, length-append}
+use lib.ListN.{length, set, drop, length-append, length-set}
 use lib.Seq.{sets, sets-eq}
 use Rattle.words.specs.Number.{bytes}
 use Rattle.codec.specs.Refusals.{noBytes, bufferEnds}
+use Rattle.codec.specs.Answers.{wrote, refusedWith}
 use Rattle.codec.specs.Forms.{Form, immediateSize}
 use Rattle.codec.specs.Opcodes.{entryOf}
 use Rattle.codec.specs.Packed.{formOf}
 use Rattle.codec.specs.Operands.{joined, hasSib, displacementSize, Sized}
 use Rattle.codec.specs.Fits.{hasBytes}
-use Rattle.codec.specs.Writes.{sibBytes, displacementBytes, operandBytes, partsBytes, bytesOf, written, writeTo}
+use Rattle.codec.specs.Writes.{sibBytes, displacementBytes, operandBytes, operandSize, partsBytes, bytesOf, writeTo}
 use Rattle.codec.specs.declared.Operand.{Operand}
 use Rattle.codec.specs.declared.Instruction.{Instruction}
-use Rattle.codec.specs.declared.Writing.the-variants.{Wrote, Refused}
 use Rattle.words.proofs.Numbers.{length-bytes}
+use Rattle.codec.proofs.Sizes.{byte-there}
 use Rattle.codec.proofs.FormNumbers.{not-emms}
+use Rattle.codec.proofs.Facts.{modrm-fields, sib-fields, bytes-operand}
 
 -- a run of stores, and then another
 sets-append : (xs ys l : List ℕ) (i : ℕ) → sets l i (xs ++ ys) ≡ sets (sets l i xs) (i + length xs) ys
@@ -43,17 +46,20 @@ number-put-1 l at k v e = simp e
 pub number-put-4 : (l : List ℕ) (at k v : ℕ) → Sized k → (k ≡ 0 → ⊥) → (k ≡ 1 → ⊥)
     → set (set (set (set l at (v % 256)) (at + 1) (v / 256 % 256)) (at + 2) (v / 256 / 256 % 256)) (at + 3) (v / 256 / 256 / 256 % 256)
     ≡ sets l at (bytes k v)
-number-put-4 l at k v z n m = simp (z n m, towards-suc)
+number-put-4 l at k v z n m = simp (z .four n m, towards-suc)
 
 -- the SIB byte
 module _ (w : Operand) (t : Bool) (g : t ≡ hasSib (w .mode) (w .rm)) where
-  pub sib-length-1 : t ≡ true → length (sibBytes w) ≡ 1
+  sib-length-1 : t ≡ true → length (sibBytes w) ≡ 1
   unfolding sibBytes
   sib-length-1 e = simp (← g, e)
 
   sib-length-0 : t ≡ false → length (sibBytes w) ≡ 0
   unfolding sibBytes
   sib-length-0 e = simp (← g, e)
+
+  pub sib-room : (l : List ℕ) (at : ℕ) → t ≡ true → at + length (sibBytes w) ≤ length l → at < length l
+  sib-room l at e h = omega (arith, sib-length-1 e)
 
   module _ (at : ℕ) where
     pub sib-next : t ≡ true → at + 1 ≡ at + length (sibBytes w)
@@ -72,25 +78,30 @@ module _ (w : Operand) (t : Bool) (g : t ≡ hasSib (w .mode) (w .rm)) where
     sib-kept l e = simp (← g, e)
 
 -- the operand
-pub operand-length : (w : Operand)
-    → length (operandBytes w) ≡ 1 + length (sibBytes w) + displacementSize (w .mode) (w .rm) (w .base)
+operand-length : (w : Operand) → length (operandBytes w) ≡ operandSize w
 unfolding operandBytes displacementBytes
 operand-length w =
     let k = displacementSize (w .mode) (w .rm) (w .base) in
     omega (arith, length-append (sibBytes w) (bytes k (w .displacement)), length-bytes k (w .displacement))
 
-module _ (at next k : ℕ) (w : Operand) (e : next ≡ at + 1 + length (sibBytes w))
-    (d : k ≡ displacementSize (w .mode) (w .rm) (w .base)) where
-  pub operand-next : next + k ≡ at + length (operandBytes w)
-  operand-next = omega (arith, operand-length w)
+module _ (w : Operand) (l : List ℕ) (at b : ℕ) (h : at + operandSize w ≤ length l) where
+  pub sib-start : at + 1 + length (sibBytes w) ≤ length (set l at b)
+  sib-start = omega (arith, length-set l at b)
 
-  pub operand-put : (l l1 l2 : List ℕ) (b : ℕ) → b ≡ joined (w .mode) (w .reg) (w .rm)
-      → l1 ≡ sets (set l at b) (at + 1) (sibBytes w)
-      → l2 ≡ sets l1 next (bytes k (w .displacement)) → l2 ≡ sets l at (operandBytes w)
-  unfolding operandBytes displacementBytes
-  operand-put l l1 l2 b p q r =
-      let s : at + 1 ≡ suc at = omega arith in
-      simp (r, q, e, d, p, s, sets-append)
+  pub displacement-room : (l1 : List ℕ) (next k : ℕ) → length l1 ≡ length (set l at b) → next ≡ at + 1 + length (sibBytes w)
+      → k ≡ displacementSize (w .mode) (w .rm) (w .base)
+      → next + k ≤ length l1
+  displacement-room l1 next k e p d = omega (arith, length-set l at b)
+
+pub operand-put : (at next k : ℕ) (w : Operand) (l l1 l2 : List ℕ) (b : ℕ) → next ≡ at + 1 + length (sibBytes w)
+    → k ≡ displacementSize (w .mode) (w .rm) (w .base)
+    → b ≡ joined (w .mode) (w .reg) (w .rm)
+    → l1 ≡ sets (set l at b) (at + 1) (sibBytes w)
+    → l2 ≡ sets l1 next (bytes k (w .displacement)) → l2 ≡ sets l at (operandBytes w)
+unfolding operandBytes displacementBytes
+operand-put at next k w l l1 l2 b e d p q r =
+    let s : at + 1 ≡ suc at = omega arith in
+    simp (r, q, e, d, p, s, sets-append)
 
 -- the record, by the number n of its form
 module _ (i : Instruction) (n : ℕ) (g : formOf n ≡ entryOf (i .second) .form) where
@@ -113,49 +124,96 @@ module _ (i : Instruction) (n : ℕ) (g : formOf n ≡ entryOf (i .second) .form
     unfolding partsBytes
     whole-bytes = bytes-are ∙ simp (not-emms n m)
 
-    pub whole-length : length (bytesOf i) ≡ 2 + length (operandBytes (i .operand)) + immediateSize (formOf n)
+    whole-length : length (bytesOf i) ≡ 2 + operandSize (i .operand) + immediateSize (formOf n)
     whole-length =
         let k = immediateSize (formOf n) in
-        ap length whole-bytes
-        ∙ (let h : suc (suc (length (operandBytes (i .operand) ++ bytes k (i .immediate)))) ≡ 2 + length (operandBytes (i .operand)) + k =
-        omega (arith, length-append (operandBytes (i .operand)) (bytes k (i .immediate)), length-bytes k (i .immediate)) in h)
+        let w = i .operand in
+        omega (arith, ap length whole-bytes, length-append (operandBytes w) (bytes k (i .immediate)), operand-length w, length-bytes k (i .immediate))
 
-    pub whole-put : (next k : ℕ) (l l1 l2 : List ℕ) → next ≡ 2 + length (operandBytes (i .operand)) → k ≡ immediateSize (formOf n)
-        → l1 ≡ sets (set (set l 0 (i .first)) 1 (i .second)) 2 (operandBytes (i .operand))
-        → l2 ≡ sets l1 next (bytes k (i .immediate))
-        → l2 ≡ sets l 0 (bytesOf i)
-    whole-put next k l l1 l2 p d q r = r ∙ simp (q, p, d, sets-append, whole-bytes)
+    pub operand-room : (l : List ℕ) → length (bytesOf i) ≤ length l → 2 + operandSize (i .operand) ≤ length l
+    operand-room l h = omega (arith, whole-length)
+
+    module _ (next k : ℕ) (l l1 : List ℕ) (p : next ≡ 2 + operandSize (i .operand)) (d : k ≡ immediateSize (formOf n)) where
+      pub immediate-room : (a b u v : ℕ) → length l1 ≡ length (set (set l a u) b v) → length (bytesOf i) ≤ length l → next + k ≤ length l1
+      immediate-room a b u v e h = omega (arith, whole-length, length-set l a u, length-set (set l a u) b v)
+
+      pub whole-put : (l2 : List ℕ) → l1 ≡ sets (set (set l 0 (i .first)) 1 (i .second)) 2 (operandBytes (i .operand))
+          → l2 ≡ sets l1 next (bytes k (i .immediate))
+          → l2 ≡ sets l 0 (bytesOf i)
+      whole-put l2 q r =
+          let s : next ≡ 2 + length (operandBytes (i .operand)) = omega (arith, operand-length (i .operand)) in
+          r ∙ simp (q, s, d, sets-append, whole-bytes)
 
     -- its length by the parts
     module _ (k j : ℕ) (t : Bool) (a : k ≡ displacementSize (i .operand .mode) (i .operand .rm) (i .operand .base))
         (b : j ≡ immediateSize (formOf n)) (s : t ≡ hasSib (i .operand .mode) (i .operand .rm)) where
       pub sib-size : t ≡ true → 4 + (k + j) ≡ length (bytesOf i)
-      sib-size e = omega (arith, whole-length, operand-length (i .operand), sib-length-1 (i .operand) t s e)
+      sib-size e = omega (arith, whole-length, sib-length-1 (i .operand) t s e)
 
       pub plain-size : t ≡ false → 3 + (k + j) ≡ length (bytesOf i)
-      plain-size e = omega (arith, whole-length, operand-length (i .operand), sib-length-0 (i .operand) t s e)
+      plain-size e = omega (arith, whole-length, sib-length-0 (i .operand) t s e)
 
-pub two-le : (i : Instruction) → 2 ≤ length (bytesOf i)
+pub opcode-room : (i : Instruction) (l : List ℕ) (j : ℕ) → length (bytesOf i) ≤ length l → j < 2 → j < length l
 unfolding bytesOf
-two-le i = omega arith
+opcode-room i l j h g = omega arith
+
+-- stores keep the length
+pub length-kept : (l l1 l2 : List ℕ) (a u : ℕ) → length l1 ≡ length (set l a u) → length l2 ≡ length l1 → length l2 ≡ length l
+length-kept l l1 l2 a u e h = h ∙ e ∙ length-set l a u
+
+pub length-kept-twice : (l l1 l2 : List ℕ) (a b u v : ℕ) → length l1 ≡ length (set (set l a u) b v) → length l2 ≡ length l1
+    → length l2 ≡ length l
+length-kept-twice l l1 l2 a b u v e h = h ∙ e ∙ simp length-set
 
 -- the writer
+pub has-so : (i : Instruction) (t : Bool) → t ≡ hasBytes i → t ≡ true → hasBytes i ≡ true
+has-so i t g e = sym g ∙ e
+
 module _ (i : Instruction) (l : List ℕ) (t : Bool) (g : t ≡ hasBytes i) where
-  pub write-none : t ≡ false → written (Refused noBytes) l ≡ writeTo i l
+  pub write-none : t ≡ false → refusedWith noBytes l ≡ writeTo i l
   unfolding writeTo
   write-none e = simp (← g, e)
 
   module _ (n : ℕ) (e : t ≡ true) (h : n ≡ length (bytesOf i)) where
-    pub write-short : length l < n → written (Refused bufferEnds) l ≡ writeTo i l
+    pub write-short : length l < n → refusedWith bufferEnds l ≡ writeTo i l
     unfolding writeTo
     write-short q =
         let p : length l < length (bytesOf i) = omega arith in
         simp (← g, e, lt-leb _ _ p)
 
-    pub write-good : (l1 : List ℕ) → n ≤ length l → l1 ≡ sets l 0 (bytesOf i) → written (Wrote n) l1 ≡ writeTo i l
+    pub write-good : (l1 : List ℕ) → n ≤ length l → l1 ≡ sets l 0 (bytesOf i) → wrote n l1 ≡ writeTo i l
     unfolding writeTo
     write-good l1 q y =
         let p : length (bytesOf i) ≤ length l = omega arith in
-        simp (← g, e, le-leb _ _ p) (ap₂ (λ (k : ℕ) (x : List ℕ). written (Wrote k) x) h (y ∙ sets-start l (bytesOf i) p))
+        simp (← g, e, le-leb _ _ p) (ap₂ wrote h (y ∙ sets-start l (bytesOf i) p))
 
-pub ruleset puts = (number-put-1, number-put-4, sib-next, sib-put, sib-same, sib-kept, operand-next, operand-put, bare-size, bare-put, whole-put, sib-size, plain-size, write-none, write-short, write-good)
+pub ruleset puts = (
+  needs,
+  byte-there,
+  number-put-1,
+  number-put-4,
+  sib-fields,
+  sib-room,
+  sib-next,
+  sib-put,
+  sib-same,
+  sib-kept,
+  modrm-fields,
+  operand-put,
+  bytes-operand,
+  opcode-room,
+  operand-room,
+  immediate-room,
+  sib-start,
+  displacement-room,
+  length-kept,
+  bare-size,
+  bare-put,
+  whole-put,
+  sib-size,
+  plain-size,
+  has-so,
+  write-none,
+  write-short,
+  write-good,
+)

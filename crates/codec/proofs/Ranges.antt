@@ -5,11 +5,11 @@ use mathlib.Core.Bool.{Bool, true, false}
 use native.Mathlib.Omega.{arith}
 use Rattle.codec.specs.Forms.{Form, hasOperand, allows, immediateSize}
 use Rattle.codec.specs.Opcodes.{entryOf, escape}
-use Rattle.codec.specs.Operands.{hasSib, displacementSize}
+use Rattle.codec.specs.Operands.{hasSib, displacementSize, Fields}
 use Rattle.codec.specs.Fits.{operandFits, hasBytes}
 use Rattle.codec.specs.declared.Operand.{Operand}
 use Rattle.codec.specs.declared.Instruction.{Instruction}
-use Rattle.codec.proofs.Tests.{and-both}
+use Rattle.words.proofs.Laws.{and-both}
 use Rattle.codec.proofs.Given.{Registers, no-registers}
 use Rattle.codec.proofs.Facts.{Fit, fit, sib-there, sib-absent, zero-is, Parts, bytewise}
 
@@ -28,17 +28,20 @@ pub record InRange (i : Instruction) : Type 0 where
 fit-in-range : (w : Operand) → Fit w → OperandInRange w
 fit-in-range w f = by (hasSib (w .mode) (w .rm)) refl
   where
-    made : w .scale < 4 → w .index < 8 → w .base < 8 → OperandInRange w
-    made p q r =
-        record { mode = f .mode; scale = p; registers = record { reg = f .reg; rm = f .rm; index = q; base = r }; displacement = f .displacement }
+    made : Fields (w .scale) (w .index) (w .base) → OperandInRange w
+    made s =
+        record {
+          mode = f .modrm .upper-fits;
+          scale = s .upper-fits;
+          registers = record { reg = f .modrm .middle-fits; rm = f .modrm .lower-fits; index = s .middle-fits; base = s .lower-fits };
+          displacement = f .displacement;
+        }
 
     by : (t : Bool) → hasSib (w .mode) (w .rm) ≡ t → OperandInRange w
-    by true e =
-        let b = sib-there (w .scale) (w .index) (w .base) (simp e at (f .sib)) in
-        made (b .0) (b .1 .0) (b .1 .1)
+    by true e = made (sib-there (w .scale) (w .index) (w .base) (simp e at (f .sib)))
     by false e =
         let z = sib-absent (w .scale) (w .index) (w .base) (simp e at (f .sib)) in
-        made (omega (arith, z .0)) (omega (arith, z .1 .0)) (omega (arith, z .1 .1))
+        made (record { upper-fits = omega (arith, z .0); middle-fits = omega (arith, z .1 .0); lower-fits = omega (arith, z .1 .1) })
 
 parts-in-range : (t : Bool) (form : Form) (w : Operand) (v : ℕ) → hasOperand form ≡ t → Parts form w v → OperandInRange w
 unfolding displacementSize

@@ -1,21 +1,20 @@
 -- Laws of every reader, whatever it asks for: it reads its own bytes alone, wherever they stand. By cases of what is still to be read.
 use Prim.Native.Nat.{ℕ, suc, _+_, _-_, _≤_, _<_}
 use mathlib.Core.Path.{_≡_, refl, sym, ap, ap₂, _∙_}
-use mathlib.Core.Bool.{Bool, true, false, cond}
+use mathlib.Core.Bool.{Bool, true, false, cond, false≢true}
 use mathlib.Core.List.{List, [], _∷_, _++_, append-assoc}
+use native.Mathlib.Numerals.{add-one}
 use native.Mathlib.Omega.{arith}
 use native.Mathlib.Nat.{add-assoc, add-zero}
 use borrow.Author.Tests.{leb-true, le-leb, lt-leb}
 use lib.Dec.{leb}
-use lib.ListN.{length, take, drop, length-append, length-drop}
-use lib.Seq.{length-take-le, take-add, take-at, drop-at, drop-drop}
+use lib.ListN.{length, getD, take, drop, length-append, length-drop}
+use lib.Seq.{drop-cons, length-take-le, take-add, take-at, drop-at, drop-drop}
 use Rattle.words.specs.Number.{number}
 use Rattle.codec.specs.Refusals.{codeEnds}
 use Rattle.codec.specs.Reader.{Reader, whole, refuse, byte, field, reads}
 use Rattle.codec.specs.declared.Instruction.{Instruction}
-use Rattle.codec.specs.declared.Reading.{Reading}
-use Rattle.codec.specs.declared.Reading.the-variants.{Read, Refused}
-use Rattle.codec.proofs.Tests.{never}
+use Rattle.codec.specs.Answers.{Answer, good, refused}
 
 -- a choice that has been made
 module _ (t : Bool) (p q : Reader) (at : ℕ) (s : List ℕ) where
@@ -27,13 +26,16 @@ module _ (t : Bool) (p q : Reader) (at : ℕ) (s : List ℕ) where
 
 -- at a position of a code
 module _ (code : List ℕ) (at : ℕ) where
+  pub drop-here : at < length code → drop at code ≡ getD code at 0 ∷ drop (at + 1) code
+  drop-here h = rw add-one (drop-cons code at 0 h)
+
   pub field-here : (k : ℕ) (next : ℕ → Reader) → k ≤ length code - at
       → reads (field k next) at (drop at code) ≡ reads (next (number (take k (drop at code)))) (at + k) (drop (at + k) code)
   field-here k next h =
       let g : k ≤ length (drop at code) = omega (arith, length-drop at code) in
       simp (le-leb k (length (drop at code)) g, drop-drop k at code)
 
-  pub field-none : (k : ℕ) (next : ℕ → Reader) → length code - at < k → reads (field k next) at (drop at code) ≡ Refused codeEnds
+  pub field-none : (k : ℕ) (next : ℕ → Reader) → length code - at < k → reads (field k next) at (drop at code) ≡ refused codeEnds
   field-none k next h =
       let g : length (drop at code) < k = omega (arith, length-drop at code) in
       simp (lt-leb k (length (drop at code)) g)
@@ -46,15 +48,15 @@ module _ (P : Instruction → Type 0) (Q : ℕ → Type 0) where
   Every (byte next) = Q codeEnds × ((b : ℕ) → Every (next b))
   Every (field k next) = Q codeEnds × ((v : ℕ) → Every (next v))
 
-  abbrev pub Holds : Reading → Type 0
-  Holds (Read i n) = P i
-  Holds (Refused n) = Q n
+  abbrev pub Holds : Answer → Type 0
+  Holds (good i n) = P i
+  Holds (refused n) = Q n
 
   pub every-cond : (t : Bool) (p q : Reader) → Every p → Every q → Every (cond t p q)
   every-cond true p q h g = h
   every-cond false p q h g = g
 
-  holds-cond : (t : Bool) (x : Reading) → Holds x → Q codeEnds → Holds (cond t x (Refused codeEnds))
+  holds-cond : (t : Bool) (x : Answer) → Holds x → Q codeEnds → Holds (cond t x (refused codeEnds))
   holds-cond true x h q = h
   holds-cond false x h q = q
 
@@ -75,12 +77,12 @@ every-map P R Q f (byte next) h = (h .0, λ b. every-map P R Q f (next b) (h .1 
 every-map P R Q f (field k next) h = (h .0, λ v. every-map P R Q f (next v) (h .1 v))
 
 -- Where the bytes stand changes the position after them, and nothing else.
-abbrev pub moved : ℕ → Reading → Reading
-moved a (Read i n) = Read i (a + n)
-moved a (Refused n) = Refused n
+abbrev pub moved : ℕ → Answer → Answer
+moved a (good i n) = good i (a + n)
+moved a (refused n) = refused n
 
-moved-cond : (t : Bool) (a : ℕ) (x y : Reading) → x ≡ moved a y
-    → cond t x (Refused codeEnds) ≡ moved a (cond t y (Refused codeEnds))
+moved-cond : (t : Bool) (a : ℕ) (x y : Answer) → x ≡ moved a y
+    → cond t x (refused codeEnds) ≡ moved a (cond t y (refused codeEnds))
 moved-cond true a x y e = e
 moved-cond false a x y e = refl
 
@@ -100,7 +102,7 @@ pub record Own (r : Reader) (at : ℕ) (s : List ℕ) (i : Instruction) (n : ℕ
   pub size : ℕ
   pub ends : n ≡ at + size
   pub within : size ≤ length s
-  pub again : (from : ℕ) (tail : List ℕ) → reads r from (take size s ++ tail) ≡ Read i (from + size)
+  pub again : (from : ℕ) (tail : List ℕ) → reads r from (take size s ++ tail) ≡ good i (from + size)
 
 front : (k j : ℕ) (s tail : List ℕ) → k ≤ length s → take (k + j) s ++ tail ≡ take k s ++ (take j (drop k s) ++ tail)
 front k j s tail h = ap (λ (l : List ℕ). l ++ tail) (take-add k j s) ∙ append-assoc (take k s) (take j (drop k s)) tail
@@ -112,25 +114,25 @@ field-reads k from next s t e =
     let h : k ≤ length (s ++ t) = omega (arith, length-append s t) in
     simp (le-leb k (length (s ++ t)) h, take-at s t k e, drop-at s t k e)
 
-cond-read : (t : Bool) (x : Reading) (i : Instruction) (n : ℕ) → cond t x (Refused codeEnds) ≡ Read i n
-    → (t ≡ true) × (x ≡ Read i n)
+cond-read : (t : Bool) (x : Answer) (i : Instruction) (n : ℕ) → cond t x (refused codeEnds) ≡ good i n
+    → (t ≡ true) × (x ≡ good i n)
 cond-read true x i n e = (refl, e)
-cond-read false x i n e = never (cc)
+cond-read false x i n e = absurd (false≢true (cc))
 
 -- a field that was read was there
-pub field-read : (k at : ℕ) (next : ℕ → Reader) (s : List ℕ) (i : Instruction) (n : ℕ) → reads (field k next) at s ≡ Read i n
-    → (k ≤ length s) × (reads (next (number (take k s))) (at + k) (drop k s) ≡ Read i n)
+pub field-read : (k at : ℕ) (next : ℕ → Reader) (s : List ℕ) (i : Instruction) (n : ℕ) → reads (field k next) at s ≡ good i n
+    → (k ≤ length s) × (reads (next (number (take k s))) (at + k) (drop k s) ≡ good i n)
 field-read k at next s i n e =
     let h = cond-read (leb k (length s)) _ i n e in
     (leb-true k (length s) (h .0), h .1)
 
-pub own : (r : Reader) (at : ℕ) (s : List ℕ) (i : Instruction) (n : ℕ) → reads r at s ≡ Read i n → Own r at s i n
+pub own : (r : Reader) (at : ℕ) (s : List ℕ) (i : Instruction) (n : ℕ) → reads r at s ≡ good i n → Own r at s i n
 own (whole j) at s i n e =
     let p : j ≡ i = cc in
     let q : at ≡ n = cc in
-    record { size = 0; ends = omega arith; within = omega arith; again = λ from tail. ap₂ Read p (sym (add-zero from)) }
-own (refuse m) at s i n e = never (cc)
-own (byte next) at [] i n e = never (cc)
+    record { size = 0; ends = omega arith; within = omega arith; again = λ from tail. ap₂ good p (sym (add-zero from)) }
+own (refuse m) at s i n e = absurd (false≢true (cc))
+own (byte next) at [] i n e = absurd (false≢true (cc))
 own (byte next) at (b ∷ s) i n e =
     let o = own (next b) (at + 1) s i n e in
     record {
@@ -138,7 +140,7 @@ own (byte next) at (b ∷ s) i n e =
       ends = omega (arith, o .ends);
       within = omega (arith, o .within);
       again = λ from tail.
-          o .again (from + 1) tail ∙ ap (Read i) (let h : from + 1 + o .size ≡ from + suc (o .size) = omega arith in h);
+          o .again (from + 1) tail ∙ ap (good i) (let h : from + 1 + o .size ≡ from + suc (o .size) = omega arith in h);
     }
 own (field k next) at s i n e =
     let f = field-read k at next s i n e in
@@ -150,9 +152,9 @@ own (field k next) at s i n e =
       again = λ from tail.
           ap (reads (field k next) from) (front k (o .size) s tail (f .0))
           ∙ field-reads k from next (take k s) (take (o .size) (drop k s) ++ tail) (length-take-le k s (f .0))
-          ∙ o .again (from + k) tail ∙ ap (Read i) (add-assoc from k (o .size));
+          ∙ o .again (from + k) tail ∙ ap (good i) (add-assoc from k (o .size));
     }
 
-pub takes-one : (next : ℕ → Reader) (at : ℕ) (s : List ℕ) (i : Instruction) (n : ℕ) → reads (byte next) at s ≡ Read i n → at < n
-takes-one next at [] i n e = never (cc)
+pub takes-one : (next : ℕ → Reader) (at : ℕ) (s : List ℕ) (i : Instruction) (n : ℕ) → reads (byte next) at s ≡ good i n → at < n
+takes-one next at [] i n e = absurd (false≢true (cc))
 takes-one next at (b ∷ s) i n e = omega (arith, own (next b) (at + 1) s i n e .ends)

@@ -17,8 +17,8 @@ use Rattle.codec.specs.Fits.{sibFits, operandFits, hasBytes}
 use Rattle.codec.specs.Writes.{sibBytes, displacementBytes, operandBytes, partsBytes, bytesOf}
 use Rattle.codec.specs.declared.Operand.{Operand}
 use Rattle.codec.specs.declared.Instruction.{Instruction}
-use Rattle.codec.specs.declared.Reading.the-variants.{Read}
-use Rattle.codec.proofs.Tests.{and-both}
+use Rattle.codec.specs.Answers.{good}
+use Rattle.words.proofs.Laws.{and-both}
 use Rattle.words.proofs.Numbers.{AllBytes, all-cons, all-append, all-none, all-bytes, length-bytes, number-fits}
 use Rattle.codec.proofs.Joined.{upper-joined, middle-joined, lower-joined, joined-lt}
 use Rattle.codec.proofs.Readers.{reads-yes, reads-no, field-reads}
@@ -27,12 +27,12 @@ use Rattle.codec.proofs.Facts.{Fit, fit, sib-there, sib-absent, zero-is
 -- after the opcode
 module _ (form : Form) (first second : ℕ) where
   immediate-back : (w : Operand) (at v : ℕ) (rest : List ℕ) → v < 256 ^ immediateSize form
-      → reads (immediateReader form first second w) at (bytes (immediateSize form) v ++ rest) ≡ Read (instructionOf first second w v) (at + immediateSize form)
+      → reads (immediateReader form first second w) at (bytes (immediateSize form) v ++ rest) ≡ good (instructionOf first second w v) (at + immediateSize form)
   unfolding immediateReader
   immediate-back w at v rest h =
       let k = immediateSize form in
       field-reads k at (λ d. whole (instructionOf first second w d)) (bytes k v) rest (length-bytes k v)
-      ∙ ap (λ (d : ℕ). Read (instructionOf first second w d) (at + k)) (number-fits k v h)
+      ∙ ap (λ (d : ℕ). good (instructionOf first second w d) (at + k)) (number-fits k v h)
 
   -- the displacement, where the bytes before it have the operand's fields
   displacement-back : (w : Operand) (modrm sib at : ℕ) (rest : List ℕ) → operandOf modrm sib (w .displacement) ≡ w
@@ -56,13 +56,13 @@ module _ (form : Form) (first second : ℕ) where
     modrm = joined (w .mode) (w .reg) (w .rm)
 
     abbrev mode-is : upper modrm ≡ w .mode
-    mode-is = upper-joined (w .mode) (w .reg) (w .rm) (f .reg) (f .rm)
+    mode-is = upper-joined (w .mode) (w .reg) (w .rm) (f .modrm)
 
     abbrev reg-is : middle modrm ≡ w .reg
-    reg-is = middle-joined (w .mode) (w .reg) (w .rm) (f .reg) (f .rm)
+    reg-is = middle-joined (w .mode) (w .reg) (w .rm) (f .modrm)
 
     abbrev rm-is : lower modrm ≡ w .rm
-    rm-is = lower-joined (w .mode) (w .reg) (w .rm) (f .reg) (f .rm)
+    rm-is = lower-joined (w .mode) (w .reg) (w .rm) (f .modrm)
 
     operand-is : (sib : ℕ) → upper sib ≡ w .scale → middle sib ≡ w .index → lower sib ≡ w .base
         → operandOf modrm sib (w .displacement) ≡ w
@@ -83,9 +83,9 @@ module _ (form : Form) (first second : ℕ) where
         let b = sib-there (w .scale) (w .index) (w .base) (simp e at (f .sib)) in
         displacement-back w modrm (joined (w .scale) (w .index) (w .base)) (at + 1) rest
         (operand-is (joined (w .scale) (w .index) (w .base))
-        (upper-joined (w .scale) (w .index) (w .base) (b .1 .0) (b .1 .1))
-        (middle-joined (w .scale) (w .index) (w .base) (b .1 .0) (b .1 .1))
-        (lower-joined (w .scale) (w .index) (w .base) (b .1 .0) (b .1 .1)))
+        (upper-joined (w .scale) (w .index) (w .base) b)
+        (middle-joined (w .scale) (w .index) (w .base) b)
+        (lower-joined (w .scale) (w .index) (w .base) b))
         (f .displacement)
     sib-back false at rest e =
         let z = sib-absent (w .scale) (w .index) (w .base) (simp e at (f .sib)) in
@@ -115,7 +115,7 @@ module _ (form : Form) (first second : ℕ) where
 
   parts-back : (t : Bool) (w : Operand) (at v : ℕ) (rest : List ℕ) → hasOperand form ≡ t → Parts form w v
       → reads (cond t (modrmReader form first second) (immediateReader form first second noOperand)) at (partBytes t w v ++ rest)
-      ≡ Read (instructionOf first second w v) (at + length (partBytes t w v))
+      ≡ good (instructionOf first second w v) (at + length (partBytes t w v))
   parts-back true w at v rest e p =
       let k = immediateSize form in
       let c = and-both (allows form (w .mode) (w .reg) (w .rm)) (operandFits w) (simp e at (p .operand)) in
@@ -124,16 +124,16 @@ module _ (form : Form) (first second : ℕ) where
       in
       ap (reads (modrmReader form first second) at) (append-assoc (operandBytes w) (bytes k v) rest)
       ∙ operand-back w (fit w (c .1)) at (bytes k v ++ rest) (c .0)
-      ∙ immediate-back w (at + length (operandBytes w)) v rest (p .immediate) ∙ ap (Read (instructionOf first second w v)) l
+      ∙ immediate-back w (at + length (operandBytes w)) v rest (p .immediate) ∙ ap (good (instructionOf first second w v)) l
   parts-back false w at v rest e p =
       let k = immediateSize form in
       let z : w ≡ noOperand = zero-is w (simp e at (p .operand)) in
       immediate-back noOperand at v rest (p .immediate)
-      ∙ ap₂ (λ (x : Operand) (j : ℕ). Read (instructionOf first second x v) (at + j)) (sym z) (sym (length-bytes k v))
+      ∙ ap₂ (λ (x : Operand) (j : ℕ). good (instructionOf first second x v) (at + j)) (sym z) (sym (length-bytes k v))
 
 -- What has bytes is read from them, whatever follows.
 pub bytes-read : (i : Instruction) (rest : List ℕ) → hasBytes i ≡ true
-    → reads (instructionReader entryOf) 0 (bytesOf i ++ rest) ≡ Read i (length (bytesOf i))
+    → reads (instructionReader entryOf) 0 (bytesOf i ++ rest) ≡ good i (length (bytesOf i))
 unfolding instructionReader secondReader formReader bytesOf partsBytes
 bytes-read i rest e =
     let b = bytewise i e in
@@ -143,20 +143,20 @@ bytes-read i rest e =
     reads-yes _ _ _ (0 + 1) (i .second ∷ (s ++ rest)) (eq-eqb (i .first) escape (b .first))
     ∙ reads-no _ _ _ (0 + 1 + 1) (s ++ rest) (b .parts .listed)
     ∙ parts-back form (i .first) (i .second) (hasOperand form) (i .operand) (0 + 1 + 1) (i .immediate) rest refl (b .parts)
-    ∙ ap (Read i) l
+    ∙ ap (good i) l
 
 -- Its bytes are bytes: each field fits its place.
 sib-bytes : (t : Bool) (scale index base : ℕ) → sibFits t scale index base ≡ true
     → AllBytes (cond t (joined scale index base ∷ []) [])
 sib-bytes true scale index base e =
     let b = sib-there scale index base e in
-    all-cons (joined scale index base) [] (joined-lt scale index base (b .0) (b .1 .0) (b .1 .1)) all-none
+    all-cons (joined scale index base) [] (joined-lt scale index base b) all-none
 sib-bytes false scale index base e = all-none
 
 operand-bytes : (w : Operand) → Fit w → AllBytes (operandBytes w)
 unfolding operandBytes sibBytes displacementBytes
 operand-bytes w f =
-    all-cons (joined (w .mode) (w .reg) (w .rm)) (sibBytes w ++ displacementBytes w) (joined-lt (w .mode) (w .reg) (w .rm) (f .mode) (f .reg) (f .rm))
+    all-cons (joined (w .mode) (w .reg) (w .rm)) (sibBytes w ++ displacementBytes w) (joined-lt (w .mode) (w .reg) (w .rm) (f .modrm))
     (all-append (sibBytes w) (displacementBytes w)
     (sib-bytes (hasSib (w .mode) (w .rm)) (w .scale) (w .index) (w .base) (f .sib))
     (all-bytes (displacementSize (w .mode) (w .rm) (w .base)) (w .displacement)))

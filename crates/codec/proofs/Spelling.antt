@@ -1,7 +1,7 @@
 -- What is read spells the bytes that it was read from: each part that a reader asks for is a part of the record's bytes.
 use Prim.Native.Nat.{ℕ, suc, _+_, _^_, _<_}
 use mathlib.Core.Path.{_≡_, refl, sym, ap, subst, _∙_}
-use mathlib.Core.Bool.{Bool, true, false, cond, _&&_}
+use mathlib.Core.Bool.{Bool, true, false, cond, _&&_, false≢true}
 use mathlib.Core.List.{List, [], _∷_, _++_, append-assoc, append-nil}
 use native.Mathlib.Omega.{arith}
 use borrow.Author.Tests.{eqb-true}
@@ -18,10 +18,9 @@ use Rattle.codec.specs.Fits.{sibFits, operandFits, operandIsZero, hasByt
 use Rattle.codec.specs.Writes.{sibBytes, displacementBytes, operandBytes, partsBytes, bytesOf}
 use Rattle.codec.specs.declared.Operand.{Operand}
 use Rattle.codec.specs.declared.Instruction.{Instruction}
-use Rattle.codec.specs.declared.Reading.the-variants.{Read}
-use Rattle.codec.proofs.Tests.{never}
+use Rattle.codec.specs.Answers.{good}
 use Rattle.words.proofs.Numbers.{AllBytes, all-drop, all-tail, bytes-taken, number-taken}
-use Rattle.codec.proofs.Joined.{joined-fields, upper-lt, middle-lt, lower-lt}
+use Rattle.codec.proofs.Joined.{joined-fields, fields}
 use Rattle.codec.proofs.Readers.{field-read}
 use Rattle.codec.proofs.Facts.{there-sib, absent-sib, fit-true, bytewise-true}
 
@@ -44,14 +43,14 @@ record Spelled (before : List ℕ) (at : ℕ) (s : List ℕ) (i : Instruction) (
   spelt : bytesOf i ≡ before ++ take size s
 
 spelled : (r : Reader) (before : List ℕ) (at : ℕ) (s : List ℕ) (i : Instruction) (n : ℕ) → Spells before r → AllBytes s
-    → reads r at s ≡ Read i n
+    → reads r at s ≡ good i n
     → Spelled before at s i n
 spelled (whole j) before at s i n h b e =
     let p : j ≡ i = cc in
     let q : at ≡ n = cc in
     record { size = 0; ends = omega arith; has = subst (λ (x : Instruction). hasBytes x ≡ true) p (h .0); spelt = ap bytesOf (sym p) ∙ h .1 ∙ sym (append-nil before) }
-spelled (refuse m) before at s i n h b e = never (cc)
-spelled (byte next) before at [] i n h b e = never (cc)
+spelled (refuse m) before at s i n h b e = absurd (false≢true (cc))
+spelled (byte next) before at [] i n h b e = absurd (false≢true (cc))
 spelled (byte next) before at (x ∷ s) i n h b e =
     let r = spelled (next x) (before ++ (x ∷ [])) (at + 1) s i n (h x (b 0)) (all-tail x s b) e in
     record { size = suc (r .size); ends = omega (arith, r .ends); has = r .has; spelt = r .spelt ∙ append-assoc before (x ∷ []) (take (r .size) s) }
@@ -96,7 +95,7 @@ module _ (first second : ℕ) (z : first ≡ escape) (l : second < 256) (y : isA
     unfolding operandBytes displacementBytes
     operand-spells before s e d h =
         let w = operandOf modrm sib d in
-        let f = fit-true w (record { mode = upper-lt modrm m; reg = middle-lt modrm; rm = lower-lt modrm; sib = s; displacement = h }) in
+        let f = fit-true w (record { modrm = fields modrm m; sib = s; displacement = h }) in
         immediate-spells w (modrm ∷ (before ++ bytes size d)) (simp (x, a, f))
         (simp (x, joined-fields modrm) (ap (λ (u : List ℕ). modrm ∷ (u ++ bytes size d)) (e d)))
 
@@ -107,7 +106,7 @@ module _ (first second : ℕ) (z : first ≡ escape) (l : second < 256) (y : isA
   sib-spells x modrm m a =
       spells-cond (hasSib (upper modrm) (lower modrm)) _ (byte (displacementReader form first second modrm)) (displacementReader form first second modrm 0)
       (λ t sib b.
-      let s = there-sib (upper sib) (middle sib) (lower sib) (upper-lt sib b) (middle-lt sib) (lower-lt sib) in
+      let s = there-sib (upper sib) (middle sib) (lower sib) (fields sib b) in
       operand-spells x modrm sib m a (sib ∷ []) (simp (t, s)) (λ d. simp (t, joined-fields sib)))
       (λ t. operand-spells x modrm 0 m a [] (simp (t, absent-sib)) (λ d. simp t))
 
@@ -135,7 +134,7 @@ instruction-spells first p =
     (λ z second l. form-spells first second (eqb-true first escape z) l) (λ z. tt)
 
 -- What is read has bytes, and they are those that it was read from.
-pub read-spells : (s : List ℕ) (i : Instruction) (n : ℕ) → AllBytes s → reads (instructionReader entryOf) 0 s ≡ Read i n
+pub read-spells : (s : List ℕ) (i : Instruction) (n : ℕ) → AllBytes s → reads (instructionReader entryOf) 0 s ≡ good i n
     → (hasBytes i ≡ true) × (bytesOf i ≡ take n s)
 read-spells s i n b e =
     let r = spelled (instructionReader entryOf) [] 0 s i n instruction-spells b e in

@@ -5,9 +5,10 @@ use mathlib.Core.Bool.{Bool, true, false, cond}
 use mathlib.Core.List.{List}
 use native.Mathlib.Omega.{arith}
 use native.Mathlib.Nat.{add-zero, mul-zero}
+use borrow.Author.Needs.{needs}
 use borrow.Author.Tests.{eq-eqb, ne-eqb}
 use lib.Dec.{eqb}
-use lib.ListN.{length, getD, take, drop}
+use lib.ListN.{length, getD, take, drop, drop-of-length-le}
 use Rattle.words.specs.Number.{number}
 use Rattle.codec.specs.Refusals.{codeEnds, notListed, notAllowed}
 use Rattle.codec.specs.Forms.{Form, isAbsent, hasOperand, allows, immediateSize}
@@ -19,18 +20,17 @@ use Rattle.codec.specs.Reads.{instructionOf, immediateReader, displaceme
 use Rattle.codec.specs.Lent.{refusedAs, found, foundIn, findWith}
 use Rattle.codec.specs.declared.Operand.{Operand}
 use Rattle.codec.specs.declared.Found.{Found}
-use Rattle.codec.specs.declared.Reading.{Reading}
-use Rattle.codec.specs.declared.Reading.the-variants.{Read, Refused}
-use Rattle.codec.proofs.Positions.{drop-here, drop-none}
+use Rattle.codec.specs.Answers.{Answer, good, refused}
+use Rattle.codec.proofs.Sizes.{byte-there}
 use Rattle.codec.proofs.FormNumbers.{with-operand}
 use Rattle.codec.proofs.Given.{Given, Refusal, Gives, no-registers, immediate-gives, modrm-gives}
-use Rattle.codec.proofs.Readers.{Holds, every, reads-yes, reads-no, field-here, field-none}
+use Rattle.codec.proofs.Readers.{Holds, every, reads-yes, reads-no, drop-here, field-here, field-none}
 
 -- what is read keeps the second byte, so that the table's entry is that of it
 module _ (table : List ℕ) (second : ℕ) where
-  entry-kept : (x : Reading) → Holds (Given second) Refusal x → found (getD table second 0) x ≡ foundIn table x
-  entry-kept (Read i n) h = ap (λ (k : ℕ). found (getD table k 0) (Read i n)) (sym (h .kept))
-  entry-kept (Refused n) h = refl
+  entry-kept : (x : Answer) → Holds (Given second) Refusal x → found (getD table second 0) x ≡ foundIn table x
+  entry-kept (good i n) h = ap (λ (k : ℕ). found (getD table k 0) (good i n)) (sym (h .kept))
+  entry-kept (refused n) h = refl
 
   keeps : (r : Reader) (at : ℕ) (s : List ℕ) → Gives second r
       → found (getD table second 0) (reads r at s) ≡ foundIn table (reads r at s)
@@ -41,7 +41,7 @@ module _ (code : List ℕ) (at : ℕ) where
   module _ (table : List ℕ) (x : Found) where
     pub first-none : x ≡ refusedAs codeEnds → length code ≤ at → x ≡ findWith table code at
     unfolding findWith instructionReader
-    first-none e q = e ∙ ap (λ (s : List ℕ). foundIn table (reads (instructionReader (entryIn table)) at s)) (sym (drop-none code at q))
+    first-none e q = e ∙ ap (λ (s : List ℕ). foundIn table (reads (instructionReader (entryIn table)) at s)) (sym (drop-of-length-le code q))
 
     module _ (q : at < length code) where
       abbrev first : ℕ
@@ -68,10 +68,13 @@ module _ (code : List ℕ) (at : ℕ) where
 
   -- the second byte
   module _ (table : List ℕ) (first : ℕ) (x : Found) where
-    pub second-none : x ≡ refusedAs codeEnds → length code ≤ at
-        → x ≡ foundIn table (reads (secondReader (entryIn table) first) at (drop at code))
+    -- x is what the table and the second byte give
+    abbrev FindsSecond : Type 0
+    FindsSecond = x ≡ foundIn table (reads (secondReader (entryIn table) first) at (drop at code))
+
+    pub second-none : x ≡ refusedAs codeEnds → length code ≤ at → FindsSecond
     unfolding secondReader
-    second-none e q = e ∙ ap (λ (s : List ℕ). foundIn table (reads (secondReader (entryIn table) first) at s)) (sym (drop-none code at q))
+    second-none e q = e ∙ ap (λ (s : List ℕ). foundIn table (reads (secondReader (entryIn table) first) at s)) (sym (drop-of-length-le code q))
 
     module _ (q : at < length code) (entry : ℕ) (g : entry ≡ getD table (getD code at 0) 0) where
       abbrev second : ℕ
@@ -86,8 +89,7 @@ module _ (code : List ℕ) (at : ℕ) where
           ap (reads (secondReader (entryIn table) first) at) (drop-here code at q)
           ∙ ap (λ (e : ℕ). reads (formReader (formOf (e / 2 ^ 24)) first second) (at + 1) (drop (at + 1) code)) (sym g)
 
-      pub second-absent : entry / 2 ^ 24 ≡ 0 → x ≡ refusedAs notListed
-          → x ≡ foundIn table (reads (secondReader (entryIn table) first) at (drop at code))
+      pub second-absent : entry / 2 ^ 24 ≡ 0 → x ≡ refusedAs notListed → FindsSecond
       unfolding formReader
       second-absent e h =
           h ∙ ap (foundIn table) (sym (second-here ∙ reads-yes _ _ _ (at + 1) (drop (at + 1) code) (ap (λ (k : ℕ). isAbsent (formOf k)) e)))
@@ -99,8 +101,7 @@ module _ (code : List ℕ) (at : ℕ) where
             h ∙ ap (λ (e : ℕ). found e (reads r (at + 1) (drop (at + 1) code))) g ∙ keeps table second r (at + 1) (drop (at + 1) code) k
 
       pub second-bare : entry / 2 ^ 24 ≡ 1
-          → x ≡ found entry (reads (immediateReader form first second noOperand) (at + 1) (drop (at + 1) code))
-          → x ≡ foundIn table (reads (secondReader (entryIn table) first) at (drop at code))
+          → x ≡ found entry (reads (immediateReader form first second noOperand) (at + 1) (drop (at + 1) code)) → FindsSecond
       unfolding formReader
       second-bare e h =
           let s = drop (at + 1) code in
@@ -109,8 +110,7 @@ module _ (code : List ℕ) (at : ℕ) where
           (sym (second-here ∙ reads-no _ _ _ (at + 1) s (ap (λ (k : ℕ). isAbsent (formOf k)) e) ∙ reads-no _ _ _ (at + 1) s (ap (λ (k : ℕ). hasOperand (formOf k)) e)))
 
       pub second-on : (entry / 2 ^ 24 ≡ 0 → ⊥) → (entry / 2 ^ 24 ≡ 1 → ⊥)
-          → x ≡ found entry (reads (modrmReader form first second) (at + 1) (drop (at + 1) code))
-          → x ≡ foundIn table (reads (secondReader (entryIn table) first) at (drop at code))
+          → x ≡ found entry (reads (modrmReader form first second) (at + 1) (drop (at + 1) code)) → FindsSecond
       unfolding formReader
       second-on n m h =
           let s = drop (at + 1) code in
@@ -119,11 +119,14 @@ module _ (code : List ℕ) (at : ℕ) where
           ∙ ap (foundIn table) (sym (second-here ∙ reads-no _ _ _ (at + 1) s (o .0) ∙ reads-yes _ _ _ (at + 1) s (o .1)))
 
   module _ (form : Form) (first second entry : ℕ) (x : Found) where
+    -- x is what a reader finds at a position
+    abbrev Finds : Reader → ℕ → Type 0
+    Finds reader n = x ≡ found entry (reads reader n (drop n code))
+
     -- the ModRM byte
-    pub modrm-none : x ≡ refusedAs codeEnds → length code ≤ at
-        → x ≡ found entry (reads (modrmReader form first second) at (drop at code))
+    pub modrm-none : x ≡ refusedAs codeEnds → length code ≤ at → Finds (modrmReader form first second) at
     unfolding modrmReader
-    modrm-none e q = e ∙ ap (λ (s : List ℕ). found entry (reads (modrmReader form first second) at s)) (sym (drop-none code at q))
+    modrm-none e q = e ∙ ap (λ (s : List ℕ). found entry (reads (modrmReader form first second) at s)) (sym (drop-of-length-le code q))
 
     module _ (t : Bool) (g : t ≡ allows form (upper (getD code at 0)) (middle (getD code at 0)) (lower (getD code at 0)))
         (q : at < length code) where
@@ -137,13 +140,10 @@ module _ (code : List ℕ) (at : ℕ) where
           ap (reads (modrmReader form first second) at) (drop-here code at q)
           ∙ ap (λ (u : Bool). reads (cond u (sibReader form first second modrm) (refuse notAllowed)) (at + 1) (drop (at + 1) code)) (sym g)
 
-      pub modrm-stop : t ≡ false → x ≡ refusedAs notAllowed
-          → x ≡ found entry (reads (modrmReader form first second) at (drop at code))
+      pub modrm-stop : t ≡ false → x ≡ refusedAs notAllowed → Finds (modrmReader form first second) at
       modrm-stop e h = h ∙ ap (found entry) (sym (modrm-here ∙ reads-no t _ _ (at + 1) (drop (at + 1) code) e))
 
-      pub modrm-on : t ≡ true
-          → x ≡ found entry (reads (sibReader form first second (getD code at 0)) (at + 1) (drop (at + 1) code))
-          → x ≡ found entry (reads (modrmReader form first second) at (drop at code))
+      pub modrm-on : t ≡ true → Finds (sibReader form first second (getD code at 0)) (at + 1) → Finds (modrmReader form first second) at
       modrm-on e h = h ∙ ap (found entry) (sym (modrm-here ∙ reads-yes t _ _ (at + 1) (drop (at + 1) code) e))
 
     -- the SIB byte
@@ -157,20 +157,16 @@ module _ (code : List ℕ) (at : ℕ) where
         unfolding sibReader
         sib-here = ap (λ (u : Bool). reads (cond u sibNext (displacementReader form first second modrm 0)) at (drop at code)) (sym g)
 
-        pub sib-none : t ≡ true → length code ≤ at → x ≡ refusedAs codeEnds
-            → x ≡ found entry (reads (sibReader form first second modrm) at (drop at code))
+        pub sib-none : t ≡ true → length code ≤ at → x ≡ refusedAs codeEnds → Finds (sibReader form first second modrm) at
         sib-none e q h =
-            h ∙ ap (found entry) (sym (sib-here ∙ reads-yes t _ _ at (drop at code) e ∙ ap (reads sibNext at) (drop-none code at q)))
+            h ∙ ap (found entry) (sym (sib-here ∙ reads-yes t _ _ at (drop at code) e ∙ ap (reads sibNext at) (drop-of-length-le code q)))
 
-        pub sib-on : t ≡ true → at < length code
-            → x ≡ found entry (reads (displacementReader form first second modrm (getD code at 0)) (at + 1) (drop (at + 1) code))
-            → x ≡ found entry (reads (sibReader form first second modrm) at (drop at code))
+        pub sib-on : t ≡ true → at < length code → Finds (displacementReader form first second modrm (getD code at 0)) (at + 1)
+            → Finds (sibReader form first second modrm) at
         sib-on e q h =
             h ∙ ap (found entry) (sym (sib-here ∙ reads-yes t _ _ at (drop at code) e ∙ ap (reads sibNext at) (drop-here code at q)))
 
-        pub sib-not : t ≡ false
-            → x ≡ found entry (reads (displacementReader form first second modrm 0) at (drop at code))
-            → x ≡ found entry (reads (sibReader form first second modrm) at (drop at code))
+        pub sib-not : t ≡ false → Finds (displacementReader form first second modrm 0) at → Finds (sibReader form first second modrm) at
         sib-not e h = h ∙ ap (found entry) (sym (sib-here ∙ reads-no t _ _ at (drop at code) e))
 
       -- the displacement
@@ -182,23 +178,19 @@ module _ (code : List ℕ) (at : ℕ) where
         unfolding displacementReader
         displacement-is = ap (λ (j : ℕ). field j next) (sym e)
 
-        pub displacement-none : length code - at < k → x ≡ refusedAs codeEnds
-            → x ≡ found entry (reads (displacementReader form first second modrm sib) at (drop at code))
+        pub displacement-none : length code - at < k → x ≡ refusedAs codeEnds → Finds (displacementReader form first second modrm sib) at
         displacement-none q h =
             h ∙ ap (found entry) (sym (ap (λ (r : Reader). reads r at (drop at code)) displacement-is ∙ field-none code at k next q))
 
-        pub displacement-on : (d : ℕ) (w : Operand) → k ≤ length code - at → d ≡ number (take k (drop at code))
-            → w ≡ operandOf modrm sib d
-            → x ≡ found entry (reads (immediateReader form first second w) (at + k) (drop (at + k) code))
-            → x ≡ found entry (reads (displacementReader form first second modrm sib) at (drop at code))
+        pub displacement-on : (d : ℕ) (w : Operand) → k ≤ length code - at → d ≡ number (take k (drop at code)) → w ≡ operandOf modrm sib d
+            → Finds (immediateReader form first second w) (at + k) → Finds (displacementReader form first second modrm sib) at
         displacement-on d w q y z h =
             h ∙ ap (λ (v : Operand). found entry (reads (immediateReader form first second v) (at + k) (drop (at + k) code))) (z ∙ ap (operandOf modrm sib) y)
             ∙ ap (found entry) (sym (ap (λ (r : Reader). reads r at (drop at code)) displacement-is ∙ field-here code at k next q))
 
       -- a register: there is no displacement
-      pub sib-register : (w : Operand) → 192 ≤ modrm → modrm < 256 → w ≡ operandOf modrm 0 0
-          → x ≡ found entry (reads (immediateReader form first second w) at (drop at code))
-          → x ≡ found entry (reads (sibReader form first second modrm) at (drop at code))
+      pub sib-register : (w : Operand) → 192 ≤ modrm → modrm < 256 → w ≡ operandOf modrm 0 0 → Finds (immediateReader form first second w) at
+          → Finds (sibReader form first second modrm) at
       unfolding hasSib displacementSize
       sib-register w p q e h =
           let m : upper modrm ≡ 3 = omega arith in
@@ -214,16 +206,14 @@ module _ (code : List ℕ) (at : ℕ) where
       unfolding immediateReader
       immediate-is = ap (λ (j : ℕ). field j after) (sym e)
 
-      pub immediate-none : length code - at < k → x ≡ refusedAs codeEnds
-          → x ≡ found entry (reads (immediateReader form first second w) at (drop at code))
+      pub immediate-none : length code - at < k → x ≡ refusedAs codeEnds → Finds (immediateReader form first second w) at
       immediate-none q h =
           h ∙ ap (found entry) (sym (ap (λ (r : Reader). reads r at (drop at code)) immediate-is ∙ field-none code at k after q))
 
       pub immediate-on : (v : ℕ) → k ≤ length code - at → v ≡ number (take k (drop at code))
-          → x ≡ found entry (Read (instructionOf first second w v) (at + k))
-          → x ≡ found entry (reads (immediateReader form first second w) at (drop at code))
+          → x ≡ found entry (good (instructionOf first second w v) (at + k)) → Finds (immediateReader form first second w) at
       immediate-on v q y h =
-          h ∙ ap (λ (d : ℕ). found entry (Read (instructionOf first second w d) (at + k))) y
+          h ∙ ap (λ (d : ℕ). found entry (good (instructionOf first second w d) (at + k))) y
           ∙ ap (found entry) (sym (ap (λ (r : Reader). reads r at (drop at code)) immediate-is ∙ field-here code at k after q))
 
   -- a number of one byte and of four
@@ -237,7 +227,7 @@ module _ (code : List ℕ) (at : ℕ) where
       → r ≡ getD code at 0 + 256 * (getD code (at + 1) 0 + 256 * (getD code (at + 2) 0 + 256 * getD code (at + 3) 0))
       → r ≡ number (take k (drop at code))
   number-4 k r z n m p h =
-      let q : at + 4 ≤ length code = omega (arith, z n m) in
+      let q : at + 4 ≤ length code = omega (arith, z .four n m) in
       let p0 : at < length code = omega arith in
       let p1 : at + 1 < length code = omega arith in
       let p2 : at + 2 < length code = omega arith in
@@ -246,9 +236,11 @@ module _ (code : List ℕ) (at : ℕ) where
       let e3 : at + 2 + 1 ≡ at + 3 = omega arith in
       h
       ∙ sym
-      (simp (z n m, drop-here code at p0, drop-here code (at + 1) p1, e2, drop-here code (at + 2) p2, e3, drop-here code (at + 3) p3, mul-zero, add-zero))
+      (simp (z .four n m, drop-here code at p0, drop-here code (at + 1) p1, e2, drop-here code (at + 2) p2, e3, drop-here code (at + 3) p3, mul-zero, add-zero))
 
 pub ruleset reading = (
+  needs,
+  byte-there,
   first-none,
   first-on,
   first-stop,

@@ -9,8 +9,7 @@ use Rattle.codec.specs.Reader.{Reader, reads}
 use Rattle.codec.specs.Reads.{instructionOf, instructionReader}
 use Rattle.codec.specs.declared.reader.Opcode.{Opcode}
 use Rattle.codec.specs.declared.Found.{Found}
-use Rattle.codec.specs.declared.Reading.{Reading}
-use Rattle.codec.specs.declared.Reading.the-variants.{Read, Refused}
+use Rattle.codec.specs.Answers.{Answer, good, refused}
 
 -- a refusal: the rest is zero
 abbrev pub refusedAs : ℕ → Found
@@ -18,10 +17,10 @@ refusedAs refusal =
     record { refusal = refusal; entry = 0; instruction = instructionOf 0 0 noOperand 0; next = 0 }
 
 -- a reading, with the number that the table has for the opcode
-abbrev pub found : ℕ → Reading → Found
-found entry (Read instruction next) =
+abbrev pub found : ℕ → Answer → Found
+found entry (good instruction next) =
     record { refusal = 0; entry = entry; instruction = instruction; next = next }
-found entry (Refused refusal) = refusedAs refusal
+found entry (refused refusal) = refusedAs refusal
 
 -- what is found at a position after an opcode, by one of the readers of its form
 abbrev pub foundAfter : Opcode → (Form → ℕ → ℕ → Reader) → List ℕ → ℕ → Found
@@ -29,9 +28,9 @@ foundAfter opcode reader code at =
     found (opcode .entry) (reads (reader (formOf (opcode .form)) (opcode .first) (opcode .second)) at (drop at code))
 
 -- a reading, with the number that a table has for the instruction's second byte
-abbrev pub foundIn : List ℕ → Reading → Found
-foundIn table (Read instruction next) = found (getD table (instruction .second) 0) (Read instruction next)
-foundIn table (Refused refusal) = refusedAs refusal
+abbrev pub foundIn : List ℕ → Answer → Found
+foundIn table (good instruction next) = found (getD table (instruction .second) 0) (good instruction next)
+foundIn table (refused refusal) = refusedAs refusal
 
 -- reading at a position of a code by what the table says
 unfoldable pub findWith : List ℕ → List ℕ → ℕ → Found

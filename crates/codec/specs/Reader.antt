@@ -7,8 +7,7 @@ use lib.ListN.{length, take, drop}
 use Rattle.words.specs.Number.{number}
 use Rattle.codec.specs.Refusals.{codeEnds}
 use Rattle.codec.specs.declared.Instruction.{Instruction}
-use Rattle.codec.specs.declared.Reading.{Reading}
-use Rattle.codec.specs.declared.Reading.the-variants.{Read, Refused}
+use Rattle.codec.specs.Answers.{Answer, good, refused}
 
 pub data Reader : Type 0 where
   -- nothing: the instruction is whole
@@ -21,10 +20,10 @@ pub data Reader : Type 0 where
   field : ℕ → (ℕ → Reader) → Reader
 
 -- what a reader gives where `at` bytes have been read before and s is left: the instruction and how many bytes have been read then
-abbrev pub reads : Reader → ℕ → List ℕ → Reading
-reads (whole instruction) at s = Read instruction at
-reads (refuse refusal) at s = Refused refusal
-reads (byte next) at [] = Refused codeEnds
+abbrev pub reads : Reader → ℕ → List ℕ → Answer
+reads (whole instruction) at s = good instruction at
+reads (refuse refusal) at s = refused refusal
+reads (byte next) at [] = refused codeEnds
 reads (byte next) at (b ∷ s) = reads (next b) (at + 1) s
 reads (field k next) at s =
-    cond (leb k (length s)) (reads (next (number (take k s))) (at + k) (drop k s)) (Refused codeEnds)
+    cond (leb k (length s)) (reads (next (number (take k s))) (at + k) (drop k s)) (refused codeEnds)

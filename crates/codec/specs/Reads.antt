@@ -11,8 +11,7 @@ use Rattle.codec.specs.Operands.{upper, middle, lower, hasSib, displacem
 use Rattle.codec.specs.Reader.{Reader, whole, refuse, byte, field, reads}
 use Rattle.codec.specs.declared.Operand.{Operand}
 use Rattle.codec.specs.declared.Instruction.{Instruction}
-use Rattle.codec.specs.declared.Reading.{Reading}
-use Rattle.codec.specs.declared.Reading.the-variants.{Refused}
+use Rattle.codec.specs.Answers.{Answer, refused}
 
 abbrev pub instructionOf : ℕ → ℕ → Operand → ℕ → Instruction
 instructionOf first second operand immediate =
@@ -62,12 +61,12 @@ module _ (entry : ℕ → Entry) where
   instructionReader = byte (λ first. cond (eqb first escape) (secondReader first) (refuse (refusalOf first)))
 
 -- reading what is left of a code: the instruction and its length
-abbrev pub readPart : List ℕ → Reading
+abbrev pub readPart : List ℕ → Answer
 readPart s = reads (instructionReader entryOf) 0 s
 
 abbrev pub longestCode : ℕ
 longestCode = 4096
 
 -- reading at a position of a code
-unfoldable pub readAt : List ℕ → ℕ → Reading
-readAt code at = cond (ltb longestCode (length code)) (Refused codeTooLong) (readPart (drop at code))
+unfoldable pub readAt : List ℕ → ℕ → Answer
+readAt code at = cond (ltb longestCode (length code)) (refused codeTooLong) (readPart (drop at code))

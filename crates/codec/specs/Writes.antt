@@ -1,18 +1,17 @@
 -- The bytes of a record, and what the writer answers and leaves in its buffer.
-use Prim.Native.Nat.{ℕ}
+use Prim.Native.Nat.{ℕ, _+_}
 use mathlib.Core.List.{List, [], _∷_, _++_}
 use mathlib.Core.Bool.{cond}
 use lib.Dec.{leb}
 use lib.ListN.{length, drop}
 use Rattle.words.specs.Number.{bytes}
 use Rattle.codec.specs.Refusals.{noBytes, bufferEnds}
+use Rattle.codec.specs.Answers.{Written, wrote, refusedWith}
 use Rattle.codec.specs.Forms.{Form, hasOperand, immediateSize}
 use Rattle.codec.specs.Opcodes.{entryOf}
 use Rattle.codec.specs.Operands.{joined, hasSib, displacementSize}
 use Rattle.codec.specs.declared.Operand.{Operand}
 use Rattle.codec.specs.declared.Instruction.{Instruction}
-use Rattle.codec.specs.declared.Writing.{Writing}
-use Rattle.codec.specs.declared.Writing.the-variants.{Wrote, Refused}
 use Rattle.codec.specs.Fits.{hasBytes}
 
 -- the SIB byte, if there is one
@@ -30,6 +29,11 @@ unfoldable pub operandBytes : Operand → List ℕ
 operandBytes operand =
     joined (operand .mode) (operand .reg) (operand .rm) ∷ (sibBytes operand ++ displacementBytes operand)
 
+-- how many bytes that is
+abbrev pub operandSize : Operand → ℕ
+operandSize operand =
+    1 + length (sibBytes operand) + displacementSize (operand .mode) (operand .rm) (operand .base)
+
 -- the operand and the immediate, as the form has them
 unfoldable pub partsBytes : Form → Operand → ℕ → List ℕ
 partsBytes form operand immediate =
@@ -42,20 +46,12 @@ bytesOf instruction =
     ∷ instruction .second
     ∷ partsBytes (entryOf (instruction .second) .form) (instruction .operand) (instruction .immediate)
 
--- what the writer answers, and what is then in the buffer
-pub record Written : Type 0 where
-  pub answer : Writing
-  pub buffer : List ℕ
-
-abbrev pub written : Writing → List ℕ → Written
-written answer buffer = record { answer = answer; buffer = buffer }
-
 -- writing a record at the start of a buffer
 unfoldable pub writeTo : Instruction → List ℕ → Written
 writeTo instruction buffer =
     let size = length (bytesOf instruction) in
     cond (hasBytes instruction)
     (cond (leb size (length buffer))
-    (written (Wrote size) (bytesOf instruction ++ drop size buffer))
-    (written (Refused bufferEnds) buffer))
-    (written (Refused noBytes) buffer)
+    (wrote size (bytesOf instruction ++ drop size buffer))
+    (refusedWith bufferEnds buffer))
+    (refusedWith noBytes buffer)

@@ -1,8 +1,19 @@
 // Which parts an instruction has: the fields of its ModRM and SIB bytes, the sizes of its displacement and its immediate.
+use crate::numbers::BYTE_DISPLACEMENT;
+use crate::numbers::LEFT;
+use crate::numbers::LONG_DISPLACEMENT;
+use crate::numbers::NO_BASE;
+use crate::numbers::NO_DISPLACEMENT;
+use crate::numbers::REGISTER;
+use crate::numbers::RIGHT;
+use crate::numbers::RIGHT_SIGNED;
+use crate::numbers::SHIFT_Q;
+use crate::numbers::SHIFT_WD;
+use crate::numbers::SIB;
 ghost use mathlib.Core.Path.{_≡_};
 ghost use Rattle.codec.specs.Forms.{allows, immediateSize};
 ghost use Rattle.codec.specs.Packed.{formOf};
-ghost use Rattle.codec.specs.Operands.{hasSib, displacementSize};
+ghost use Rattle.codec.specs.Operands.{hasSib, displacementSize, Sized};
 
 // The places of the upper and the middle field of a ModRM or SIB byte, and how many values the lower two have.
 pub(crate) const UPPER: u8 = 64;
@@ -20,36 +31,6 @@ pub(crate) const NO_BYTE: usize = 0;
 pub(crate) const ONE_BYTE: usize = 1;
 
 const FOUR_BYTES: usize = 4;
-
-// The forms, by the numbers of the table; every greater number has an operand and no immediate.
-pub(crate) const ABSENT: u32 = 0;
-
-pub(crate) const EMMS: u32 = 1;
-
-const SHIFT_WD: u32 = 2;
-
-const SHIFT_Q: u32 = 3;
-
-// The values of mod.
-const NO_DISPLACEMENT: u8 = 0;
-
-const BYTE_DISPLACEMENT: u8 = 1;
-
-const LONG_DISPLACEMENT: u8 = 2;
-
-const REGISTER: u8 = 3;
-
-// The value of rm that asks for an SIB byte, and that of rm or base that names no base at mod 00.
-const SIB: u8 = 4;
-
-const NO_BASE: u8 = 5;
-
-// The digits of the shifts by an immediate.
-const RIGHT: u8 = 2;
-
-const RIGHT_SIGNED: u8 = 4;
-
-const LEFT: u8 = 6;
 
 // Whether a form may have a ModRM byte of these fields.
 pub(crate) fn allowed(form: u32, mode: u8, reg: u8, rm: u8) -> bool
@@ -78,7 +59,7 @@ pub(crate) fn allowed(form: u32, mode: u8, reg: u8, rm: u8) -> bool
 
 // How many immediate bytes a form has.
 pub(crate) fn immediate_size(form: u32) -> usize
-    ensures { λ r. ⌜ r ≡ immediateSize (formOf form) ⌝ }
+    ensures { λ r. ⌜ (r ≡ immediateSize (formOf form)) × Sized r ⌝ }
 {
     if SHIFT_Q < form {
         return NO_BYTE;
@@ -101,7 +82,7 @@ pub(crate) fn sib_follows(mode: u8, rm: u8) -> bool
 
 // How many bytes of displacement there are; without an SIB byte the base is 0.
 pub(crate) fn displacement_size(mode: u8, rm: u8, base: u8) -> usize
-    ensures { λ r. ⌜ r ≡ displacementSize mode rm base ⌝ }
+    ensures { λ r. ⌜ (r ≡ displacementSize mode rm base) × Sized r ⌝ }
 {
     if mode == BYTE_DISPLACEMENT {
         return ONE_BYTE;

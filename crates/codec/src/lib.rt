@@ -1,36 +1,24 @@
 // MMX instruction bytes to records and back: the records, the answers, and the table, the reader and the writer for other crates.
 ghost use mathlib.Core.Path.{_≡_};
+ghost use Rattle.codec.specs.Answers.{answerOf, written};
 ghost use Rattle.codec.specs.Packed.{packedRows};
 ghost use Rattle.codec.specs.Reads.{readAt};
 ghost use Rattle.codec.specs.Lent.{findWith};
-ghost use Rattle.codec.specs.Writes.{written, writeTo};
+ghost use Rattle.codec.specs.Writes.{writeTo};
 
 mod fields;
+pub mod numbers;
 mod opcodes;
 mod prefixes;
 mod reader;
 mod writer;
 
-// The refusals, by the paper's numbers.
-const CODE_TOO_LONG: u8 = 2;
-
-pub(crate) const CODE_ENDS: u8 = 3;
-
-pub(crate) const PREFIXED: u8 = 4;
-
-pub(crate) const NOT_LISTED: u8 = 5;
-
-pub(crate) const NOT_ALLOWED: u8 = 6;
-
-const NO_BYTES: u8 = 11;
-
-const BUFFER_ENDS: u8 = 12;
-
-// The first byte of every opcode.
-pub(crate) const ESCAPE: u8 = 0x0f;
-
-// The longest code, in bytes.
-const LONGEST_CODE: usize = 4096;
+use numbers::BUFFER_ENDS;
+use numbers::CODE_ENDS;
+use numbers::CODE_TOO_LONG;
+use numbers::ESCAPE;
+use numbers::LONGEST_CODE;
+use numbers::NO_BYTES;
 
 // The fields of the ModRM byte and of the SIB byte, and the displacement, as they stood; a field that is not there is 0.
 pub struct Operand {
@@ -95,7 +83,7 @@ pub fn read_from(table: &[u32; 256], code: &[u8], at: usize) -> Found
 
 // Reads the instruction at a position.
 pub fn read(code: &[u8], at: usize) -> Reading
-    ensures { λ r. ⌜ r ≡ readAt (now (code .entry)) at ⌝ }
+    ensures { λ r. ⌜ answerOf r ≡ readAt (now (code .entry)) at ⌝ }
 {
     if LONGEST_CODE < code.len() {
         return Reading::Refused(CODE_TOO_LONG);

@@ -1,11 +1,9 @@
 // The table of second bytes: form, operand size in bytes, lane width in bits and operation, of a byte each.
+use crate::numbers::FORM;
 ghost use mathlib.Core.Path.{_≡_};
 ghost use lib.ListN.{getD};
 ghost use Rattle.codec.specs.Opcodes.{entryOf};
 ghost use Rattle.codec.specs.Packed.{formOf};
-
-// An entry starts with its form, and this is the place of it.
-pub(crate) const FORM: u32 = 0x1000000;
 
 // The entry of a second byte, in a table that is lent.
 pub(crate) fn entry_in(table: &[u32; 256], second: u8) -> u32
@@ -22,7 +20,7 @@ pub(crate) fn form_for(second: u8) -> u32
 }
 
 // The entry of a byte that the table has not: it keeps its destination, and its form is 0.
-const NONE: u32 = 0x2d;
+const NONE: u32 = 0xff;
 
 pub(crate) const TABLE: [u32; 256] = [
     NONE,
@@ -138,21 +136,21 @@ pub(crate) const TABLE: [u32; 256] = [
     0x504200c,
     0x908400c,
     NONE,
-    0x208102d,
-    0x208202d,
-    0x308402d,
+    0x20810ff,
+    0x20820ff,
+    0x30840ff,
     0x808080d,
     0x808100e,
     0x808200f,
-    0x108402d,
+    0x10840ff,
     NONE,
     NONE,
     NONE,
     NONE,
     NONE,
     NONE,
-    0x404202d,
-    0x608402d,
+    0x40420ff,
+    0x60840ff,
     NONE,
     NONE,
     NONE,

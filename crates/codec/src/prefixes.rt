@@ -1,6 +1,6 @@
 // The first bytes that are refused: the prefixes by 4, every other by 5.
-use crate::NOT_LISTED;
-use crate::PREFIXED;
+use crate::numbers::NOT_LISTED;
+use crate::numbers::PREFIXED;
 ghost use mathlib.Core.Path.{_≡_};
 ghost use Rattle.codec.specs.Reads.{refusalOf};
 

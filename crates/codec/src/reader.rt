@@ -1,11 +1,14 @@
 // The reader: one function for each part of an instruction, from left to right, each handing on the position after it.
-use crate::CODE_ENDS;
 use crate::Found;
 use crate::Instruction;
-use crate::NOT_ALLOWED;
-use crate::NOT_LISTED;
 use crate::Operand;
 use crate::fields;
+use crate::numbers::ABSENT;
+use crate::numbers::CODE_ENDS;
+use crate::numbers::EMMS;
+use crate::numbers::FORM;
+use crate::numbers::NOT_ALLOWED;
+use crate::numbers::NOT_LISTED;
 use crate::opcodes;
 ghost use mathlib.Core.Path.{_≡_};
 ghost use Prim.Native.Nat.{_+_, _*_, _≤_};
@@ -179,17 +182,17 @@ pub(crate) fn second_at(table: &[u32; 256], code: &[u8], at: usize, first: u8) -
     }
     let second = code[at];
     let entry = opcodes::entry_in(table, second);
-    let form = entry / opcodes::FORM;
+    let form = entry / FORM;
     let opcode = Opcode {
         first: first,
         second: second,
         entry: entry,
         form: form,
     };
-    if form == fields::ABSENT {
+    if form == ABSENT {
         return refused(NOT_LISTED);
     }
-    if form == fields::EMMS {
+    if form == EMMS {
         return immediate_at(code, at + 1, opcode, NO_OPERAND);
     }
     modrm_at(code, at + 1, opcode)

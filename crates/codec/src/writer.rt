@@ -1,19 +1,21 @@
 // The writer: whether a record has bytes, how many, and one function for each part that puts them, from left to right.
-use crate::ESCAPE;
 use crate::Instruction;
 use crate::Operand;
 use crate::fields;
+use crate::numbers::ABSENT;
+use crate::numbers::EMMS;
+use crate::numbers::ESCAPE;
 ghost use mathlib.Core.Path.{_≡_};
 ghost use mathlib.Core.Bool.{true};
-ghost use Prim.Native.Nat.{_+_, _≤_, _<_};
+ghost use Prim.Native.Nat.{_+_, _≤_};
 ghost use lib.ListN.{length};
 ghost use lib.Seq.{sets};
 ghost use Rattle.words.specs.Number.{bytes};
 ghost use Rattle.codec.specs.Opcodes.{entryOf};
 ghost use Rattle.codec.specs.Packed.{formOf};
-ghost use Rattle.codec.specs.Operands.{joined, Sized};
+ghost use Rattle.codec.specs.Operands.{joined, Fields, Sized};
 ghost use Rattle.codec.specs.Fits.{fits, sibFits, operandFits, operandIsZero, partsFit, hasBytes};
-ghost use Rattle.codec.specs.Writes.{sibBytes, operandBytes, bytesOf};
+ghost use Rattle.codec.specs.Writes.{sibBytes, operandBytes, operandSize, bytesOf};
 
 // How many values mod and scale have.
 const UPPER_VALUES: u8 = 4;
@@ -121,10 +123,10 @@ fn operand_is_zero(operand: Operand) -> bool
 fn parts_fit(form: u32, operand: Operand, immediate: u32) -> bool
     ensures { λ r. ⌜ r ≡ partsFit (formOf form) operand immediate ⌝ }
 {
-    if form == fields::ABSENT {
+    if form == ABSENT {
         return false;
     }
-    if form == fields::EMMS {
+    if form == EMMS {
         if operand_is_zero(operand) {
             return immediate == 0;
         }
@@ -155,7 +157,7 @@ pub(crate) fn size_of(form: u32, instruction: Instruction) -> usize
     requires { ⌜ formOf form ≡ entryOf (instruction .second) .form ⌝ }
     ensures { λ r. ⌜ r ≡ length (bytesOf instruction) ⌝ }
 {
-    if form == fields::EMMS {
+    if form == EMMS {
         return OPCODE_SIZE;
     }
     let operand = instruction.operand;
@@ -170,7 +172,7 @@ pub(crate) fn size_of(form: u32, instruction: Instruction) -> usize
 
 // A byte of three fields.
 fn byte_of(high: u8, mid: u8, low: u8) -> u8
-    requires { ⌜ (high < 4) × ((mid < 8) × (low < 8)) ⌝ }
+    requires { ⌜ Fields high mid low ⌝ }
     ensures { λ r. ⌜ r ≡ joined high mid low ⌝ }
 {
     high * fields::UPPER + mid * fields::MIDDLE + low
@@ -211,8 +213,8 @@ fn put_sib(buffer: &mut [u8], at: usize, operand: Operand) -> usize
 
 // The ModRM byte, and what follows it of the operand. The position after it.
 fn put_operand(buffer: &mut [u8], at: usize, operand: Operand) -> usize
-    requires { ⌜ (at + length (operandBytes operand) ≤ length (now buffer)) × (operandFits operand ≡ true) ⌝ }
-    ensures { λ r. ⌜ (r ≡ at + length (operandBytes operand)) × (now (buffer .exit) ≡ sets (now (buffer .entry)) at (operandBytes operand)) ⌝ }
+    requires { ⌜ (at + operandSize operand ≤ length (now buffer)) × (operandFits operand ≡ true) ⌝ }
+    ensures { λ r. ⌜ (r ≡ at + operandSize operand) × (now (buffer .exit) ≡ sets (now (buffer .entry)) at (operandBytes operand)) ⌝ }
 {
     buffer[at] = byte_of(operand.mode, operand.reg, operand.rm);
     let next = put_sib(buffer, at + 1, operand);
@@ -228,7 +230,7 @@ pub(crate) fn put(buffer: &mut [u8], form: u32, instruction: Instruction)
 {
     buffer[0] = instruction.first;
     buffer[1] = instruction.second;
-    if form == fields::EMMS {
+    if form == EMMS {
         return;
     }
     let operand = instruction.operand;

@@ -3,6 +3,8 @@ use codec::Instruction;
 use codec::Operand;
 use codec::Reading;
 use codec::Writing;
+use codec::numbers::REGISTER;
+use codec::numbers::SIB;
 use libc::STDOUT_FILENO;
 use std::num::wrapping_add_u64;
 
@@ -17,18 +19,14 @@ const ESCAPE: u8 = 0x0f;
 
 const EMMS: u8 = 0x77;
 
-// The ModRM bytes from here on have mod 11, and below it this rm asks for an SIB byte.
+// The ModRM bytes from here on have mod 11.
 const REGISTERS: u8 = 0xc0;
-
-const SIB: u8 = 4;
 
 // Where the SIB byte stands.
 const SIB_AT: usize = 3;
 
-// A second byte with the usual operands, and mod 11.
+// A second byte with the usual operands.
 const PADDB: u8 = 0xfc;
-
-const REGISTER: u8 = 3;
 
 // What was tried so far.
 struct Tally {

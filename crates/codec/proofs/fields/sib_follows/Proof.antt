@@ -4,13 +4,10 @@ use Rattle.codec.proofs.Tests.{tests}
 use Rattle.codec.proofs.fields.sib_follows.Statement.{statement}
 use Rattle.codec.proofs.fields.sib_follows.Tie as tie
 
-returns : tie.Need-returns
-unfolding hasSib
-returns c = search tests
-
-returns-2 : tie.Need-returns-2
-unfolding hasSib
-returns-2 c = search tests
-
 pub sib-follows-spec : {M : Type 1} → statement M
-sib-follows-spec = tie.close (tie.spec returns returns-2)
+unfolding hasSib
+sib-follows-spec =
+    tie.close
+    (tie.spec
+    (λ c. search tests)
+    (λ c. search tests))

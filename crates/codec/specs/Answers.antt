@@ -1,0 +1,32 @@
+-- What reading and writing come to, in document 01's numbers, and what each case of the code's answers says of it.
+use Prim.Native.Nat.{ℕ}
+use mathlib.Core.List.{List}
+use Rattle.codec.specs.declared.Instruction.{Instruction}
+use Rattle.codec.specs.declared.Reading.{Reading}
+use Rattle.codec.specs.declared.Reading.the-variants as reading
+use Rattle.codec.specs.declared.Writing.{Writing}
+use Rattle.codec.specs.declared.Writing.the-variants as writing
+
+-- what reading comes to
+pub data Answer : Type 0 where
+  -- the instruction, and how many bytes have been read
+  good : Instruction → ℕ → Answer
+  -- the refusal's number
+  refused : ℕ → Answer
+
+-- the paper's answer for each case of the reader's
+abbrev pub answerOf : Reading → Answer
+answerOf (reading.Read instruction size) = good instruction size
+answerOf (reading.Refused refusal) = refused refusal
+
+-- what writing comes to, with what is then in the buffer
+pub data Written : Type 0 where
+  -- the instruction's length
+  wrote : ℕ → List ℕ → Written
+  -- the refusal's number
+  refusedWith : ℕ → List ℕ → Written
+
+-- the paper's answer for each case of the writer's
+abbrev pub written : Writing → List ℕ → Written
+written (writing.Wrote size) buffer = wrote size buffer
+written (writing.Refused refusal) buffer = refusedWith refusal buffer

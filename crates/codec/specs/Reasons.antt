@@ -1,0 +1,56 @@
+-- When each refusal of reading is due, in document 01's words, of what is left of a code from the position on.
+use Prim.Native.Nat.{ℕ, _≤_, _<_}
+use mathlib.Core.Path.{_≡_}
+use mathlib.Core.Logic.{_⊎_}
+use mathlib.Core.Bool.{true, false}
+use mathlib.Core.List.{List, [], _∷_, _++_}
+use lib.Dec.{eqb}
+use lib.ListN.{length, drop}
+use Rattle.codec.specs.Refusals.{codeTooLong, codeEnds, prefixed, notListed, notAllowed}
+use Rattle.codec.specs.Forms.{isAmong, isAbsent, allows}
+use Rattle.codec.specs.Opcodes.{entryOf, escape, prefixes}
+use Rattle.codec.specs.Operands.{upper, middle, lower}
+use Rattle.codec.specs.Answers.{good}
+use Rattle.codec.specs.Reads.{readPart, longestCode}
+use Rattle.codec.specs.declared.Instruction.{Instruction}
+
+-- it starts with these bytes
+abbrev pub Starts : List ℕ → List ℕ → Type 0
+Starts front s = (rest : List ℕ) × (s ≡ front ++ rest)
+
+-- 3: the code ends inside the instruction: some bytes more, and an instruction that is longer than what is left stands there
+pub record EndsInside (s : List ℕ) : Type 0 where
+  pub more : List ℕ
+  pub instruction : Instruction
+  pub size : ℕ
+  pub found : readPart (s ++ more) ≡ good instruction size
+  pub longer : length s < size
+
+-- 4: the first byte is a prefix
+abbrev pub StartsPrefixed : List ℕ → Type 0
+StartsPrefixed s = (first : ℕ) × Starts (first ∷ []) s × (isAmong first prefixes ≡ true)
+
+-- 5: another first byte than 0F, or a second byte that is not in the table
+abbrev pub StartsOther : List ℕ → Type 0
+StartsOther s = (first : ℕ) × Starts (first ∷ []) s × (eqb first escape ≡ false) × (isAmong first prefixes ≡ false)
+
+abbrev pub StartsUnlisted : List ℕ → Type 0
+StartsUnlisted s = (second : ℕ) × Starts (escape ∷ second ∷ []) s × (isAbsent (entryOf second .form) ≡ true)
+
+-- 6: a ModRM byte that the form does not allow
+abbrev pub StartsNotAllowed : List ℕ → Type 0
+StartsNotAllowed s =
+    (second modrm : ℕ) × Starts (escape ∷ second ∷ modrm ∷ []) s
+    × (allows (entryOf second .form) (upper modrm) (middle modrm) (lower modrm) ≡ false)
+
+-- the reason for a refusal's number
+pub data Reason : List ℕ → ℕ → Type 0 where
+  three : {s : List ℕ} → EndsInside s → Reason s codeEnds
+  four : {s : List ℕ} → StartsPrefixed s → Reason s prefixed
+  five : {s : List ℕ} → StartsOther s ⊎ StartsUnlisted s → Reason s notListed
+  six : {s : List ℕ} → StartsNotAllowed s → Reason s notAllowed
+
+-- the reason for a number at a position: 2 before all others
+pub data ReasonAt : List ℕ → ℕ → ℕ → Type 0 where
+  two : {code : List ℕ} {at : ℕ} → longestCode < length code → ReasonAt code at codeTooLong
+  left : {code : List ℕ} {at n : ℕ} → length code ≤ longestCode → Reason (drop at code) n → ReasonAt code at n
