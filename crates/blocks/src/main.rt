@@ -8,9 +8,9 @@ use machine::Machine;
 const BUDGET: u32 = 4096;
 
 // One byte more than a code and a memory may have.
-const TOO_LONG_CODE: usize = 4097;
+const TOO_LONG_CODE: usize = codec::numbers::LONGEST_CODE + 1;
 
-const TOO_LONG_MEMORY: usize = 32769;
+const TOO_LONG_MEMORY: usize = machine::numbers::LONGEST_MEMORY + 1;
 
 // Where nothing is said: MM0, and an address in EAX.
 const FIRST: u64 = 0xff;

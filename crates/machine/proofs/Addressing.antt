@@ -11,7 +11,7 @@ use lib.Dec.{eqb}
 use lib.ListN.{getD}
 use Rattle.codec.specs.Operands.{hasSib}
 use Rattle.codec.specs.declared.Operand.{Operand}
-use Rattle.machine.specs.Addresses.{displacementOf, baseOf, indexOf, addressOf, registerPart, address}
+use Rattle.manual.specs.Addresses.{displacementOf, baseOf, indexOf, addressOf, registerPart, address}
 
 -- the displacement
 module _ (mode displacement : ℕ) where

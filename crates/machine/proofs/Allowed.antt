@@ -8,6 +8,8 @@ use borrow.Fn.Kinds.{Dens, resT, endedOf}
 use denote.Triple.Clauses.{AtExit}
 use denote.Ref.{now}
 use Rattle.reorder.specs.Run.{Answer, finished, spent, stopped}
+use Rattle.manual.specs.State.{State}
+use Rattle.manual.specs.Steps.{Outcome, completed, refusedWith}
 use Rattle.machine.specs.declared.Machine.{Machine}
 use Rattle.machine.specs.declared.Taken.{Taken}
 use Rattle.machine.specs.declared.Taken.the-variants as taken
@@ -15,8 +17,8 @@ use Rattle.machine.specs.declared.Stepped.{Stepped}
 use Rattle.machine.specs.declared.End.{End}
 use Rattle.machine.specs.declared.End.the-variants as end
 use Rattle.machine.specs.declared.Ran.{Ran}
-use Rattle.machine.specs.State.{State, stateOf}
-use Rattle.machine.specs.Steps.{Outcome, completed, refusedWith, outcomeOf, outcome}
+use Rattle.machine.specs.State.{stateOf}
+use Rattle.machine.specs.Steps.{outcomeOf, outcome}
 use Rattle.machine.specs.Runs.{answerOf, answered}
 use Rattle.machine.proofs.Machine.step.Reads as step-reads
 use Rattle.machine.proofs.Machine.step.Kinds as step-kinds
@@ -39,9 +41,12 @@ record After (A : Type 0) : Type 0 where
   answer : A
   memory : List ℕ
 
+abbrev machineIn : State → Machine
+machineIn s = record { mmx = s .mmx; integers = s .integers; valid = s .valid; em = s .em; ts = s .ts; pending = s .pending }
+
 stepBack : Outcome → After Stepped
-stepBack (completed at s) = record { answer = record { answer = taken.Completed; machine = s .machine; at = at }; memory = s .memory }
-stepBack (refusedWith n at s) = record { answer = record { answer = taken.Refused n; machine = s .machine; at = at }; memory = s .memory }
+stepBack (completed at s) = record { answer = record { answer = taken.Completed; machine = machineIn s; at = at }; memory = s .memory }
+stepBack (refusedWith n at s) = record { answer = record { answer = taken.Refused n; machine = machineIn s; at = at }; memory = s .memory }
 
 step-back : (a : Taken) (at : ℕ) (k : Machine) (m : List ℕ)
     → stepBack (outcomeOf a at (stateOf k m)) ≡ record { answer = record { answer = a; machine = k; at = at }; memory = m }
@@ -59,9 +64,9 @@ step-one κs a r₁ r₂ s₁ s₂ p q =
     (ap (λ (x : After Stepped). x .answer) b, ap (λ (x : After Stepped). x .memory) b)
 
 runBack : Answer State → After Ran
-runBack (finished at count s) = record { answer = record { end = end.Done; at = at; count = count; machine = s .machine }; memory = s .memory }
-runBack (spent at count s) = record { answer = record { end = end.Spent; at = at; count = count; machine = s .machine }; memory = s .memory }
-runBack (stopped n at count s) = record { answer = record { end = end.Refused n; at = at; count = count; machine = s .machine }; memory = s .memory }
+runBack (finished at count s) = record { answer = record { end = end.Done; at = at; count = count; machine = machineIn s }; memory = s .memory }
+runBack (spent at count s) = record { answer = record { end = end.Spent; at = at; count = count; machine = machineIn s }; memory = s .memory }
+runBack (stopped n at count s) = record { answer = record { end = end.Refused n; at = at; count = count; machine = machineIn s }; memory = s .memory }
 
 run-back : (e : End) (at count : ℕ) (k : Machine) (m : List ℕ)
     → runBack (answerOf e at count (stateOf k m)) ≡ record { answer = record { end = e; at = at; count = count; machine = k }; memory = m }

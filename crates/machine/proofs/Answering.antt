@@ -5,13 +5,17 @@ use Prim.Native.Nat.{ℕ, _≤_, _<_}
 use borrow.Author.Needs.{needs}
 use borrow.Author.Tests.{eq-eqb, ne-eqb, le-ltb, lt-ltb}
 use lib.ListN.{length}
-use Rattle.codec.specs.Reads.{readAt}
+use Rattle.codec.specs.Refusals.{codeTooLong}
+use Rattle.codec.specs.Reads.{longestCode, readAt}
+use Rattle.manual.specs.Refusals.{memoryTooLong}
+use Rattle.manual.specs.State.{longestMemory}
+use Rattle.manual.specs.Steps.{instructionAt, stepAt}
 use Rattle.machine.specs.declared.Taken.the-variants.{Completed, Refused}
 use Rattle.machine.specs.declared.Machine.{Machine}
 use Rattle.machine.specs.declared.gathering.Marks.{Marks}
 use Rattle.machine.specs.declared.stepping.Moved.{Moved}
 use Rattle.machine.specs.State.{stateOf}
-use Rattle.machine.specs.Steps.{instructionAt, stepAt, outcome}
+use Rattle.machine.specs.Steps.{outcome}
 use Rattle.machine.specs.Works.{machineOf, renewedWith, endedAs}
 
 abbrev marksOf : Machine → ℕ → Marks
@@ -19,13 +23,13 @@ marksOf k bar = record { valid = k .valid; em = k .em; ts = k .ts; pending = k .
 
 -- the tests of the limits
 module _ (code : List ℕ) (at : ℕ) (k : Machine) (m : List ℕ) where
-  pub step-memory : 32768 < length m → outcome (record { answer = Refused 1; machine = k; at = at }) m ≡ stepAt code at (stateOf k m)
+  pub step-memory : longestMemory < length m → outcome (record { answer = Refused memoryTooLong; machine = k; at = at }) m ≡ stepAt code at (stateOf k m)
   unfolding stepAt instructionAt
-  step-memory h = simp (lt-ltb 32768 (length m) h)
+  step-memory h = simp (lt-ltb longestMemory (length m) h)
 
-  pub step-code : length m ≤ 32768 → 4096 < length code → outcome (record { answer = Refused 2; machine = k; at = at }) m ≡ stepAt code at (stateOf k m)
+  pub step-code : length m ≤ longestMemory → longestCode < length code → outcome (record { answer = Refused codeTooLong; machine = k; at = at }) m ≡ stepAt code at (stateOf k m)
   unfolding stepAt instructionAt readAt
-  step-code h g = simp (le-ltb 32768 (length m) h, lt-ltb 4096 (length code) g)
+  step-code h g = simp (le-ltb longestMemory (length m) h, lt-ltb longestCode (length code) g)
 
   -- how the step over its registers ended
   module _ (moved : Moved) (registers integers m′ : List ℕ) (marks : Marks)

@@ -1,6 +1,6 @@
 -- The run as the code's loop takes it: what is left of the run after each turn is the whole run, since a turn is a step at its position.
 use mathlib.Core.Path.{_≡_, refl, sym, ap, _∙_}
-use mathlib.Core.Bool.{Bool, true, false}
+use mathlib.Core.Bool.{Bool, true, false, false≢true}
 use mathlib.Core.List.{List}
 use Prim.Native.Nat.{ℕ, zero, suc, _+_, _-_, _≤_, _<_}
 use native.Mathlib.Nat.{sub-zero}
@@ -12,21 +12,24 @@ use lib.Dec.{eqb}
 use lib.ListN.{length, drop, length-drop}
 use Rattle.reorder.specs.Result.{Result, done, refused, caseOf}
 use Rattle.reorder.specs.Run.{Answer, finished, spent, stopped, runFrom}
-use Rattle.reorder.proofs.Never.{never}
-use Rattle.codec.specs.Reads.{readPart}
-use Rattle.codec.specs.declared.Reading.{Reading as Found}
-use Rattle.codec.specs.declared.Reading.the-variants as found
+use Rattle.codec.specs.Reads.{longestCode, readPart}
+use Rattle.codec.specs.Refusals.{codeTooLong}
+use Rattle.codec.specs.Answers.{Answer as Found}
+use Rattle.codec.specs.Answers as found
 use Rattle.codec.proofs.Theorems.{reading-is-local}
+use Rattle.manual.specs.Refusals.{memoryTooLong}
+use Rattle.manual.specs.State.{State, longestMemory}
+use Rattle.manual.specs.Instructions.{execute}
+use Rattle.manual.specs.Steps.{concluded, completed, refusedWith, resultOf, stepAt}
+use Rattle.manual.specs.Runs.{read, runOf}
+use Rattle.manual.proofs.Turns.{onward, turn, instruction-here}
 use Rattle.machine.specs.declared.End.the-variants.{Done, Spent, Refused}
 use Rattle.machine.specs.declared.Machine.{Machine}
 use Rattle.machine.specs.declared.gathering.Marks.{Marks}
 use Rattle.machine.specs.declared.stepping.Moved.{Moved}
-use Rattle.machine.specs.State.{State, stateOf}
-use Rattle.machine.specs.Instructions.{execute}
-use Rattle.machine.specs.Steps.{concluded, completed, refusedWith, resultOf, stepAt}
-use Rattle.machine.specs.Runs.{read, runOf, answered}
+use Rattle.machine.specs.State.{stateOf}
+use Rattle.machine.specs.Runs.{answered}
 use Rattle.machine.specs.Works.{machineOf, renewedWith, endedAs}
-use Rattle.machine.proofs.Turns.{onward, turn, instruction-here}
 
 -- a run from a position on, with what is left of its budget
 unfoldable pub remaining : ℕ → List ℕ → ℕ → ℕ → State → Answer State
@@ -34,37 +37,37 @@ remaining left code at count s = runFrom read execute left code at count s
 
 -- the start
 module _ (code : List ℕ) (budget : ℕ) (k : Machine) (m : List ℕ) where
-  pub run-memory : 32768 < length m → answered (record { end = Refused 1; at = 0; count = 0; machine = k }) m ≡ runOf code budget (stateOf k m)
+  pub run-memory : longestMemory < length m → answered (record { end = Refused memoryTooLong; at = 0; count = 0; machine = k }) m ≡ runOf code budget (stateOf k m)
   unfolding runOf
-  run-memory h = simp (lt-ltb 32768 (length m) h)
+  run-memory h = simp (lt-ltb longestMemory (length m) h)
 
-  pub run-code : length m ≤ 32768 → 4096 < length code → answered (record { end = Refused 2; at = 0; count = 0; machine = k }) m ≡ runOf code budget (stateOf k m)
+  pub run-code : length m ≤ longestMemory → longestCode < length code → answered (record { end = Refused codeTooLong; at = 0; count = 0; machine = k }) m ≡ runOf code budget (stateOf k m)
   unfolding runOf
-  run-code h g = simp (le-ltb 32768 (length m) h, lt-ltb 4096 (length code) g)
+  run-code h g = simp (le-ltb longestMemory (length m) h, lt-ltb longestCode (length code) g)
 
-  pub run-starts : length m ≤ 32768 → length code ≤ 4096 → remaining (budget - 0) code 0 0 (stateOf k m) ≡ runOf code budget (stateOf k m)
+  pub run-starts : length m ≤ longestMemory → length code ≤ longestCode → remaining (budget - 0) code 0 0 (stateOf k m) ≡ runOf code budget (stateOf k m)
   unfolding runOf remaining
-  run-starts h g = simp (le-ltb 32768 (length m) h, le-ltb 4096 (length code) g, sub-zero)
+  run-starts h g = simp (le-ltb longestMemory (length m) h, le-ltb longestCode (length code) g, sub-zero)
 
 -- a completed step leaves a position of the code
-module _ (code : List ℕ) (at : ℕ) (s : State) (memory-fits : length (s .memory) ≤ 32768) (code-fits : length code ≤ 4096) where
+module _ (code : List ℕ) (at : ℕ) (s : State) (memory-fits : length (s .memory) ≤ longestMemory) (code-fits : length code ≤ longestCode) where
   within : (next : ℕ) (t : State) → stepAt code at s ≡ completed next t → next ≤ length code
   unfolding stepAt read
   within next t e =
       reading (readPart (drop at code)) refl
-      (simp (instruction-here code at s (le-ltb 32768 (length (s .memory)) memory-fits) (le-ltb 4096 (length code) code-fits)) at e)
+      (simp (instruction-here code at s (le-ltb longestMemory (length (s .memory)) memory-fits) (le-ltb longestCode (length code) code-fits)) at e)
     where
       executing : (n : ℕ) (o : Result State) → n ≤ length (drop at code) → 0 < n
           → concluded at (at + n) s o ≡ completed next t → next ≤ length code
-      executing n (refused r) h g z = never (cc)
+      executing n (refused r) h g z = absurd (false≢true (cc))
       executing n (done u) h g z = let same : at + n ≡ next = cc in omega (arith, length-drop at code)
 
       reading : (z : Found) → readPart (drop at code) ≡ z
           → caseOf (resultOf z) (λ r. refusedWith r at s) (λ r. concluded at (at + r .size) s (execute (r .instruction) s)) ≡ completed next t
           → next ≤ length code
-      reading (found.Read i n) r z =
+      reading (found.good i n) r z =
           let l = reading-is-local (drop at code) i n r in executing n (execute i s) (l .within) (l .some) z
-      reading (found.Refused n) r z = never (cc)
+      reading (found.refused n) r z = absurd (false≢true (cc))
 
 -- a run that comes to R, at a turn with what is left of its budget
 module _ (code : List ℕ) (at count budget : ℕ) (R : Answer State) where
@@ -90,8 +93,8 @@ module _ (code : List ℕ) (at count budget : ℕ) (R : Answer State) where
 
   -- a step over lent registers
   module _ (k : Machine) (registers integers m : List ℕ) (valid : Bool) (run : remaining (budget - count) code at count (stateOf (renewedWith k registers integers valid) m) ≡ R)
-      (here : at < length code) (counted : count ≤ budget) (unspent : count ≡ budget → ⊥) (code-fits : length code ≤ 4096)
-      (m₀ : List ℕ) (kept : length m ≡ length m₀) (memory-fits : length m₀ ≤ 32768)
+      (here : at < length code) (counted : count ≤ budget) (unspent : count ≡ budget → ⊥) (code-fits : length code ≤ longestCode)
+      (m₀ : List ℕ) (kept : length m ≡ length m₀) (memory-fits : length m₀ ≤ longestMemory)
       (moved : Moved) (registers′ integers′ m′ : List ℕ) (marks : Marks) (own : marks ≡ record { valid = valid; em = k .em; ts = k .ts; pending = k .pending; bar = marks .bar })
       (ended : endedAs moved registers′ integers′ marks m′ ≡ stepAt code at (stateOf (machineOf registers integers marks) m)) where
     abbrev s : State
@@ -104,8 +107,8 @@ module _ (code : List ℕ) (at count budget : ℕ) (R : Answer State) where
     unfolding remaining
     turned =
         let one : budget - count ≡ suc (budget - (count + 1)) = omega arith in
-        let fits : length m ≤ 32768 = omega arith in
-        sym (turn code at s (le-ltb 32768 (length m) fits) (le-ltb 4096 (length code) code-fits) (budget - (count + 1)) count (ne-eqb at (length code) (λ z. omega arith)))
+        let fits : length m ≤ longestMemory = omega arith in
+        sym (turn code at s (le-ltb longestMemory (length m) fits) (le-ltb longestCode (length code) code-fits) (budget - (count + 1)) count (ne-eqb at (length code) (λ z. omega arith)))
         ∙ (simp one at run)
 
     completes : moved .refusal ≡ 0 → completed (moved .next) t ≡ stepAt code at s
@@ -114,7 +117,7 @@ module _ (code : List ℕ) (at count budget : ℕ) (R : Answer State) where
 
     pub run-within : moved .refusal ≡ 0 → moved .next ≤ length code
     run-within e =
-        let fits : length m ≤ 32768 = omega arith in
+        let fits : length m ≤ longestMemory = omega arith in
         within code at s fits code-fits (moved .next) t (sym (completes e))
 
     pub run-on : moved .refusal ≡ 0 → remaining (budget - (count + 1)) code (moved .next) (count + 1) t ≡ R

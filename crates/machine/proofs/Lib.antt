@@ -1,40 +1,26 @@
--- The laws: the machine obeys the laws of places, reading is local, and so demand 3; a run is its steps; what refusals keep; what a footprint says;
--- masks, ranges and meeting; the manual's headings; examples that the definitions compute; and the rules by which the code meets its contracts.
-pub mod Lists
-pub mod Laws
-pub mod Locality
-pub mod Demand3
-pub mod Turns
-pub mod Refusals
-pub mod Uses
+-- The laws of the code: footprints as masks and ranges say what the places say, and so demand 3 goes by the program's test; a contract allows one
+-- answer; and the rules by which the code meets its contracts.
 pub mod Masks
 pub mod Ranges
 pub mod Printing
 pub mod Meeting
 pub mod Tested
-pub mod Headings
-pub mod Plates
-pub mod Edges
-pub mod FootprintTable
-pub mod Example
-pub mod Computed
+pub mod Pairs
+pub mod Allowed
 pub mod Addressing
-pub mod Direct
+pub mod Shifting
+pub mod Testing
+pub mod Numbering
+pub mod Soundness
 pub mod Listing
 pub mod Sorting
 pub mod Fetching
 pub mod Advancing
 pub mod Answering
 pub mod Budgets
-pub mod Allowed
-pub mod Shifting
-pub mod Testing
-pub mod Numbering
-pub mod Soundness
-pub mod MeetRules
 pub mod PrintMasks
-pub mod PrintEntries
 pub mod PrintReaching
 pub mod PrintShaping
 pub mod PrintForms
 pub mod PrintTests
+pub mod MeetRules

@@ -1,61 +1,34 @@
--- What is read has an entry of the table: its form is present, as an absent one is refused, and each row keeps what `Listed` says.
+-- What is read has an entry of the table: its form is present, as an absent one is refused, and each row keeps what `Listed` says. Rules for what
+-- the code looks up.
 use mathlib.Core.Path.{_≡_, refl, sym, ap, subst, _∙_}
 use mathlib.Core.Bool.{Bool, true, false, cond, _&&_, false≢true}
 use mathlib.Core.List.{List, [], _∷_}
 use Prim.Native.Nat.{ℕ, _≤_, _<_}
 use native.Mathlib.Omega.{arith}
+use borrow.Author.Needs.{needs}
 use borrow.Author.Tests.{ltb-true, leb-true, eqb-true}
 use lib.Dec.{eqb, ltb, leb}
-use Rattle.lanes.specs.Operations.{Operation, operationOf, MOVE}
-use Rattle.codec.specs.Forms.{Form, absent, emms, shiftWD, shiftQ, storeD, loadD, storeQ, loadQ, usual, isAbsent, isAmong, hasOperand}
-use Rattle.codec.specs.Opcodes.{Entry, Row, row, rows, find, entryOf, escape, prefixes}
-use Rattle.codec.specs.Packed.{numbered, packedRows, entryIn}
-use Rattle.codec.specs.Operands.{noOperand}
-use Rattle.codec.specs.Reader.{refuse}
-use Rattle.codec.specs.Reads.{formReader, modrmReader, immediateReader, secondReader, instructionReader, refusalOf, readPart}
-use Rattle.codec.specs.Refusals.{prefixed, notListed}
+use lib.ListN.{length, getD, drop}
+use Rattle.lanes.specs.Operations.{Operation, operationOf, numbered, MOVE}
+use Rattle.codec.specs.Answers.{Answer, good, refused, answerOf}
+use Rattle.codec.specs.Forms.{Form, absent, emms, shiftWD, shiftQ, storeD, loadD, storeQ, loadQ, usual, isAbsent}
+use Rattle.codec.specs.Opcodes.{Entry, Row, row, rows, find, entryOf}
+use Rattle.codec.specs.Packed.{packedRows, unpacked, entryIn}
+use Rattle.codec.specs.Reads.{readPart, longestCode, readAt}
+use Rattle.codec.specs.Refusals.{codeTooLong}
 use Rattle.codec.specs.declared.Instruction.{Instruction}
+use Rattle.codec.specs.declared.Reading.{Reading}
 use Rattle.codec.specs.declared.Reading.the-variants.{Read}
-use Rattle.codec.proofs.Tests.{and-both}
-use Rattle.codec.proofs.Readers.{Every, Holds, every, every-cond, every-map}
-use Rattle.codec.proofs.Given.{Given, Refusal, no-registers, immediate-gives, modrm-gives}
+use Rattle.words.proofs.Laws.{and-both}
+use Rattle.codec.proofs.Readers.{Holds}
+use Rattle.codec.proofs.Given.{Registers, Known, Refusal, reads-known}
 use Rattle.codec.proofs.Entries.{entry-is}
 use Rattle.machine.specs.Works.{Listed}
-
--- an instruction whose form is there
-abbrev Present : Instruction → Type 0
-Present i = isAbsent (entryOf (i .second) .form) ≡ false
-
-first-refuses : (first : ℕ) → Refusal (refusalOf first)
-unfolding refusalOf
-first-refuses first = by (isAmong first prefixes)
-  where
-    by : (t : Bool) → Refusal (cond t prefixed notListed)
-    by true = omega arith
-    by false = omega arith
-
-form-present : (first second : ℕ) (form : Form) (t : Bool) → isAbsent form ≡ t → entryOf second .form ≡ form
-    → Every Present Refusal (cond t (refuse notListed) (cond (hasOperand form) (modrmReader form first second) (immediateReader form first second noOperand)))
-form-present first second form true e f = omega arith
-form-present first second form false e f =
-    every-map (Given second) Present Refusal (λ i g. ap (λ (k : ℕ). isAbsent (entryOf k .form)) (g .kept) ∙ ap isAbsent f ∙ e)
-    (cond (hasOperand form) (modrmReader form first second) (immediateReader form first second noOperand))
-    (every-cond (Given second) Refusal (hasOperand form) (modrmReader form first second) (immediateReader form first second noOperand)
-    (modrm-gives form first second) (immediate-gives form first second noOperand no-registers))
-
-reads-present : (s : List ℕ) → Holds Present Refusal (readPart s)
-unfolding instructionReader secondReader formReader
-reads-present s =
-    every Present Refusal (instructionReader entryOf) (
-      omega arith,
-      λ first. every-cond Present Refusal (eqb first escape) _ _
-          (omega arith, λ second. form-present first second (entryOf second .form) (isAbsent (entryOf second .form)) refl refl)
-          (first-refuses first),
-    ) 0 s
 
 -- what the table keeps of a second byte
 record Kept (second : ℕ) (e : Entry) : Type 0 where
   byte : isAbsent (e .form) ≡ false → second < 256
+  sized : isAbsent (e .form) ≡ false → 0 < e .size
   small : e .size ≤ 8
   moves-D : e .form ≡ loadD → e .operation ≡ MOVE
   moves-Q : e .form ≡ loadQ → e .operation ≡ MOVE
@@ -74,23 +47,25 @@ movesIf usual operation = true
 
 abbrev rowsKeep : List Row → Bool
 rowsKeep [] = true
-rowsKeep (row second operation lane size form ∷ rest) = (ltb second 256 && (leb size 8 && movesIf form operation)) && rowsKeep rest
+rowsKeep (row second operation lane size form ∷ rest) = (ltb second 256 && (ltb 0 size && (leb size 8 && movesIf form operation))) && rowsKeep rest
 
 move-is : (operation : Operation) → eqb (numbered operation .0) 12 ≡ true → operation ≡ MOVE
 move-is operation h = sym (numbered operation .1) ∙ ap operationOf (eqb-true (numbered operation .0) 12 h)
 
 find-keeps : (second : ℕ) (rs : List Row) → rowsKeep rs ≡ true → Kept second (find second rs)
 find-keeps second [] h =
-    record { byte = λ e. absurd (false≢true (sym e)); small = omega arith; moves-D = λ e. absurd (let z : _≡_ {A = ℕ} 0 1 = cc in omega arith); moves-Q = λ e. absurd (let z : _≡_ {A = ℕ} 0 1 = cc in omega arith) }
+    record { byte = λ e. absurd (false≢true (cc)); sized = λ e. absurd (false≢true (cc)); small = omega arith; moves-D = λ e. absurd (false≢true (cc)); moves-Q = λ e. absurd (false≢true (cc)) }
 find-keeps second (row byte operation lane size form ∷ rest) h =
-    let a = and-both (ltb byte 256 && (leb size 8 && movesIf form operation)) (rowsKeep rest) h in
-    let c = and-both (ltb byte 256) (leb size 8 && movesIf form operation) (a .0) in
-    let b = and-both (leb size 8) (movesIf form operation) (c .1) in
+    let a = and-both (ltb byte 256 && (ltb 0 size && (leb size 8 && movesIf form operation))) (rowsKeep rest) h in
+    let b = and-both (ltb byte 256) (ltb 0 size && (leb size 8 && movesIf form operation)) (a .0) in
+    let c = and-both (ltb 0 size) (leb size 8 && movesIf form operation) (b .1) in
+    let d = and-both (leb size 8) (movesIf form operation) (c .1) in
     by (eqb second byte) refl (find-keeps second rest (a .1)) (λ same. record {
-      byte = λ e. omega (arith, ltb-true byte 256 (c .0), eqb-true second byte same);
-      small = leb-true size 8 (b .0);
-      moves-D = λ e. move-is operation (subst (λ (f : Form). movesIf f operation ≡ true) e (b .1));
-      moves-Q = λ e. move-is operation (subst (λ (f : Form). movesIf f operation ≡ true) e (b .1));
+      byte = λ e. omega (arith, ltb-true byte 256 (b .0), eqb-true second byte same);
+      sized = λ e. ltb-true 0 size (c .0);
+      small = leb-true size 8 (d .0);
+      moves-D = λ e. move-is operation (subst (λ (f : Form). movesIf f operation ≡ true) e (d .1));
+      moves-Q = λ e. move-is operation (subst (λ (f : Form). movesIf f operation ≡ true) e (d .1));
     })
   where
     by : (t : Bool) → eqb second byte ≡ t → Kept second (find second rest)
@@ -99,19 +74,50 @@ find-keeps second (row byte operation lane size form ∷ rest) h =
     by true e k m = m e
     by false e k m = k
 
--- an instruction that is read has its row in our table, and the row is listed
-module _ (s : List ℕ) (i : Instruction) (n : ℕ) (e : readPart s ≡ Read i n) where
-  there : Present i
-  there = subst (Holds Present Refusal) e (reads-present s)
+kept : (second : ℕ) → Kept second (entryOf second)
+unfolding entryOf
+kept second = find-keeps second rows refl
 
-  kept : Kept (i .second) (entryOf (i .second))
-  unfolding entryOf
-  kept = find-keeps (i .second) rows refl
+known-listed : (i : Instruction) → Known entryOf i → Listed (entryOf (i .second))
+known-listed i k =
+    let row = kept (i .second) in
+    record {
+      present = λ a. false≢true (sym (k .present) ∙ ap isAbsent a);
+      sized = row .sized (k .present);
+      small = row .small;
+      moves-D = row .moves-D;
+      moves-Q = row .moves-Q;
+    }
+
+-- an instruction that is read has its row in our table, and the row is listed
+module _ (s : List ℕ) (i : Instruction) (n : ℕ) (e : readPart s ≡ good i n) where
+  known : Known entryOf i
+  known = subst (Holds (Known entryOf) Refusal) e (reads-known entryOf 0 s)
 
   pub row-found : entryIn packedRows (i .second) ≡ entryOf (i .second)
-  row-found = entry-is (i .second) (kept .byte there)
+  row-found = entry-is (i .second) (kept (i .second) .byte (known .present))
 
   pub row-listed : Listed (entryIn packedRows (i .second))
-  row-listed =
-      subst Listed (sym row-found)
-      (record { present = λ a. false≢true (sym there ∙ ap isAbsent a); small = kept .small; moves-D = kept .moves-D; moves-Q = kept .moves-Q })
+  row-listed = subst Listed (sym row-found) (known-listed i known)
+
+-- the same at a position of a code
+module _ (code : List ℕ) (at : ℕ) (x : Reading) (e : answerOf x ≡ readAt code at) (i : Instruction) (n : ℕ) (r : x ≡ Read i n) where
+  read-known : Known entryOf i
+  unfolding readAt
+  read-known = by (ltb longestCode (length code)) (readPart (drop at code)) (reads-known entryOf 0 (drop at code)) (sym e ∙ ap answerOf r)
+    where
+      by : (t : Bool) (z : Answer) → Holds (Known entryOf) Refusal z → cond t (refused codeTooLong) z ≡ good i n → Known entryOf i
+      by true z h e = absurd (false≢true (cc))
+      by false z h e = subst (Holds (Known entryOf) Refusal) e h
+
+  pub read-registers : Registers (i .operand)
+  read-registers = read-known .registers
+
+  pub read-listed : Listed (entryOf (i .second))
+  read-listed = known-listed i read-known
+
+-- the table that is lent has it
+pub looked-up : (table : List ℕ) (second : ℕ) → table ≡ packedRows → second < 256 → unpacked (getD table second 0) ≡ entryOf second
+looked-up table second e h = ap (λ (t : List ℕ). unpacked (getD t second 0)) e ∙ entry-is second h
+
+pub ruleset looking-up = (needs, looked-up)

@@ -2,13 +2,13 @@
 -- a number in common.
 use mathlib.Core.Path.{_≡_, refl, sym, ap, _∙_}
 use mathlib.Core.Logic.{_↔_}
-use mathlib.Core.List.{List, [], _∷_, List·Memᴰ as In, List·Memᴰ·head as here, List·Memᴰ·tail as later}
+use mathlib.Core.List.{List, [], _∷_, _++_, List·Memᴰ as In, List·Memᴰ·head as here, List·Memᴰ·tail as later}
 use Prim.Native.Nat.{ℕ, suc, _+_, _-_, _/_, _%_, _^_, _<_, min, max}
 use native.Mathlib.Nat.{zero-div, div-eq-of-lt, div-self, div-one, mul-mod-left, pow-suc}
 use native.Mathlib.Decide.{decLt}
 use native.Mathlib.Omega.{arith}
 use lib.Arith.{bin-ind}
-use lib.Bits.{bitAnd, bitOr, or-step, and-step, or-shr, and-shr}
+use lib.Bits.{bitAnd, bitOr, or-step, and-step, or-shr, and-shr, or-zero-l}
 use lib.Pow.{pow-pos, pow-lt, pow-add, shl-shr, shr-shr}
 use Rattle.machine.specs.Prints.{mask}
 
@@ -85,3 +85,19 @@ masks-meet ks js = (
   λ (k, i, j) e.
       omega (arith, bit-and k (mask ks) (mask js), ap (bit k) e, bit-zero k, set-bit k ks i, set-bit k js j),
 )
+
+-- two lists one after the other have both masks, since an or can be regrouped
+pub or-assoc : (a b c : ℕ) → bitOr (bitOr a b) c ≡ bitOr a (bitOr b c)
+or-assoc = bin-ind (λ a. (b c : ℕ) → bitOr (bitOr a b) c ≡ bitOr a (bitOr b c)) (λ b c. simp or-zero-l) step
+  where
+    step : (a : ℕ) → ((b c : ℕ) → bitOr (bitOr (a / 2) b) c ≡ bitOr (a / 2) (bitOr b c)) → (b c : ℕ) → bitOr (bitOr a b) c ≡ bitOr a (bitOr b c)
+    step a rest b c =
+        let p : bitOr a b / 2 ≡ bitOr (a / 2) (b / 2) = omega (arith, or-step a b) in
+        let q : bitOr b c / 2 ≡ bitOr (b / 2) (c / 2) = omega (arith, or-step b c) in
+        let r : bitOr (bitOr a b / 2) (c / 2) ≡ bitOr (a / 2) (bitOr b c / 2) =
+        ap (λ (x : ℕ). bitOr x (c / 2)) p ∙ rest (b / 2) (c / 2) ∙ ap (bitOr (a / 2)) (sym q) in
+        omega (arith, or-step (bitOr a b) c, or-step a (bitOr b c), or-step a b, or-step b c)
+
+pub mask-append : (ks js : List ℕ) → mask (ks ++ js) ≡ bitOr (mask ks) (mask js)
+mask-append [] js = sym (or-zero-l (mask js))
+mask-append (k ∷ ks) js = ap (bitOr (2 ^ k)) (mask-append ks js) ∙ sym (or-assoc (2 ^ k) (mask ks) (mask js))

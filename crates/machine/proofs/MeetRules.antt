@@ -7,9 +7,9 @@ use borrow.Author.Needs.{needs}
 use borrow.Author.Tests.{lt-ltb, le-ltb, eq-eqb, ne-eqb, ltb-true, ltb-false}
 use lib.Bits.{bitAnd}
 use lib.Dec.{ltb}
+use Rattle.manual.specs.Kinds.{kindsMeet}
 use Rattle.machine.specs.declared.Places.{Places}
 use Rattle.machine.specs.declared.Footprint.{Footprint}
-use Rattle.machine.specs.Kinds.{kindsMeet}
 use Rattle.machine.specs.Prints.{overlap, share, meet}
 
 -- a range that starts within another: without and with a sum

@@ -1,8 +1,8 @@
 -- Two footprints meet by their masks and ranges exactly where they meet in a place: each test is true exactly where what it tests holds.
-use mathlib.Core.Path.{_≡_, refl, sym, ap, subst, subst₂}
+use mathlib.Core.Path.{_≡_, refl, ap}
 use mathlib.Core.Logic.{_↔_, _⊎_, inl, inr}
-use mathlib.Core.Bool.{Bool, true, false, not, _&&_, _||_}
-use mathlib.Core.List.{List, [], List·Memᴰ as In}
+use mathlib.Core.Bool.{Bool, true, false, not, _&&_, _||_, false≢true}
+use mathlib.Core.List.{List, List·Memᴰ as In}
 use Prim.Native.Nat.{ℕ, _+_, _≤_, _<_}
 use native.Mathlib.Decide.{decLt}
 use native.Mathlib.Omega.{arith}
@@ -12,18 +12,10 @@ use lib.Dec.{eqb, ltb}
 use lib.ListN.{length, getD}
 use Rattle.reorder.specs.Result.{Result, done, refused}
 use Rattle.reorder.specs.Footprint as places
-use Rattle.reorder.proofs.Never.{never}
-use Rattle.reorder.proofs.Meeting.{meets-symmetric}
-use Rattle.codec.specs.Opcodes.{entryOf}
-use Rattle.codec.specs.declared.Instruction.{Instruction}
-use Rattle.machine.specs.declared.Kind.{Kind}
-use Rattle.machine.specs.declared.Kind.the-variants.{Ordinary, Emms}
-use Rattle.machine.specs.State.{State}
-use Rattle.machine.specs.Places.{Place, mmx, integer, byte, look}
-use Rattle.machine.specs.Kinds.{kindsMeet, KindsMeet}
-use Rattle.machine.specs.Effects.{unlessMarked, planOn, footprintOf}
-use Rattle.machine.specs.Instructions.{bare, effectAt, footprint}
-use Rattle.machine.specs.Footprints.{Meets}
+use Rattle.manual.specs.declared.Kind.{Kind}
+use Rattle.manual.specs.Places.{Place, mmx, integer, byte}
+use Rattle.manual.specs.Kinds.{KindsMeet}
+use Rattle.manual.specs.Footprints.{Meets}
 use Rattle.machine.specs.Prints.{mmxNumber, integerNumber, numbersOf, bytesOf, mask, setOf, print, overlap, share, meet, meetTest}
 use Rattle.machine.proofs.Masks.{masks-meet}
 use Rattle.machine.proofs.Ranges.{Range, OneRange, RangedPrint}
@@ -48,7 +40,7 @@ and-exactly {A} {B} a b p q = (from a b p q, λ (x, y). simp (p .1 x, q .1 y))
   where
     from : (a b : Bool) → (a ≡ true) ↔ A → (b ≡ true) ↔ B → (a && b) ≡ true → A × B
     from true b p q e = (p .0 refl, q .0 e)
-    from false b p q e = never (cc)
+    from false b p q e = absurd (false≢true (cc))
 
 less-exactly : (a b : ℕ) → (ltb a b ≡ true) ↔ (a < b)
 less-exactly a b = (ltb-true a b, lt-ltb a b)
@@ -149,36 +141,5 @@ meet-exactly f g rf rg = (λ e. meeting (tests .0 e), λ m. tests .1 (cases m))
 -- and so is the test of what may be footprints
 pub meet-test-exactly : (f g : Result (places.Footprint Place Kind)) → RangedPrint f → RangedPrint g → (meetTest f g ≡ true) ↔ Meets f g
 meet-test-exactly (done f) (done g) rf rg = meet-exactly f g rf rg
-meet-test-exactly (done f) (refused n) rf rg = (λ e. never (cc), λ m. absurd m)
-meet-test-exactly (refused n) g rf rg = (λ e. never (cc), λ m. absurd m)
-
--- Meeting is symmetric, and EMMS meets every instruction
-
-kinds-turn : (a b : Kind) → KindsMeet a b → KindsMeet b a
-kinds-turn Ordinary Ordinary e = e
-kinds-turn Ordinary Emms e = refl
-kinds-turn Emms Ordinary e = refl
-kinds-turn Emms Emms e = refl
-
-pub meeting-symmetric : (f g : Result (places.Footprint Place Kind)) → Meets f g → Meets g f
-meeting-symmetric f g m = meets-symmetric KindsMeet kinds-turn f g m
-
--- the footprint of EMMS has its kind
-emms-kind : (i : Instruction) (s : State) (f : places.Footprint Place Kind) → i .second ≡ 0x77 → footprint i s ≡ done f → f .kind ≡ Emms
-unfolding footprint effectAt entryOf
-emms-kind i s f e h = marks (s .machine .em) (s .machine .ts) (s .machine .pending) (subst Of e h)
-  where
-    Of : ℕ → Type 0
-    Of second = footprintOf (effectAt second (i .operand) (i .immediate)) s ≡ done f
-
-    marks : (em ts pending : Bool)
-        → places.footprintIn look [] s (unlessMarked em ts pending (done (planOn (bare Emms) [] []))) ≡ done f → f .kind ≡ Emms
-    marks true ts pending h = never (cc)
-    marks false true pending h = never (cc)
-    marks false false true h = never (cc)
-    marks false false false h = let same : places.footprintOf [] (planOn (bare Emms) [] []) ≡ f = cc in sym (ap (λ g. g .kind) same)
-
-pub emms-meets-all : (i j : Instruction) (s t : State) (f g : places.Footprint Place Kind) → i .second ≡ 0x77
-    → footprint i s ≡ done f → footprint j t ≡ done g → Meets (footprint i s) (footprint j t)
-emms-meets-all i j s t f g e ef eg =
-    subst₂ Meets (sym ef) (sym eg) (inl (ap (λ (k : Kind). kindsMeet k (g .kind)) (emms-kind i s f e ef)))
+meet-test-exactly (done f) (refused n) rf rg = (λ e. absurd (false≢true (cc)), λ m. absurd m)
+meet-test-exactly (refused n) g rf rg = (λ e. absurd (false≢true (cc)), λ m. absurd m)

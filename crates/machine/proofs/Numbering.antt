@@ -1,63 +1,79 @@
--- The forms by their numbers in the table, in the groups that the code tests for.
+-- The forms by their numbers in the table, in the groups that the code tests for: by one list of the forms with two operands.
 use mathlib.Core.Path.{_≡_, refl, subst}
 use Prim.Native.Nat.{ℕ, zero, suc, _-_, _≤_, _<_}
 use native.Mathlib.Omega.{arith}
-use Rattle.codec.specs.Forms.{Form, absent, shiftWD, shiftQ, loadD, loadQ, usual}
+use Rattle.codec.specs.Forms.{Form, absent, shiftWD, shiftQ, storeD, loadD, storeQ, loadQ, usual}
 use Rattle.codec.specs.Packed.{formOf}
-use Rattle.machine.specs.Locations.{mmxRegister, registerOf}
+use Rattle.manual.specs.Locations.{mmxRegister, integerRegister, registerOf}
 
--- the forms that leave a number made from their source in a register
+-- the forms with two operands
+pub data TwoOperands (n : ℕ) : Form → Type 0 where
+  is-storeD : n ≡ 4 → TwoOperands n storeD
+  is-loadD : n ≡ 5 → TwoOperands n loadD
+  is-storeQ : n ≡ 6 → TwoOperands n storeQ
+  is-loadQ : n ≡ 9 → TwoOperands n loadQ
+  is-usual : 6 < n → TwoOperands n usual
+
+from-four : (more : ℕ) → TwoOperands (suc (suc (suc (suc more)))) (formOf (suc (suc (suc (suc more)))))
+from-four zero = is-storeD refl
+from-four (suc zero) = is-loadD refl
+from-four (suc (suc zero)) = is-storeQ refl
+from-four (suc (suc (suc zero))) = is-usual (omega arith)
+from-four (suc (suc (suc (suc zero)))) = is-usual (omega arith)
+from-four (suc (suc (suc (suc (suc zero))))) = is-loadQ refl
+from-four (suc (suc (suc (suc (suc (suc more)))))) = is-usual (omega arith)
+
+pub two-operands : (n : ℕ) → 4 ≤ n → TwoOperands n (formOf n)
+two-operands n h =
+    let e : suc (suc (suc (suc (n - 4)))) ≡ n = omega arith in
+    subst (λ (m : ℕ). TwoOperands m (formOf m)) e (from-four (n - 4))
+
+-- of these, the forms that leave a number made from their source in a register
 pub data Computing : Form → Type 0 where
   computes-loadD : Computing loadD
   computes-loadQ : Computing loadQ
   computes-usual : Computing usual
 
-computing-on : (more : ℕ) → (more ≡ 0 → ⊥) → (more ≡ 2 → ⊥) → Computing (formOf (suc (suc (suc (suc more)))))
-computing-on zero p q = absurd (p refl)
-computing-on (suc zero) p q = computes-loadD
-computing-on (suc (suc zero)) p q = absurd (q refl)
-computing-on (suc (suc (suc zero))) p q = computes-usual
-computing-on (suc (suc (suc (suc zero)))) p q = computes-usual
-computing-on (suc (suc (suc (suc (suc zero))))) p q = computes-loadQ
-computing-on (suc (suc (suc (suc (suc (suc more)))))) p q = computes-usual
+pub computing : (n : ℕ) → 4 ≤ n → (n ≡ 4 → ⊥) → (n ≡ 6 → ⊥) → Computing (formOf n)
+computing n h p q = by (formOf n) (two-operands n h)
+  where
+    by : (form : Form) → TwoOperands n form → Computing form
+    by storeD (is-storeD e) = absurd (p e)
+    by loadD (is-loadD e) = computes-loadD
+    by storeQ (is-storeQ e) = absurd (q e)
+    by loadQ (is-loadQ e) = computes-loadQ
+    by usual (is-usual g) = computes-usual
 
-pub computing : (f : ℕ) → 4 ≤ f → (f ≡ 4 → ⊥) → (f ≡ 6 → ⊥) → Computing (formOf f)
-computing f h p q =
-    let e : suc (suc (suc (suc (f - 4)))) ≡ f = omega arith in
-    subst (λ (n : ℕ). Computing (formOf n)) e (computing-on (f - 4) (λ z. p (omega arith)) (λ z. q (omega arith)))
+-- at mod 11 the operand of MOVD is an integer register, that of the others an MMX register
 
--- of these, the forms whose source in a register is an MMX register
-pub data Wide : Form → Type 0 where
-  wide-loadQ : Wide loadQ
-  wide-usual : Wide usual
+pub integer-form : (n k : ℕ) → 4 ≤ n → n ≤ 5 → registerOf (formOf n) k ≡ integerRegister k
+integer-form n k h l = by (formOf n) (two-operands n h)
+  where
+    by : (form : Form) → TwoOperands n form → registerOf form k ≡ integerRegister k
+    by storeD (is-storeD e) = refl
+    by loadD (is-loadD e) = refl
+    by storeQ (is-storeQ e) = absurd (let z : ⊥ = omega arith in z)
+    by loadQ (is-loadQ e) = absurd (let z : ⊥ = omega arith in z)
+    by usual (is-usual g) = absurd (let z : ⊥ = omega arith in z)
 
-wide-on : (more : ℕ) → Wide (formOf (suc (suc (suc (suc (suc (suc (suc more))))))))
-wide-on zero = wide-usual
-wide-on (suc zero) = wide-usual
-wide-on (suc (suc zero)) = wide-loadQ
-wide-on (suc (suc (suc more))) = wide-usual
-
-pub wide : (f : ℕ) → 6 < f → Wide (formOf f)
-wide f h =
-    let e : suc (suc (suc (suc (suc (suc (suc (f - 7))))))) ≡ f = omega arith in
-    subst (λ (n : ℕ). Wide (formOf n)) e (wide-on (f - 7))
-
-pub wide-computes : (form : Form) → Wide form → Computing form
-wide-computes loadQ wide-loadQ = computes-loadQ
-wide-computes usual wide-usual = computes-usual
-
-pub wide-register : (form : Form) (k : ℕ) → Wide form → registerOf form k ≡ mmxRegister k
-wide-register loadQ k wide-loadQ = refl
-wide-register usual k wide-usual = refl
+pub mmx-form : (n k : ℕ) → 5 < n → registerOf (formOf n) k ≡ mmxRegister k
+mmx-form n k h = by (formOf n) (two-operands n (omega arith))
+  where
+    by : (form : Form) → TwoOperands n form → registerOf form k ≡ mmxRegister k
+    by storeD (is-storeD e) = absurd (let z : ⊥ = omega arith in z)
+    by loadD (is-loadD e) = absurd (let z : ⊥ = omega arith in z)
+    by storeQ (is-storeQ e) = refl
+    by loadQ (is-loadQ e) = refl
+    by usual (is-usual g) = refl
 
 -- the forms of the shifts by an immediate
 pub data Shifting : Form → Type 0 where
   shifts-WD : Shifting shiftWD
   shifts-Q : Shifting shiftQ
 
-pub shifting-form : (f : ℕ) → f < 4 → (f ≡ 1 → ⊥) → (formOf f ≡ absent → ⊥) → Shifting (formOf f)
+pub shifting-form : (n : ℕ) → n < 4 → (n ≡ 1 → ⊥) → (formOf n ≡ absent → ⊥) → Shifting (formOf n)
 shifting-form zero h p q = absurd (q refl)
 shifting-form (suc zero) h p q = absurd (p refl)
 shifting-form (suc (suc zero)) h p q = shifts-WD
 shifting-form (suc (suc (suc zero))) h p q = shifts-Q
-shifting-form (suc (suc (suc (suc f)))) h p q = absurd (omega arith)
+shifting-form (suc (suc (suc (suc n)))) h p q = absurd (omega arith)

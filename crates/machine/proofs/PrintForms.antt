@@ -1,26 +1,24 @@
 -- The footprint that no control mark stops, by the form's number: each form has its shape. Rules for what the code makes of a form.
-use mathlib.Core.Path.{_≡_, refl, subst}
+use mathlib.Core.Path.{_≡_, refl}
 use mathlib.Core.Logic.{_⊎_, inl, inr}
-use mathlib.Core.Bool.{false}
-use Prim.Native.Nat.{ℕ, zero, suc, _-_, _/_, _^_, _≤_, _<_}
-use native.Mathlib.Omega.{arith}
+use Prim.Native.Nat.{ℕ, _-_, _/_, _^_, _≤_, _<_}
 use borrow.Author.Needs.{needs}
 use Rattle.lanes.specs.Operations.{operate}
 use Rattle.reorder.specs.Result.{done, refused}
-use Rattle.reorder.proofs.Never.{never}
-use Rattle.codec.specs.Forms.{usual, isAbsent}
+use Rattle.codec.specs.Forms.{Form, shiftWD, shiftQ, storeD, loadD, storeQ, loadQ, usual}
 use Rattle.codec.specs.Packed.{formOf, unpacked}
 use Rattle.codec.specs.declared.Instruction.{Instruction}
-use Rattle.machine.specs.declared.Kind.the-variants.{Ordinary, Emms}
+use Rattle.manual.specs.declared.Kind.the-variants.{Ordinary, Emms}
+use Rattle.manual.specs.State.{State}
+use Rattle.manual.specs.Locations.{Location, rmOf, placesOf}
+use Rattle.manual.specs.Instructions.{whole, lowHalf, effectBy}
 use Rattle.machine.specs.declared.Places.{Places}
 use Rattle.machine.specs.declared.Footprint.{Footprint}
 use Rattle.machine.specs.declared.reaches.Reach.{Reach}
 use Rattle.machine.specs.declared.reaches.Reach.the-variants.{Inside, Refused}
-use Rattle.machine.specs.State.{State}
-use Rattle.machine.specs.Locations.{Location, rmOf, placesOf}
-use Rattle.machine.specs.Instructions.{whole, lowHalf, effectBy}
-use Rattle.machine.specs.PrintShapes.{nowhere, beside, reachOf, storing, loading, computing, Tabled, unmarkedPrint}
-use Rattle.machine.specs.Works.{effectIn}
+use Rattle.machine.specs.PrintShapes.{nowhere, beside, reachOf, storing, loading, computing, unmarkedPrint}
+use Rattle.machine.specs.Works.{effectIn, Listed}
+use Rattle.machine.proofs.Numbering.{TwoOperands, is-storeD, is-loadD, is-storeQ, is-loadQ, is-usual, two-operands, Shifting, shifts-WD, shifts-Q, shifting-form}
 use Rattle.machine.proofs.PrintShaping.{shaped, stores, loads, computes}
 
 -- the forms with two operands, by their numbers
@@ -34,19 +32,15 @@ Loads n = (n ≡ 5) ⊎ (n ≡ 9)
 abbrev Sorted : ℕ → Type 0
 Sorted n = (Stores n ⊎ Loads n) ⊎ (formOf n ≡ usual)
 
-sorted-from : (n : ℕ) → Sorted (suc (suc (suc (suc n))))
-sorted-from zero = inl (inl (inl refl))
-sorted-from (suc zero) = inl (inr (inl refl))
-sorted-from (suc (suc zero)) = inl (inl (inr refl))
-sorted-from (suc (suc (suc zero))) = inr refl
-sorted-from (suc (suc (suc (suc zero)))) = inr refl
-sorted-from (suc (suc (suc (suc (suc zero))))) = inl (inr (inr refl))
-sorted-from (suc (suc (suc (suc (suc (suc n)))))) = inr refl
-
 sorted : (n : ℕ) → 4 ≤ n → Sorted n
-sorted n h =
-    let e : suc (suc (suc (suc (n - 4)))) ≡ n = omega arith in
-    subst Sorted e (sorted-from (n - 4))
+sorted n h = by (formOf n) refl (two-operands n h)
+  where
+    by : (form : Form) → formOf n ≡ form → TwoOperands n form → Sorted n
+    by storeD f (is-storeD e) = inl (inl (inl e))
+    by loadD f (is-loadD e) = inl (inr (inl e))
+    by storeQ f (is-storeQ e) = inl (inl (inr e))
+    by loadQ f (is-loadQ e) = inl (inr (inr e))
+    by usual f (is-usual g) = inr f
 
 -- what they read and write
 module _ (s : State) (entry : ℕ) (i : Instruction) where
@@ -102,18 +96,15 @@ module _ (s : State) (entry : ℕ) (i : Instruction) where
         go (inr t) = simp (print-usual form t, ← reached, e)
 
   -- one operand, and none
-  shifted : (n : ℕ) (p : Places) → isAbsent (formOf n) ≡ false → n < 4 → (n ≡ 1 → ⊥) → p ≡ beside (i .operand .rm) nowhere
-      → done (record { reads = p; writes = p; kind = Ordinary }) ≡ unmarkedPrint (effectBy (formOf n) (unpacked entry) (i .operand) (i .immediate)) s
+  shifted : (f : Form) (p : Places) → Shifting f → p ≡ beside (i .operand .rm) nowhere
+      → done (record { reads = p; writes = p; kind = Ordinary }) ≡ unmarkedPrint (effectBy f (unpacked entry) (i .operand) (i .immediate)) s
   unfolding unmarkedPrint
-  shifted zero p a h o e = never (cc)
-  shifted (suc zero) p a h o e = absurd (o refl)
-  shifted (suc (suc zero)) p a h o e = simp e
-  shifted (suc (suc (suc zero))) p a h o e = simp e
-  shifted (suc (suc (suc (suc n)))) p a h o e = absurd (let z : ⊥ = omega arith in z)
+  shifted shiftWD p shifts-WD e = simp e
+  shifted shiftQ p shifts-Q e = simp e
 
-  pub print-shift : (p : Places) → Tabled (unpacked entry) → form < 4 → (form ≡ 1 → ⊥) → p ≡ beside (i .operand .rm) nowhere
+  pub print-shift : (p : Places) → Listed (unpacked entry) → form < 4 → (form ≡ 1 → ⊥) → p ≡ beside (i .operand .rm) nowhere
       → done (record { reads = p; writes = p; kind = Ordinary }) ≡ unmarkedPrint (effectIn entry i) s
-  print-shift p t h o e = shifted form p (t .present) h o e
+  print-shift p l h o e = shifted (formOf form) p (shifting-form form h o (l .present)) e
 
   pub print-emms : form ≡ 1 → done (record { reads = nowhere; writes = nowhere; kind = Emms }) ≡ unmarkedPrint (effectIn entry i) s
   unfolding unmarkedPrint

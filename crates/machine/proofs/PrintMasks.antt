@@ -1,36 +1,21 @@
--- Masks that the code puts together: two lists one after the other have both masks, since an or can be regrouped. Rules for masks of registers.
-use mathlib.Core.Path.{_≡_, sym, ap, _∙_}
+-- Masks that the code puts together. Rules for masks of registers.
+use mathlib.Core.Path.{_≡_}
 use mathlib.Core.Bool.{and-false}
-use mathlib.Core.List.{List, [], _∷_, _++_, append-nil}
-use Prim.Native.Nat.{ℕ, _*_, _/_, _^_, _%_, _<_}
+use mathlib.Core.List.{append-nil}
+use Prim.Native.Nat.{ℕ, _*_, _^_, _%_, _<_}
 use native.Mathlib.Omega.{arith}
 use borrow.Author.Needs.{needs}
 use borrow.Author.Tests.{eq-eqb, ne-eqb}
-use lib.Arith.{bin-ind}
-use lib.Bits.{bitOr, or-step, or-zero-l, or-zero-r}
+use lib.Bits.{bitOr, or-zero-r}
 use lib.Dec.{eqb}
 use lib.Pow.{pow-lt}
 use Rattle.codec.specs.Operands.{hasSib}
 use Rattle.codec.specs.declared.Operand.{Operand}
+use Rattle.manual.specs.Addresses.{baseOf, indexOf, addressOf, registersOf, addressRegisters}
 use Rattle.machine.specs.declared.Places.{Places}
-use Rattle.machine.specs.Addresses.{baseOf, indexOf, addressOf, registersOf, addressRegisters}
 use Rattle.machine.specs.Prints.{mask}
 use Rattle.machine.specs.PrintShapes.{beside}
-
-pub or-assoc : (a b c : ℕ) → bitOr (bitOr a b) c ≡ bitOr a (bitOr b c)
-or-assoc = bin-ind (λ a. (b c : ℕ) → bitOr (bitOr a b) c ≡ bitOr a (bitOr b c)) (λ b c. simp or-zero-l) step
-  where
-    step : (a : ℕ) → ((b c : ℕ) → bitOr (bitOr (a / 2) b) c ≡ bitOr (a / 2) (bitOr b c)) → (b c : ℕ) → bitOr (bitOr a b) c ≡ bitOr a (bitOr b c)
-    step a rest b c =
-        let p : bitOr a b / 2 ≡ bitOr (a / 2) (b / 2) = omega (arith, or-step a b) in
-        let q : bitOr b c / 2 ≡ bitOr (b / 2) (c / 2) = omega (arith, or-step b c) in
-        let r : bitOr (bitOr a b / 2) (c / 2) ≡ bitOr (a / 2) (bitOr b c / 2) =
-        ap (λ (x : ℕ). bitOr x (c / 2)) p ∙ rest (b / 2) (c / 2) ∙ ap (bitOr (a / 2)) (sym q) in
-        omega (arith, or-step (bitOr a b) c, or-step a (bitOr b c), or-step a b, or-step b c)
-
-mask-append : (ks js : List ℕ) → mask (ks ++ js) ≡ bitOr (mask ks) (mask js)
-mask-append [] js = sym (or-zero-l (mask js))
-mask-append (k ∷ ks) js = ap (bitOr (2 ^ k)) (mask-append ks js) ∙ sym (or-assoc (2 ^ k) (mask ks) (mask js))
+use Rattle.machine.proofs.Masks.{mask-append}
 
 -- a register's bit fits a byte
 pub one-bit : (register : ℕ) → register < 8 → 1 * 2 ^ register % 256 ≡ 2 ^ register

@@ -1,23 +1,26 @@
 -- The operand of r/m as masks and a range: the bytes of an operand are one range, and no registers. Rules for where the code finds it.
-use mathlib.Core.Path.{_≡_, refl, ap, _∙_}
+use mathlib.Core.Path.{_≡_, refl}
+use mathlib.Core.Bool.{Bool, true, false, not}
 use mathlib.Core.List.{List, []}
 use Prim.Native.Nat.{ℕ, zero, suc, _+_, _-_, _/_, _^_, _≤_, _<_}
-use native.Mathlib.Decide.{decLt}
 use native.Mathlib.Omega.{arith}
 use borrow.Author.Needs.{needs}
-use borrow.Author.Tests.{eq-eqb, ne-eqb, le-leb, lt-leb}
+use borrow.Author.Tests.{eq-eqb, ne-eqb, not-true, not-false}
+use lib.Dec.{leb}
 use lib.ListN.{length}
-use Rattle.codec.specs.Packed.{formOf, unpacked}
+use Rattle.codec.specs.Packed.{unpacked}
 use Rattle.codec.specs.declared.Operand.{Operand}
+use Rattle.manual.specs.Refusals.{outsideMemory}
+use Rattle.manual.specs.State.{State}
+use Rattle.manual.specs.Addresses.{addressOf, address, addressRegisters}
+use Rattle.manual.specs.Locations.{memory, rmOf, bytesFrom, tested, placesOf}
 use Rattle.machine.specs.declared.Places.{Places}
 use Rattle.machine.specs.declared.reaches.Reach.{Reach}
 use Rattle.machine.specs.declared.reaches.Reach.the-variants.{Inside, Refused}
-use Rattle.machine.specs.State.{State}
-use Rattle.machine.specs.Addresses.{addressOf, address, addressRegisters}
-use Rattle.machine.specs.Locations.{mmxRegister, integerRegister, memory, registerOf, rmOf, bytesFrom, tested, placesOf}
 use Rattle.machine.specs.Prints.{mmxNumber, integerNumber, numbersOf, mask, setOf}
 use Rattle.machine.specs.PrintShapes.{nowhere, beside, through, reachOf}
 use Rattle.machine.proofs.Ranges.{count-bytes}
+use Rattle.machine.proofs.Numbering.{integer-form, mmx-form}
 
 no-mmx : (size a : ℕ) → numbersOf mmxNumber (bytesFrom a size) ≡ []
 no-mmx zero a = refl
@@ -40,41 +43,16 @@ module _ (integers : List ℕ) (w : Operand) (size length a : ℕ) (there : a �
   abbrev reached : Reach
   reached = reachOf (memory (addressOf w) size) (tested length size (address integers (addressOf w)))
 
-  outside : length < a + size → Refused 10 ≡ reached
-  outside h = simp (← there, lt-leb (a + size) length h)
+  -- the operand test
+  module _ (t : Bool) (test : t ≡ leb (a + size) length) where
+    pub reach-outside : not t ≡ true → Refused outsideMemory ≡ reached
+    reach-outside n = simp (← there, ← test, not-true t n)
 
-  pub reach-short : length < size → Refused 10 ≡ reached
-  reach-short h = outside (omega arith)
+    pub reach-inside : (registers : ℕ) → not t ≡ false → registers ≡ mask (addressRegisters (addressOf w)) → 0 < size
+        → Inside registers (range a size) ≡ reached
+    reach-inside registers n e some = simp (← there, ← test, not-false t n, set-bytes size a some, ← e)
 
-  pub reach-past : length - size < a → Refused 10 ≡ reached
-  reach-past h = outside (omega arith)
-
-  pub reach-inside : (registers : ℕ) → registers ≡ mask (addressRegisters (addressOf w)) → 0 < size → size ≤ length → a ≤ length - size
-      → Inside registers (range a size) ≡ reached
-  reach-inside registers e some h g =
-      let k : a + size ≤ length = omega arith in
-      simp (← there, le-leb (a + size) length k, set-bytes size a some, ← e)
-
--- in a register: MOVD's forms are 4 and 5
-integer-form : (n k : ℕ) → 4 ≤ n → n ≤ 5 → registerOf (formOf n) k ≡ integerRegister k
-integer-form n k p q = go (decLt n 5)
-  where
-    go : Dec (n < 5) → registerOf (formOf n) k ≡ integerRegister k
-    go (yes h) = let e : n ≡ 4 = omega arith in simp e
-    go (no h) = let e : n ≡ 5 = omega arith in simp e
-
-later-form : (n k : ℕ) → registerOf (formOf (suc (suc (suc (suc (suc (suc n))))))) k ≡ mmxRegister k
-later-form zero k = refl
-later-form (suc zero) k = refl
-later-form (suc (suc zero)) k = refl
-later-form (suc (suc (suc zero))) k = refl
-later-form (suc (suc (suc (suc n)))) k = refl
-
-mmx-form : (n k : ℕ) → 5 < n → registerOf (formOf n) k ≡ mmxRegister k
-mmx-form n k h =
-    let e : n ≡ suc (suc (suc (suc (suc (suc (n - 6)))))) = omega arith in
-    ap (λ (m : ℕ). registerOf (formOf m) k) e ∙ later-form (n - 6) k
-
+-- in a register
 module _ (s : State) (entry : ℕ) (w : Operand) where
   abbrev there : Reach
   there = reachOf (rmOf (unpacked entry) w) (placesOf s (rmOf (unpacked entry) w))
@@ -89,11 +67,11 @@ module _ (s : State) (entry : ℕ) (w : Operand) where
     reach-mmx f h = simp (eq-eqb (w .mode) 3 register, mmx-form (entry / 2 ^ 24) (w .rm) f, h)
 
   pub reach-memory : (r : Reach) → (w .mode ≡ 3 → ⊥)
-      → r ≡ reachOf (memory (addressOf w) (unpacked entry .size)) (tested (length (s .memory)) (unpacked entry .size) (address (s .machine .integers) (addressOf w)))
+      → r ≡ reachOf (memory (addressOf w) (unpacked entry .size)) (tested (length (s .memory)) (unpacked entry .size) (address (s .integers) (addressOf w)))
       → r ≡ there
   unfolding rmOf
   reach-memory r m h = simp (ne-eqb (w .mode) 3 m) h
 
-pub ruleset print-bytes = (needs, reach-short, reach-past, reach-inside)
+pub ruleset print-bytes = (needs, reach-outside, reach-inside)
 
 pub ruleset print-reaching = (needs, reach-integer, reach-mmx, reach-memory)

@@ -6,20 +6,20 @@ use borrow.Author.Needs.{needs}
 use lib.Bits.{or-zero-l}
 use Rattle.reorder.specs.Result.{Result, done, refused, andThen, mapResult}
 use Rattle.reorder.specs.Footprint.{footprintIn}
-use Rattle.machine.specs.declared.Kind.the-variants.{Ordinary}
+use Rattle.manual.specs.declared.Kind.the-variants.{Ordinary}
+use Rattle.manual.specs.State.{State}
+use Rattle.manual.specs.Places.{Place, mmx, integer, look}
+use Rattle.manual.specs.Locations.{Location, mmxRegister}
+use Rattle.manual.specs.Effects.{Effect, planOn, via}
+use Rattle.manual.specs.Instructions.{both, move}
+use Rattle.manual.proofs.Direct.{one}
 use Rattle.machine.specs.declared.Places.{Places}
 use Rattle.machine.specs.declared.Footprint.{Footprint}
 use Rattle.machine.specs.declared.reaches.Reach.{Reach}
 use Rattle.machine.specs.declared.reaches.Reach.the-variants.{Inside, Refused}
-use Rattle.machine.specs.State.{State}
-use Rattle.machine.specs.Places.{Place, mmx, integer, look}
-use Rattle.machine.specs.Locations.{Location, mmxRegister}
-use Rattle.machine.specs.Effects.{Effect, planOn, via}
-use Rattle.machine.specs.Instructions.{both, move}
 use Rattle.machine.specs.Prints.{mask, setOf, print}
 use Rattle.machine.specs.PrintShapes.{nowhere, beside, through, reachOf, storing, loading, computing}
-use Rattle.machine.proofs.Ranges.{one}
-use Rattle.machine.proofs.PrintMasks.{or-assoc}
+use Rattle.machine.proofs.Masks.{or-assoc}
 
 -- address registers beside other places
 set-through : (ks : List ℕ) (ps : List Place) → setOf (map integer ks ++ ps) ≡ through (mask ks) (setOf ps)
@@ -37,16 +37,16 @@ module _ (s : State) (k : ℕ) (x : Location) where
   printed e sources targets =
       mapResult print (footprintIn look (via e) s (andThen sources (λ source. mapResult (planOn e source) targets)))
 
-  pub stores : (f : ℕ → ℕ) (o : Result (List Place)) → printed (move f x (mmxRegister k)) (done (mmx k ∷ [])) (one s o) ≡ shaped (storing k) (reachOf x o)
+  pub stores : (f : ℕ → ℕ) (o : Result (List Place)) → printed (move f x (mmxRegister k)) (done (mmx k ∷ [])) (one o) ≡ shaped (storing k) (reachOf x o)
   stores f (done ps) = simp (append-nil, set-through)
   stores f (refused n) = refl
 
-  pub loads : (f : ℕ → ℕ) (o : Result (List Place)) → printed (move f (mmxRegister k) x) (one s o) (done (mmx k ∷ [])) ≡ shaped (loading k) (reachOf x o)
+  pub loads : (f : ℕ → ℕ) (o : Result (List Place)) → printed (move f (mmxRegister k) x) (one o) (done (mmx k ∷ [])) ≡ shaped (loading k) (reachOf x o)
   loads f (done ps) = simp (append-nil, set-through)
   loads f (refused n) = refl
 
   pub computes : (f : ℕ → ℕ → ℕ) (o : Result (List Place))
-      → printed (both f (mmxRegister k) x) (mapResult (λ qs. mmx k ∷ qs) (one s o)) (done (mmx k ∷ [])) ≡ shaped (computing k) (reachOf x o)
+      → printed (both f (mmxRegister k) x) (mapResult (λ qs. mmx k ∷ qs) (one o)) (done (mmx k ∷ [])) ≡ shaped (computing k) (reachOf x o)
   computes f (done ps) = simp (append-nil, set-through)
   computes f (refused n) = refl
 

@@ -9,25 +9,29 @@ use lib.ListN.{length}
 use Rattle.reorder.specs.Result.{Result, refused, mapResult}
 use Rattle.reorder.specs.Plan.{Plan}
 use Rattle.reorder.specs.Footprint.{footprintIn}
+use Rattle.codec.specs.Answers.{answerOf}
 use Rattle.codec.specs.Opcodes.{Entry, entryOf}
 use Rattle.codec.specs.Packed.{unpacked}
 use Rattle.codec.specs.Reads.{readAt}
 use Rattle.codec.specs.declared.Instruction.{Instruction}
 use Rattle.codec.specs.declared.Reading.{Reading}
 use Rattle.codec.specs.declared.Reading.the-variants as reading
-use Rattle.machine.specs.declared.Kind.{Kind}
+use Rattle.manual.specs.declared.Kind.{Kind}
+use Rattle.manual.specs.Refusals.{memoryTooLong}
+use Rattle.manual.specs.State.{State, longestMemory}
+use Rattle.manual.specs.Places.{Place, look}
+use Rattle.manual.specs.Effects.{unlessMarked, via}
+use Rattle.manual.specs.Instructions.{effectBy, effectAt, effectOf, footprint}
+use Rattle.manual.specs.Steps.{instructionAt}
+use Rattle.manual.specs.Footprints.{footprintAt}
 use Rattle.machine.specs.declared.Machine.{Machine}
 use Rattle.machine.specs.declared.Printed.{Printed}
-use Rattle.machine.specs.State.{State, stateOf}
-use Rattle.machine.specs.Places.{Place, look}
-use Rattle.machine.specs.Effects.{unlessMarked, via}
-use Rattle.machine.specs.Instructions.{effectBy, effectAt, effectOf, footprint}
-use Rattle.machine.specs.Steps.{instructionAt}
-use Rattle.machine.specs.Footprints.{footprintAt}
+use Rattle.machine.specs.State.{stateOf}
 use Rattle.machine.specs.Prints.{print, printAt, printGiven}
-use Rattle.machine.specs.PrintShapes.{Tabled, unmarkedPrint}
-use Rattle.machine.specs.Works.{effectIn}
-use Rattle.machine.proofs.PrintEntries.{read-registers, read-tabled}
+use Rattle.machine.specs.PrintShapes.{unmarkedPrint}
+use Rattle.machine.specs.Works.{barredBy, effectIn, Listed}
+use Rattle.machine.proofs.Testing.{unbarred-by, barred-by}
+use Rattle.machine.proofs.Listing.{read-registers, read-listed}
 
 -- the control marks
 module _ (machine : Machine) (memory : List ℕ) (i : Instruction) where
@@ -45,43 +49,37 @@ module _ (machine : Machine) (memory : List ℕ) (i : Instruction) where
   unfolding footprint unmarkedPrint
   by-marks = marks (machine .em) (machine .ts) (machine .pending) (via (effectOf i)) _
 
-  pub print-em : machine .em ≡ true → refused 7 ≡ mapResult print (footprint i here)
-  print-em e = simp (by-marks, e)
+  -- the number of the marks, or 0
+  module _ (bar : ℕ) (found : bar ≡ barredBy (machine .em) (machine .ts) (machine .pending)) where
+    pub print-barred : (bar ≡ 0 → ⊥) → refused bar ≡ mapResult print (footprint i here)
+    print-barred h = ap refused found ∙ sym (by-marks ∙ barred-by (machine .em) (machine .ts) (machine .pending) _ (λ e. h (found ∙ e)))
 
-  module _ (no-em : machine .em ≡ false) where
-    pub print-ts : machine .ts ≡ true → refused 8 ≡ mapResult print (footprint i here)
-    print-ts e = simp (by-marks, no-em, e)
+    pub print-unbarred : (entry : ℕ) (r : Printed) → bar ≡ 0 → unpacked entry ≡ entryOf (i .second)
+        → printGiven r ≡ unmarkedPrint (effectIn entry i) here → printGiven r ≡ mapResult print (footprint i here)
+    unfolding effectAt
+    print-unbarred entry r h e p =
+        p ∙ ap (λ (y : Entry). unmarkedPrint (effectBy (y .form) y (i .operand) (i .immediate)) here) e
+        ∙ sym (by-marks ∙ unbarred-by (machine .em) (machine .ts) (machine .pending) _ (sym found ∙ h))
 
-    module _ (no-ts : machine .ts ≡ false) where
-      pub print-pending : machine .pending ≡ true → refused 9 ≡ mapResult print (footprint i here)
-      print-pending e = simp (by-marks, no-em, no-ts, e)
-
-      pub print-unmarked : (entry : ℕ) (r : Printed) → machine .pending ≡ false → unpacked entry ≡ entryOf (i .second)
-          → printGiven r ≡ unmarkedPrint (effectIn entry i) here → printGiven r ≡ mapResult print (footprint i here)
-      unfolding effectAt
-      print-unmarked entry r no-pending e h =
-          h ∙ ap (λ (y : Entry). unmarkedPrint (effectBy (y .form) y (i .operand) (i .immediate)) here) e
-          ∙ simp (by-marks, no-em, no-ts, no-pending)
-
-pub tabled : (entry second : ℕ) → unpacked entry ≡ entryOf second → Tabled (entryOf second) → Tabled (unpacked entry)
-tabled entry second e t = subst Tabled (sym e) t
+pub entry-listed : (entry second : ℕ) → unpacked entry ≡ entryOf second → Listed (entryOf second) → Listed (unpacked entry)
+entry-listed entry second e l = subst Listed (sym e) l
 
 -- the position
 module _ (code : List ℕ) (at : ℕ) (machine : Machine) (memory : List ℕ) where
-  pub print-long : 32768 < length memory → refused 1 ≡ printAt code at (stateOf machine memory)
+  pub print-long : longestMemory < length memory → refused memoryTooLong ≡ printAt code at (stateOf machine memory)
   unfolding printAt footprintAt instructionAt
-  print-long h = simp (lt-ltb 32768 (length memory) h)
+  print-long h = simp (lt-ltb longestMemory (length memory) h)
 
-  module _ (short : length memory ≤ 32768) (z : Reading) (read : z ≡ readAt code at) where
+  module _ (short : length memory ≤ longestMemory) (z : Reading) (read : answerOf z ≡ readAt code at) where
     pub print-unread : (n : ℕ) → z ≡ reading.Refused n → refused n ≡ printAt code at (stateOf machine memory)
     unfolding printAt footprintAt instructionAt
-    print-unread n e = simp (le-ltb 32768 (length memory) short, ← read, e)
+    print-unread n e = simp (le-ltb longestMemory (length memory) short, ← read, e)
 
     pub print-read : (i : Instruction) (n : ℕ) (r : Printed) → z ≡ reading.Read i n → printGiven r ≡ mapResult print (footprint i (stateOf machine memory))
         → printGiven r ≡ printAt code at (stateOf machine memory)
     unfolding printAt footprintAt instructionAt
-    print-read i n r e h = h ∙ simp (le-ltb 32768 (length memory) short, ← read, e)
+    print-read i n r e h = h ∙ simp (le-ltb longestMemory (length memory) short, ← read, e)
 
-pub ruleset print-marks = (needs, tabled, print-em, print-ts, print-pending, print-unmarked)
+pub ruleset print-marks = (needs, entry-listed, print-barred, print-unbarred)
 
-pub ruleset print-positions = (needs, read-registers, read-tabled, print-long, print-unread, print-read)
+pub ruleset print-positions = (needs, read-registers, read-listed, print-long, print-unread, print-read)

@@ -3,7 +3,7 @@ use mathlib.Core.Path.{_≡_, refl, sym, ap, subst}
 use mathlib.Core.Logic.{_↔_, _⊎_, inl, inr}
 use mathlib.Core.List.{List, [], _∷_, List·Memᴰ as In, List·Memᴰ·head as here, List·Memᴰ·tail as later, List·Memᴰ·not-nil as not-nil, List·Memᴰ·eq-of-singleton as eq-of-singleton, List·Memᴰ·append-cases as append-cases, Memᴰ·append-left, Memᴰ·append-right}
 use Prim.Native.Nat.{ℕ, _+_, _≤_, _<_}
-use Rattle.machine.specs.Places.{Place, mmx, integer, byte}
+use Rattle.manual.specs.Places.{Place, mmx, integer, byte}
 use Rattle.machine.specs.Prints.{mmxNumber, integerNumber, byteNumber, numbersOf, bytesOf, mask, setOf}
 use Rattle.machine.proofs.Masks.{bit, mask-exactly}
 use Rattle.machine.proofs.Ranges.{Range}

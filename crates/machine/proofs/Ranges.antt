@@ -15,15 +15,16 @@ use Rattle.codec.specs.Forms.{Form, absent, emms, shiftWD, shiftQ, storeD, load
 use Rattle.codec.specs.Opcodes.{Entry, entryOf}
 use Rattle.codec.specs.declared.Operand.{Operand}
 use Rattle.codec.specs.declared.Instruction.{Instruction}
-use Rattle.machine.specs.declared.Kind.{Kind}
-use Rattle.machine.specs.declared.Kind.the-variants.{Ordinary, Emms}
-use Rattle.machine.specs.Refusals.{outsideMemory}
-use Rattle.machine.specs.State.{State}
-use Rattle.machine.specs.Places.{Place, mmx, integer, look}
-use Rattle.machine.specs.Addresses.{address}
-use Rattle.machine.specs.Locations.{Location, mmxRegister, integerRegister, memory, rmOf, regOf, bytesFrom, fits, placesOf}
-use Rattle.machine.specs.Effects.{addressRegistersOf, unlessMarked, planOn, via, footprintOf}
-use Rattle.machine.specs.Instructions.{both, move, bare, whole, lowHalf, shiftBy, shiftOf, effectBy, effectAt, footprint}
+use Rattle.manual.specs.declared.Kind.{Kind}
+use Rattle.manual.specs.declared.Kind.the-variants.{Ordinary, Emms}
+use Rattle.manual.specs.Refusals.{outsideMemory}
+use Rattle.manual.specs.State.{State}
+use Rattle.manual.specs.Places.{Place, mmx, integer, look}
+use Rattle.manual.specs.Addresses.{address}
+use Rattle.manual.specs.Locations.{Location, mmxRegister, integerRegister, memory, rmOf, regOf, bytesFrom, fits, placesOf}
+use Rattle.manual.specs.Effects.{addressRegistersOf, unlessMarked, planOn, via, footprintOf}
+use Rattle.manual.specs.Instructions.{both, move, bare, whole, lowHalf, shiftBy, shiftOf, effectBy, effectAt, footprint}
+use Rattle.manual.proofs.Direct.{one}
 use Rattle.machine.specs.Prints.{bytesOf}
 
 -- the numbers of the list are those from its first one on, as many as there are
@@ -75,7 +76,7 @@ ranged-test false size a = tt
 ranged-places : (s : State) (x : Location) → Ranged (placesOf s x)
 ranged-places s (mmxRegister k) = no-bytes
 ranged-places s (integerRegister k) = no-bytes
-ranged-places s (memory a size) = ranged-test (fits (length (s .memory)) size (address (s .machine .integers) a)) size (address (s .machine .integers) a)
+ranged-places s (memory a size) = ranged-test (fits (length (s .memory)) size (address (s .integers) a)) size (address (s .integers) a)
 
 -- a footprint whose reads and writes are each one range of bytes
 pub record OneRange (f : Footprint Place Kind) : Type 0 where
@@ -97,10 +98,6 @@ module _ (s : State) where
   unmarked false false true vs o h = tt
   unmarked false false false vs o h = h
 
-  -- the places of a list of one operand
-  abbrev pub one : Result (List Place) → Result (List Place)
-  one o = andThen o (λ ps. mapResult (λ qs. ps ++ qs) (done []))
-
   nothing-after : (ps : List Place) → Range (bytesOf ps) → Range (bytesOf (ps ++ []))
   nothing-after ps h = subst (λ (l : List Place). Range (bytesOf l)) (sym (append-nil ps)) h
 
@@ -113,7 +110,7 @@ module _ (s : State) where
 
   ranged-move : (f : ℕ → ℕ) (d x : Location) → RangedPrint (footprintOf (move f d x) s)
   ranged-move f d x =
-      unmarked (s .machine .em) (s .machine .ts) (s .machine .pending) (via (move f d x)) _
+      unmarked (s .em) (s .ts) (s .pending) (via (move f d x)) _
       (moved f d x (placesOf s x) (placesOf s d) (ranged-places s x) (ranged-places s d))
 
   ranged-shift : (count : ℕ) (operation : Operation) (register : Location) → RangedPrint (footprintOf (shiftBy count operation register) s)
@@ -128,12 +125,12 @@ module _ (s : State) where
 
   ranged-both : (f : ℕ → ℕ → ℕ) (k : ℕ) (x : Location) → RangedPrint (footprintOf (both f (mmxRegister k) x) s)
   ranged-both f k x =
-      unmarked (s .machine .em) (s .machine .ts) (s .machine .pending) (via (both f (mmxRegister k) x)) _
+      unmarked (s .em) (s .ts) (s .pending) (via (both f (mmxRegister k) x)) _
       (joined f k x (placesOf s x) (ranged-places s x))
 
   ranged-bare : (kind : Kind) → RangedPrint (footprintOf (bare kind) s)
   ranged-bare kind =
-      unmarked (s .machine .em) (s .machine .ts) (s .machine .pending) [] _ (record { reads = no-bytes; writes = no-bytes })
+      unmarked (s .em) (s .ts) (s .pending) [] _ (record { reads = no-bytes; writes = no-bytes })
 
   module _ (entry : Entry) (w : Operand) (immediate : ℕ) where
     ranged-form : (form : Form) → RangedPrint (footprintOf (effectBy form entry w immediate) s)

@@ -4,7 +4,7 @@ use Prim.Native.Nat.{ℕ}
 use borrow.Author.Needs.{needs}
 use borrow.Author.Tests.{eq-eqb, ne-eqb}
 use Rattle.lanes.specs.Operations.{operationOf, PSRLW, PSRLD, PSRLQ, PSRAW, PSRAD, PSLLW, PSLLD, PSLLQ, KEEP}
-use Rattle.machine.specs.Instructions.{ofWidth, shiftOf}
+use Rattle.manual.specs.Instructions.{ofWidth, shiftOf}
 
 module _ (lane word doubleword quadword : ℕ) where
   pub width-word : lane ≡ 16 → operationOf word ≡ ofWidth lane (operationOf word) (operationOf doubleword) (operationOf quadword)

@@ -10,14 +10,14 @@ use Rattle.reorder.specs.Row.{before}
 use Rattle.reorder.specs.Run.{Reading, finished}
 use Rattle.reorder.specs.Block.{piecesOf, rearranged, onBytes}
 use Rattle.codec.specs.declared.Instruction.{Instruction}
-use Rattle.machine.specs.State.{State}
-use Rattle.machine.specs.Instructions.{execute, footprint}
-use Rattle.machine.specs.Runs.{read, runOf}
-use Rattle.machine.specs.Footprints.{footprintInRun}
+use Rattle.manual.specs.State.{State}
+use Rattle.manual.specs.Instructions.{execute, footprint}
+use Rattle.manual.specs.Runs.{read, runOf}
+use Rattle.manual.specs.Footprints.{footprintInRun}
+use Rattle.manual.proofs.Demand3.{demand-3}
 use Rattle.machine.specs.Prints.{meetTest}
 use Rattle.machine.proofs.Ranges.{RangedPrint, ranged}
 use Rattle.machine.proofs.Meeting.{meet-test-exactly}
-use Rattle.machine.proofs.Demand3.{demand-3}
 
 ranged-reading : (o : Result (Reading Instruction)) (s : State) → RangedPrint (andThen o (λ r. footprint (r .instruction) s))
 ranged-reading (done r) s = ranged s (r .instruction)

@@ -6,24 +6,43 @@ use native.Mathlib.Omega.{arith}
 use borrow.Author.Needs.{needs}
 use borrow.Author.Tests.{le-leb, lt-leb, leb-true, leb-false}
 use lib.Dec.{leb}
+use Rattle.reorder.specs.Result.{Result, refused}
+use Rattle.manual.specs.Refusals.{invalidOpcode, notAvailable, isPending}
+use Rattle.manual.specs.Effects.{unlessMarked}
 use Rattle.machine.specs.Works.{barredBy}
 
 module _ (em ts pending : Bool) where
-  pub barred-em : em ≡ true → 7 ≡ barredBy em ts pending
+  pub barred-em : em ≡ true → invalidOpcode ≡ barredBy em ts pending
   unfolding barredBy
   barred-em e = simp e
 
-  pub barred-ts : em ≡ false → ts ≡ true → 8 ≡ barredBy em ts pending
+  pub barred-ts : em ≡ false → ts ≡ true → notAvailable ≡ barredBy em ts pending
   unfolding barredBy
   barred-ts e t = simp (e, t)
 
-  pub barred-pending : em ≡ false → ts ≡ false → pending ≡ true → 9 ≡ barredBy em ts pending
+  pub barred-pending : em ≡ false → ts ≡ false → pending ≡ true → isPending ≡ barredBy em ts pending
   unfolding barredBy
   barred-pending e t p = simp (e, t, p)
 
   pub barred-none : em ≡ false → ts ≡ false → pending ≡ false → 0 ≡ barredBy em ts pending
   unfolding barredBy
   barred-none e t p = simp (e, t, p)
+
+-- marks that bar nothing, and some that do
+pub unbarred-by : {A : Type 0} (em ts pending : Bool) (o : Result A) → barredBy em ts pending ≡ 0 → unlessMarked em ts pending o ≡ o
+unfolding barredBy
+unbarred-by true ts pending o h = absurd (omega arith)
+unbarred-by false true pending o h = absurd (omega arith)
+unbarred-by false false true o h = absurd (omega arith)
+unbarred-by false false false o h = refl
+
+pub barred-by : {A : Type 0} (em ts pending : Bool) (o : Result A) → (barredBy em ts pending ≡ 0 → ⊥)
+    → unlessMarked em ts pending o ≡ refused (barredBy em ts pending)
+unfolding barredBy
+barred-by true ts pending o h = refl
+barred-by false true pending o h = refl
+barred-by false false true o h = refl
+barred-by false false false o h = absurd (h refl)
 
 module _ (n a size : ℕ) where
   pub outside : n < size → false ≡ leb (a + size) n

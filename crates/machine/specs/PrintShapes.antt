@@ -1,22 +1,18 @@
 -- The footprint as the program makes it, in masks and ranges: first where an operand is, then what each shape of effect reads and writes.
-use mathlib.Core.Path.{_≡_}
-use mathlib.Core.Bool.{false}
 use mathlib.Core.List.{List, []}
-use Prim.Native.Nat.{ℕ, _^_, _<_}
+use Prim.Native.Nat.{ℕ, _^_}
 use lib.Bits.{bitOr}
-use Rattle.reorder.specs.Result.{Result, done, refused, andThen, mapResult}
+use Rattle.reorder.specs.Result.{Result, done, refused, mapResult}
 use Rattle.reorder.specs.Footprint.{footprintIn}
-use Rattle.codec.specs.Forms.{isAbsent}
-use Rattle.codec.specs.Opcodes.{Entry}
-use Rattle.machine.specs.declared.Kind.the-variants.{Ordinary}
+use Rattle.manual.specs.declared.Kind.the-variants.{Ordinary}
+use Rattle.manual.specs.State.{State}
+use Rattle.manual.specs.Places.{Place, look}
+use Rattle.manual.specs.Locations.{Location, registersBehind}
+use Rattle.manual.specs.Effects.{Effect, placed, via}
 use Rattle.machine.specs.declared.Places.{Places}
 use Rattle.machine.specs.declared.Footprint.{Footprint}
 use Rattle.machine.specs.declared.reaches.Reach.{Reach}
 use Rattle.machine.specs.declared.reaches.Reach.the-variants.{Inside, Refused}
-use Rattle.machine.specs.State.{State}
-use Rattle.machine.specs.Places.{Place, look}
-use Rattle.machine.specs.Locations.{Location, registersBehind}
-use Rattle.machine.specs.Effects.{Effect, placesOfAll, planOn, via}
 use Rattle.machine.specs.Prints.{mask, setOf, print}
 
 abbrev pub nowhere : Places
@@ -52,13 +48,7 @@ abbrev pub computing : ℕ → ℕ → Places → Footprint
 computing register registers p =
     record { reads = through registers (beside register p); writes = beside register nowhere; kind = Ordinary }
 
--- what the table says of an instruction that is read
-pub record Tabled (entry : Entry) : Type 0 where
-  pub present : isAbsent (entry .form) ≡ false
-  pub sized : 0 < entry .size
-
 -- the footprint of an effect that no control mark stops
 unfoldable pub unmarkedPrint : Effect → State → Result Footprint
 unmarkedPrint e s =
-    mapResult print
-    (footprintIn look (via e) s (andThen (placesOfAll s (e .takes)) (λ source. mapResult (planOn e source) (placesOfAll s (e .gives)))))
+    mapResult print (footprintIn look (via e) s (placed e s))

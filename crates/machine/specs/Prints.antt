@@ -7,15 +7,15 @@ use lib.Dec.{eqb, ltb}
 use lib.ListN.{length, getD}
 use Rattle.reorder.specs.Result.{Result, done, refused, mapResult}
 use Rattle.reorder.specs.Footprint as places
-use Rattle.machine.specs.declared.Kind.{Kind}
+use Rattle.manual.specs.declared.Kind.{Kind}
+use Rattle.manual.specs.State.{State}
+use Rattle.manual.specs.Places.{Place, mmx, integer, byte}
+use Rattle.manual.specs.Kinds.{kindsMeet}
+use Rattle.manual.specs.Footprints.{footprintAt}
 use Rattle.machine.specs.declared.Places.{Places}
 use Rattle.machine.specs.declared.Footprint.{Footprint}
 use Rattle.machine.specs.declared.Printed.{Printed}
 use Rattle.machine.specs.declared.Printed.the-variants.{Of, Refused}
-use Rattle.machine.specs.State.{State}
-use Rattle.machine.specs.Places.{Place, mmx, integer, byte}
-use Rattle.machine.specs.Kinds.{kindsMeet}
-use Rattle.machine.specs.Footprints.{footprintAt}
 
 -- the number of a place of one sort, in a list of one or none: MMX registers, integer registers, memory bytes
 

@@ -7,24 +7,24 @@ use Prim.Native.Nat.{ℕ, _%_, _^_, _≤_, _<_}
 use lib.Dec.{eqb}
 use Rattle.lanes.specs.Operations.{operationOf, operate, MOVE}
 use Rattle.words.specs.Buffer.{stored}
-use Rattle.reorder.specs.Result.{Result, andThen, mapResult}
-use Rattle.reorder.specs.Plan.{perform}
 use Rattle.codec.specs.Forms.{absent, loadD, loadQ}
 use Rattle.codec.specs.Opcodes.{Entry}
 use Rattle.codec.specs.Packed.{unpacked}
 use Rattle.codec.specs.declared.Instruction.{Instruction}
-use Rattle.machine.specs.declared.Kind.the-variants.{Ordinary, Emms}
+use Rattle.manual.specs.declared.Kind.the-variants.{Ordinary, Emms}
+use Rattle.manual.specs.Refusals.{invalidOpcode, notAvailable, isPending}
+use Rattle.manual.specs.State.{State, withMemory}
+use Rattle.manual.specs.Places.{mmx, integer, look, put}
+use Rattle.manual.specs.Kinds.{marked}
+use Rattle.manual.specs.Effects.{Effect}
+use Rattle.manual.specs.Instructions.{effectBy}
+use Rattle.manual.specs.Steps.{concluded, Outcome, completed, refusedWith, stepAt}
+use Rattle.manual.proofs.Direct.{directly}
 use Rattle.machine.specs.declared.Machine.{Machine}
 use Rattle.machine.specs.declared.gathering.Marks.{Marks}
 use Rattle.machine.specs.declared.gathering.Work.{Work}
 use Rattle.machine.specs.declared.stepping.Moved.{Moved}
-use Rattle.machine.specs.Refusals.{invalidOpcode, notAvailable, isPending}
-use Rattle.machine.specs.State.{State, stateOf}
-use Rattle.machine.specs.Places.{mmx, integer, look, put}
-use Rattle.machine.specs.Kinds.{marked}
-use Rattle.machine.specs.Effects.{Effect, placesOfAll, planOn}
-use Rattle.machine.specs.Instructions.{effectBy}
-use Rattle.machine.specs.Steps.{concluded, Outcome, completed, refusedWith, stepAt}
+use Rattle.machine.specs.State.{stateOf}
 
 -- lent registers and marks
 abbrev pub machineOf : List ℕ → List ℕ → Marks → Machine
@@ -35,18 +35,14 @@ machineOf registers integers marks =
 unfoldable pub barredBy : Bool → Bool → Bool → ℕ
 barredBy em ts pending = cond em invalidOpcode (cond ts notAvailable (cond pending isPending 0))
 
--- an effect whose control marks have been tested
-abbrev pub unbarred : Effect → State → Result State
-unbarred e s =
-    perform look put marked s (andThen (placesOfAll s (e .takes)) (λ source. mapResult (planOn e source) (placesOfAll s (e .gives))))
-
 -- the effect of an instruction by the table's number for it
 abbrev pub effectIn : ℕ → Instruction → Effect
 effectIn number i = let entry = unpacked number in effectBy (entry .form) entry (i .operand) (i .immediate)
 
--- what is said of every entry that is read: its form is there, its operand has at most 8 bytes, and a load moves
+-- what is said of every entry that is read: its form is there, its operand has one to 8 bytes, and a load moves
 pub record Listed (entry : Entry) : Type 0 where
   pub present : entry .form ≡ absent → ⊥
+  pub sized : 0 < entry .size
   pub small : entry .size ≤ 8
   pub moves-D : entry .form ≡ loadD → entry .operation ≡ MOVE
   pub moves-Q : entry .form ≡ loadQ → entry .operation ≡ MOVE
@@ -74,7 +70,7 @@ performed work at s =
     cond (eqb (work .what) toOperate)
     (completed (work .next) (marked Ordinary (put s (mmx (work .place)) (operate (operationOf (work .number)) (look s (mmx (work .place))) (work .value)))))
     (cond (eqb (work .what) toStore)
-    (completed (work .next) (marked Ordinary (stateOf (s .machine) (stored (s .memory) (work .place) (work .number) (work .value)))))
+    (completed (work .next) (marked Ordinary (withMemory s (stored (s .memory) (work .place) (work .number) (work .value)))))
     (cond (eqb (work .what) toMove) (completed (work .next) (marked Ordinary (put s (integer (work .place)) (work .value % 2 ^ 32))))
     (cond (eqb (work .what) toEmpty) (completed (work .next) (marked Emms s))
     (refusedWith (work .number) at s))))
@@ -88,7 +84,7 @@ pub record Sound (work : Work) : Type 0 where
 -- with these registers and this memory a work does what an effect does, whatever the marks and the position, and goes on at `next`
 pub record Does (work : Work) (registers integers memory : List ℕ) (e : Effect) (next : ℕ) : Type 0 where
   pub sound : Sound work
-  pub does : (marks : Marks) (at : ℕ) → let s = stateOf (machineOf registers integers marks) memory in performed work at s ≡ concluded at next s (unbarred e s)
+  pub does : (marks : Marks) (at : ℕ) → let s = stateOf (machineOf registers integers marks) memory in performed work at s ≡ concluded at next s (directly e s)
 
 -- the work of a refusal
 abbrev pub refusedWork : ℕ → Work

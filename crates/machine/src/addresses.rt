@@ -1,14 +1,14 @@
 // The address of an operand in memory: base, index times scale, and displacement, in sums that wrap at 2^32.
-use crate::numbers::BYTE_DISPLACEMENT;
-use crate::numbers::NO_BASE;
-use crate::numbers::NO_DISPLACEMENT;
 use crate::numbers::NO_INDEX;
-use crate::numbers::SIB;
 use codec::Operand;
+use codec::numbers::BYTE_DISPLACEMENT;
+use codec::numbers::NO_BASE;
+use codec::numbers::NO_DISPLACEMENT;
+use codec::numbers::SIB;
 ghost use mathlib.Core.Path.{_≡_};
 ghost use Prim.Native.Nat.{_*_, _^_, _%_, _<_};
 ghost use Rattle.codec.proofs.Given.{Registers};
-ghost use Rattle.machine.specs.Addresses.{displacementOf, baseOf, indexOf, addressOf, registerPart, address};
+ghost use Rattle.manual.specs.Addresses.{displacementOf, baseOf, indexOf, addressOf, registerPart, address};
 
 // The least negative byte, and what extends its sign to 32 bits.
 const SIGN: u32 = 0x80;

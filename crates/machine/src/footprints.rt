@@ -1,35 +1,33 @@
 // The footprint of the step at a position: what each shape reads and writes, by the form, after the tests of the step.
 use crate::Footprint;
-use crate::Kind;
 use crate::Machine;
 use crate::Places;
 use crate::Printed;
-use crate::numbers::EMMS;
-use crate::numbers::FORM;
-use crate::numbers::INVALID_OPCODE;
-use crate::numbers::IS_PENDING;
-use crate::numbers::LOAD_D;
-use crate::numbers::LOAD_Q;
+use crate::gathering;
 use crate::numbers::LONGEST_MEMORY;
 use crate::numbers::MEMORY_TOO_LONG;
-use crate::numbers::NOT_AVAILABLE;
-use crate::numbers::STORE_D;
-use crate::numbers::STORE_Q;
 use crate::reaches;
 use crate::reaches::Reach;
 use codec::Instruction;
 use codec::Reading;
+use codec::numbers::EMMS;
+use codec::numbers::FORM;
+use codec::numbers::LOAD_D;
+use codec::numbers::LOAD_Q;
+use codec::numbers::STORE_D;
+use codec::numbers::STORE_Q;
+use manual::Kind;
 ghost use mathlib.Core.Path.{_≡_};
 ghost use Prim.Native.Nat.{_/_, _^_, _≤_, _<_};
 ghost use Rattle.reorder.specs.Result.{mapResult};
 ghost use Rattle.codec.proofs.Given.{Registers};
 ghost use Rattle.codec.specs.Opcodes.{entryOf};
 ghost use Rattle.codec.specs.Packed.{unpacked};
+ghost use Rattle.manual.specs.Instructions.{footprint};
 ghost use Rattle.machine.specs.State.{stateOf};
-ghost use Rattle.machine.specs.Instructions.{footprint};
 ghost use Rattle.machine.specs.Prints.{print, printAt, printGiven};
-ghost use Rattle.machine.specs.PrintShapes.{storing, loading, computing, Tabled, unmarkedPrint};
-ghost use Rattle.machine.specs.Works.{effectIn};
+ghost use Rattle.machine.specs.PrintShapes.{storing, loading, computing, unmarkedPrint};
+ghost use Rattle.machine.specs.Works.{effectIn, Listed};
 
 // An MMX register is stored in the operand of r/m: what is there is not read.
 fn stored(register: u8, registers: u8, places: Places) -> Footprint
@@ -76,7 +74,7 @@ fn computed(register: u8, registers: u8, places: Places) -> Footprint
 
 // An instruction with two operands.
 fn two_operands(machine: Machine, entry: u32, instruction: Instruction, memory: &[u8]) -> Printed
-    requires { ⌜ Registers (instruction .operand) × (Tabled (unpacked entry) × (4 ≤ entry / 2 ^ 24)) ⌝ }
+    requires { ⌜ Registers (instruction .operand) × (Listed (unpacked entry) × (4 ≤ entry / 2 ^ 24)) ⌝ }
     ensures { λ r. ⌜ printGiven r ≡ unmarkedPrint (effectIn entry instruction) (stateOf machine (now (memory .entry))) ⌝ }
 {
     let operand = instruction.operand;
@@ -96,7 +94,7 @@ fn two_operands(machine: Machine, entry: u32, instruction: Instruction, memory: 
 
 // An instruction that the control marks let pass.
 fn unmarked(machine: Machine, entry: u32, instruction: Instruction, memory: &[u8]) -> Printed
-    requires { ⌜ Registers (instruction .operand) × Tabled (unpacked entry) ⌝ }
+    requires { ⌜ Registers (instruction .operand) × Listed (unpacked entry) ⌝ }
     ensures { λ r. ⌜ printGiven r ≡ unmarkedPrint (effectIn entry instruction) (stateOf machine (now (memory .entry))) ⌝ }
 {
     let form = entry / FORM;
@@ -128,17 +126,12 @@ fn entry_for(second: u8) -> u32
 
 // An instruction that is read: the control marks first.
 fn of_instruction(machine: Machine, instruction: Instruction, memory: &[u8]) -> Printed
-    requires { ⌜ Registers (instruction .operand) × Tabled (entryOf (instruction .second)) ⌝ }
+    requires { ⌜ Registers (instruction .operand) × Listed (entryOf (instruction .second)) ⌝ }
     ensures { λ r. ⌜ printGiven r ≡ mapResult print (footprint instruction (stateOf machine (now (memory .entry)))) ⌝ }
 {
-    if machine.em {
-        return Printed::Refused(INVALID_OPCODE);
-    }
-    if machine.ts {
-        return Printed::Refused(NOT_AVAILABLE);
-    }
-    if machine.pending {
-        return Printed::Refused(IS_PENDING);
+    let bar = gathering::barred(machine.em, machine.ts, machine.pending);
+    if bar != 0 {
+        return Printed::Refused(bar);
     }
     let entry = entry_for(instruction.second);
     unmarked(machine, entry, instruction, memory)

@@ -1,19 +1,19 @@
 // The instruction at a position is read and its operands are gathered; what is left to do is then plain numbers. Nothing is written here.
 use crate::addresses;
-use crate::numbers::EMMS;
-use crate::numbers::FORM;
 use crate::numbers::INVALID_OPCODE;
 use crate::numbers::IS_PENDING;
-use crate::numbers::LANE;
 use crate::numbers::NOT_AVAILABLE;
 use crate::numbers::OUTSIDE_MEMORY;
-use crate::numbers::PART;
-use crate::numbers::REGISTER;
-use crate::numbers::SIZE;
-use crate::numbers::STORE_D;
-use crate::numbers::STORE_Q;
 use crate::shifts;
 use codec::Instruction;
+use codec::numbers::EMMS;
+use codec::numbers::FORM;
+use codec::numbers::LANE;
+use codec::numbers::PART;
+use codec::numbers::REGISTER;
+use codec::numbers::SIZE;
+use codec::numbers::STORE_D;
+use codec::numbers::STORE_Q;
 use lanes::MOVE;
 ghost use mathlib.Core.Path.{_≡_};
 ghost use Prim.Native.Nat.{_+_, _/_, _^_, _≤_};
@@ -21,6 +21,8 @@ ghost use lib.Dec.{leb};
 ghost use lib.ListN.{length};
 ghost use Rattle.codec.proofs.Given.{Registers};
 ghost use Rattle.codec.specs.Packed.{unpacked, packedRows};
+ghost use Rattle.codec.specs.Reads.{longestCode};
+ghost use Rattle.manual.specs.State.{longestMemory};
 ghost use Rattle.machine.specs.Works.{barredBy, effectIn, Listed, Does, Gathered, refusedWork};
 
 // How many values a doubleword has.
@@ -88,7 +90,7 @@ pub(crate) fn barred(em: bool, ts: bool, pending: bool) -> u8
 }
 
 // Whether all bytes of an operand are below the memory's length.
-fn lies_inside(length: usize, address: usize, size: usize) -> bool
+pub(crate) fn lies_inside(length: usize, address: usize, size: usize) -> bool
     ensures { λ r. ⌜ r ≡ leb (address + size) length ⌝ }
 {
     if length < size {
@@ -233,7 +235,7 @@ pub(crate) fn gathered(
     at: usize,
     memory: &[u8],
 ) -> Work
-    requires { ⌜ (now table ≡ packedRows) × ((length (now code) ≤ 4096) × ((length (now memory) ≤ 32768) × (marks .bar ≡ barredBy (marks .em) (marks .ts) (marks .pending)))) ⌝ }
+    requires { ⌜ (now table ≡ packedRows) × ((length (now code) ≤ longestCode) × ((length (now memory) ≤ longestMemory) × (marks .bar ≡ barredBy (marks .em) (marks .ts) (marks .pending)))) ⌝ }
     ensures { λ r. ⌜ Gathered r (now (mmx .entry)) (now (integers .entry)) marks (now (code .entry)) at (now (memory .entry)) ⌝ }
 {
     let found = codec::read_from(table, code, at);

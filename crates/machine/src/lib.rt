@@ -3,7 +3,7 @@ mod addresses;
 mod footprints;
 mod gathering;
 mod meetings;
-mod numbers;
+pub mod numbers;
 mod reaches;
 mod register_masks;
 mod running;
@@ -11,6 +11,7 @@ mod shifts;
 mod starting;
 mod stepping;
 
+use manual::Kind;
 pub use meetings::meets;
 
 // The registers and marks. The memory is lent to each call beside them.
@@ -53,12 +54,6 @@ pub struct Ran {
     pub at: usize,
     pub count: u32,
     pub machine: Machine,
-}
-
-// What an instruction does to the tag mark, and which others it meets wherever they read and write.
-pub enum Kind {
-    Ordinary,
-    Emms,
 }
 
 // Places: registers as masks, bit k for register k, and memory bytes as a range (without bytes it starts at 0).

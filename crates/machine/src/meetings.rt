@@ -1,9 +1,9 @@
 // Whether two footprints meet: by a place that one writes and the other reads or writes, or by their kinds.
 use crate::Footprint;
-use crate::Kind;
 use crate::Places;
+use manual::Kind;
 ghost use mathlib.Core.Path.{_≡_};
-ghost use Rattle.machine.specs.Kinds.{kindsMeet};
+ghost use Rattle.manual.specs.Kinds.{kindsMeet};
 ghost use Rattle.machine.specs.Prints.{overlap, share, meet};
 
 // Two ranges of bytes have one in common. No sum is formed, so nothing overflows.

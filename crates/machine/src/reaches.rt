@@ -2,22 +2,24 @@
 use crate::Machine;
 use crate::Places;
 use crate::addresses;
-use crate::numbers::FORM;
-use crate::numbers::LOAD_D;
+use crate::gathering;
 use crate::numbers::OUTSIDE_MEMORY;
-use crate::numbers::PART;
-use crate::numbers::REGISTER;
-use crate::numbers::SIZE;
 use crate::register_masks;
 use codec::Operand;
+use codec::numbers::FORM;
+use codec::numbers::LOAD_D;
+use codec::numbers::PART;
+use codec::numbers::REGISTER;
+use codec::numbers::SIZE;
 ghost use mathlib.Core.Path.{_≡_};
 ghost use Prim.Native.Nat.{_/_, _^_, _≤_, _<_};
 ghost use Rattle.codec.proofs.Given.{Registers};
 ghost use Rattle.codec.specs.Packed.{unpacked};
+ghost use Rattle.manual.specs.Addresses.{addressOf, address};
+ghost use Rattle.manual.specs.Locations.{memory, rmOf, tested, placesOf};
 ghost use Rattle.machine.specs.State.{stateOf};
-ghost use Rattle.machine.specs.Addresses.{addressOf, address};
-ghost use Rattle.machine.specs.Locations.{memory, rmOf, tested, placesOf};
-ghost use Rattle.machine.specs.PrintShapes.{beside, through, reachOf, Tabled};
+ghost use Rattle.machine.specs.PrintShapes.{beside, through, reachOf};
+ghost use Rattle.machine.specs.Works.{Listed};
 
 // No places.
 pub(crate) const NOWHERE: Places = Places {
@@ -64,10 +66,7 @@ fn reach_bytes(integers: &[u32; 8], operand: Operand, size: usize, length: usize
     ensures { λ r. ⌜ r ≡ reachOf (memory (addressOf operand) size) (tested length size (address (now (integers .entry)) (addressOf operand))) ⌝ }
 {
     let start = addresses::address_of(integers, operand) as usize;
-    if length < size {
-        return Reach::Refused(OUTSIDE_MEMORY);
-    }
-    if length - size < start {
+    if !gathering::lies_inside(length, start, size) {
         return Reach::Refused(OUTSIDE_MEMORY);
     }
     let registers = register_masks::address_mask(operand);
@@ -82,7 +81,7 @@ fn reach_bytes(integers: &[u32; 8], operand: Operand, size: usize, length: usize
 
 // The operand that r/m names: MOVD's register is an integer register.
 pub(crate) fn reach_operand(machine: Machine, entry: u32, operand: Operand, memory: &[u8]) -> Reach
-    requires { ⌜ Registers operand × (Tabled (unpacked entry) × (4 ≤ entry / 2 ^ 24)) ⌝ }
+    requires { ⌜ Registers operand × (Listed (unpacked entry) × (4 ≤ entry / 2 ^ 24)) ⌝ }
     ensures { λ r. ⌜ r ≡ reachOf (rmOf (unpacked entry) operand) (placesOf (stateOf machine (now (memory .entry))) (rmOf (unpacked entry) operand)) ⌝ }
 {
     if operand.mode != REGISTER {

@@ -1,13 +1,13 @@
 // Register sets as masks: one register, and those that an address is made of.
-use crate::numbers::NO_BASE;
-use crate::numbers::NO_DISPLACEMENT;
 use crate::numbers::NO_INDEX;
-use crate::numbers::SIB;
 use codec::Operand;
+use codec::numbers::NO_BASE;
+use codec::numbers::NO_DISPLACEMENT;
+use codec::numbers::SIB;
 ghost use mathlib.Core.Path.{_≡_};
 ghost use Prim.Native.Nat.{_^_, _<_};
 ghost use Rattle.codec.proofs.Given.{Registers};
-ghost use Rattle.machine.specs.Addresses.{baseOf, indexOf, addressOf, registersOf, addressRegisters};
+ghost use Rattle.manual.specs.Addresses.{baseOf, indexOf, addressOf, registersOf, addressRegisters};
 ghost use Rattle.machine.specs.Prints.{mask};
 
 // The mask of one register.

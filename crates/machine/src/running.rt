@@ -4,14 +4,15 @@ use crate::Machine;
 use crate::Ran;
 use crate::gathering;
 use crate::gathering::Marks;
-use crate::numbers::CODE_TOO_LONG;
-use crate::numbers::LONGEST_CODE;
 use crate::numbers::LONGEST_MEMORY;
 use crate::numbers::MEMORY_TOO_LONG;
 use crate::stepping;
+use codec::numbers::CODE_TOO_LONG;
+use codec::numbers::LONGEST_CODE;
 ghost use mathlib.Core.Path.{_≡_};
+ghost use Rattle.manual.specs.Runs.{runOf};
 ghost use Rattle.machine.specs.State.{stateOf};
-ghost use Rattle.machine.specs.Runs.{answered, runOf};
+ghost use Rattle.machine.specs.Runs.{answered};
 
 impl Machine {
     // The instructions from position 0 on.

@@ -1,4 +1,7 @@
 // The operations of the shifts by an immediate, 71 to 73.
+use codec::numbers::LEFT;
+use codec::numbers::RIGHT;
+use codec::numbers::RIGHT_SIGNED;
 use lanes::KEEP;
 use lanes::PSLLD;
 use lanes::PSLLQ;
@@ -10,14 +13,7 @@ use lanes::PSRLQ;
 use lanes::PSRLW;
 ghost use mathlib.Core.Path.{_≡_};
 ghost use Rattle.lanes.specs.Operations.{operationOf};
-ghost use Rattle.machine.specs.Instructions.{ofWidth, shiftOf};
-
-// The digits in reg.
-const RIGHT: u8 = 2;
-
-const RIGHT_SIGNED: u8 = 4;
-
-const LEFT: u8 = 6;
+ghost use Rattle.manual.specs.Instructions.{ofWidth, shiftOf};
 
 // The lanes' widths.
 const WORD: u8 = 16;

@@ -4,16 +4,19 @@ use crate::Stepped;
 use crate::Taken;
 use crate::gathering;
 use crate::gathering::Marks;
-use crate::numbers::CODE_TOO_LONG;
-use crate::numbers::LONGEST_CODE;
 use crate::numbers::LONGEST_MEMORY;
 use crate::numbers::MEMORY_TOO_LONG;
+use codec::numbers::CODE_TOO_LONG;
+use codec::numbers::LONGEST_CODE;
 ghost use mathlib.Core.Path.{_≡_};
 ghost use Prim.Native.Nat.{_%_, _^_, _≤_, _<_};
 ghost use lib.ListN.{length, set};
 ghost use Rattle.codec.specs.Packed.{packedRows};
+ghost use Rattle.codec.specs.Reads.{longestCode};
+ghost use Rattle.manual.specs.State.{longestMemory};
+ghost use Rattle.manual.specs.Steps.{stepAt};
 ghost use Rattle.machine.specs.State.{stateOf};
-ghost use Rattle.machine.specs.Steps.{outcome, stepAt};
+ghost use Rattle.machine.specs.Steps.{outcome};
 ghost use Rattle.machine.specs.Works.{machineOf, barredBy, renewedWith, endedAs};
 
 // How a step ended: the refusal or 0, the position and the tag mark after it.
@@ -41,7 +44,7 @@ pub(crate) fn advance(
     at: usize,
     memory: &mut [u8],
 ) -> Moved
-    requires { ⌜ (now table ≡ packedRows) × ((length (now code) ≤ 4096) × ((length (now memory) ≤ 32768) × (marks .bar ≡ barredBy (marks .em) (marks .ts) (marks .pending)))) ⌝ }
+    requires { ⌜ (now table ≡ packedRows) × ((length (now code) ≤ longestCode) × ((length (now memory) ≤ longestMemory) × (marks .bar ≡ barredBy (marks .em) (marks .ts) (marks .pending)))) ⌝ }
     ensures { λ r. ⌜ endedAs r (now (mmx .exit)) (now (integers .exit)) marks (now (memory .exit)) ≡ stepAt (now (code .entry)) at (stateOf (machineOf (now (mmx .entry)) (now (integers .entry)) marks) (now (memory .entry))) ⌝ }
 {
     let work = gathering::gathered(table, mmx, integers, marks, code, at, memory);

@@ -3,8 +3,8 @@ use mathlib.Core.Path.{_≡_}
 use Prim.Native.Nat.{_-_, _≤_}
 use borrow.Author.Needs.{needs}
 use lib.ListN.{length}
+use Rattle.manual.specs.Runs.{runOf}
 use Rattle.machine.specs.State.{stateOf}
-use Rattle.machine.specs.Runs.{runOf}
 use Rattle.machine.specs.Works.{renewedWith}
 use Rattle.machine.proofs.Budgets.{remaining, starting, turning}
 use Rattle.machine.proofs.Machine.run.Statement.{statement}

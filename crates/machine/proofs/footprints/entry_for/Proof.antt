@@ -1,5 +1,5 @@
 -- An entry: our table has every row.
-use Rattle.machine.proofs.PrintEntries.{print-entries}
+use Rattle.machine.proofs.Listing.{looking-up}
 use Rattle.machine.proofs.footprints.entry_for.Statement.{statement}
 use Rattle.machine.proofs.footprints.entry_for.Tie as tie
 
@@ -7,7 +7,7 @@ pub entry-for-spec : {M : Type 1} → statement M
 entry-for-spec =
     tie.close
     (tie.spec
-    (λ c κs. search print-entries)
-    (λ c. search print-entries)
-    (λ c. search print-entries)
-    (λ c. search print-entries))
+    (λ c κs. search looking-up)
+    (λ c. search looking-up)
+    (λ c. search looking-up)
+    (λ c. search looking-up))

@@ -1,4 +1,4 @@
--- The control marks, EM before TS before pending.
+-- The control marks, then the instruction.
 use Rattle.machine.proofs.PrintTests.{print-marks}
 use Rattle.machine.proofs.footprints.of_instruction.Statement.{statement}
 use Rattle.machine.proofs.footprints.of_instruction.Tie as tie
@@ -7,8 +7,7 @@ pub of-instruction-spec : {M : Type 1} → statement M
 of-instruction-spec =
     tie.close
     (tie.spec
-    (λ c. search print-marks)
-    (λ c. search print-marks)
+    (λ c κs. search print-marks)
     (λ c. search print-marks)
     (λ c κs. search print-marks)
     (λ c κs. search print-marks)

@@ -9,7 +9,7 @@ reach-bytes-spec =
     (tie.spec
     (λ c κs. search print-bytes)
     (λ c. search print-bytes)
-    (λ c. search print-bytes)
+    (λ c κs. search print-bytes)
     (λ c. search print-bytes)
     (λ c κs. search print-bytes)
     (λ c. search print-bytes))

@@ -1,0 +1,52 @@
+-- The examples hold: the definitions compute them.
+use mathlib.Core.Path.{_≡_, refl}
+use mathlib.Core.Bool.{true, false}
+use mathlib.Core.List.{[], _∷_, flatten, map}
+use lib.Dec.{T}
+use Rattle.lanes.specs.Lane.{lane, build, register}
+use Rattle.lanes.specs.Signed.{signed, wrap, clamp, clampSigned, clampUnsigned}
+use Rattle.lanes.specs.Rules.{packed, pairwise, sum, sumSigned, sumUnsigned, greater, productHigh, productSum, pack, unpack, shift, left, right, rightSigned}
+use Rattle.lanes.specs.Operations.{operate}
+use Rattle.reorder.specs.Run.{finished}
+use Rattle.reorder.specs.Block.{rearranged}
+use Rattle.codec.specs.Forms.{allows}
+use Rattle.codec.specs.Opcodes.{entryOf}
+use Rattle.codec.specs.Operands.{hasSib, displacementSize}
+use Rattle.codec.specs.Reads.{immediateReader, displacementReader, sibReader, modrmReader, formReader, refusalOf, secondReader, instructionReader, readAt}
+use Rattle.codec.specs.Fits.{all}
+use Rattle.manual.specs.Addresses.{displacementOf, baseOf, indexOf, addressOf, address}
+use Rattle.manual.specs.Locations.{rmOf}
+use Rattle.manual.specs.Instructions.{shiftOf, effectAt, execute, footprint}
+use Rattle.manual.specs.Steps.{instructionAt, stepAt}
+use Rattle.manual.specs.Runs.{read, runOf}
+use Rattle.manual.specs.Footprints.{footprintAt}
+use Rattle.manual.proofs.Plates.{start, plates}
+use Rattle.manual.proofs.Edges.{edges}
+use Rattle.manual.proofs.FootprintTable.{here, footprints}
+use Rattle.manual.proofs.Example as example
+
+pub record Computed : Type 0 where
+  -- document 01's plates, and its edges
+  pub plates : T (all plates)
+  pub edges : T (all edges)
+  -- the customer's example: PADDB MM0, MM1
+  pub customer : runOf (0x0f ∷ 0xfc ∷ 0xc1 ∷ []) 4096 (start 0xff 2 false) ≡ finished 3 1 (start 1 2 true)
+  -- the table of footprints
+  pub footprints : map (λ e. footprintAt (e .0) 0 here) footprints ≡ map (λ e. e .1) footprints
+  -- the example block: its run, and its runs in an allowed and in a forbidden order
+  pub block : runOf example.block 4096 example.start ≡ finished 17 5 example.final
+  pub allowed : runOf (rearranged read example.block example.allowed) 4096 example.start ≡ finished 17 5 example.final
+  pub forbidden : runOf (rearranged read example.block example.forbidden) 4096 example.start ≡ finished 17 5 example.spoilt
+
+pub computed : Computed
+unfolding lane build register signed wrap clamp clampSigned clampUnsigned packed pairwise sum sumSigned sumUnsigned greater productHigh productSum pack unpack shift left right rightSigned operate allows entryOf hasSib displacementSize immediateReader displacementReader sibReader modrmReader formReader refusalOf secondReader instructionReader readAt flatten displacementOf baseOf indexOf addressOf address rmOf shiftOf effectAt execute footprint instructionAt stepAt read runOf footprintAt
+computed =
+    record {
+      plates = tt;
+      edges = tt;
+      customer = refl;
+      footprints = refl;
+      block = refl;
+      allowed = refl;
+      forbidden = refl;
+    }

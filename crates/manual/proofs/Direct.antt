@@ -1,0 +1,141 @@
+-- What an effect of each shape comes to once the control marks are passed, said by its operands' numbers: by cases on where the operands are.
+use mathlib.Core.Path.{_≡_, refl, sym, ap, ap₂, _∙_}
+use mathlib.Core.Bool.{Bool, true, false, cond}
+use mathlib.Core.List.{List, [], _∷_, _++_, append-nil}
+use Prim.Native.Nat.{ℕ, zero, suc, _+_, _/_, _%_}
+use native.Mathlib.Omega.{arith}
+use lib.ListN.{length, getD, take}
+use lib.Seq.{take-all}
+use Rattle.words.specs.Number.{number, bytes}
+use Rattle.words.specs.Bytewise.{gets, puts}
+use Rattle.words.proofs.Laws.{length-gets}
+use Rattle.reorder.specs.Result.{Result, done, refused, andThen, mapResult}
+use Rattle.reorder.specs.Plan.{Plan, looks, puts as putsAt, perform}
+use Rattle.manual.specs.declared.Kind.{Kind}
+use Rattle.manual.specs.declared.Kind.the-variants.{Ordinary}
+use Rattle.manual.specs.Refusals.{outsideMemory}
+use Rattle.manual.specs.State.{State, withMemory}
+use Rattle.manual.specs.Places.{Place, mmx, integer, byte, look, put}
+use Rattle.manual.specs.Kinds.{marked}
+use Rattle.manual.specs.Addresses.{Address, address}
+use Rattle.manual.specs.Locations.{Location, mmxRegister, integerRegister, memory, bytesFrom, fits, placesOf}
+use Rattle.manual.specs.Effects.{Effect, width, valueIn, contentsOf, unlessMarked, planOn, placed, perform as performs}
+use Rattle.manual.specs.Instructions.{both, move}
+
+-- an effect whose control marks are passed
+abbrev pub directly : Effect → State → Result State
+directly e s = perform look put marked s (placed e s)
+
+-- the places of a list of one operand
+abbrev pub one : Result (List Place) → Result (List Place)
+one places = andThen places (λ ps. mapResult (λ qs. ps ++ qs) (done []))
+
+module _ (s : State) where
+  abbrev inside : Address → ℕ → Bool
+  inside a size = fits (length (s .memory)) size (address (s .integers) a)
+
+  -- the number that an operand has
+  abbrev pub valueAt : Location → Result ℕ
+  valueAt (mmxRegister r) = done (getD (s .mmx) r 0)
+  valueAt (integerRegister r) = done (getD (s .integers) r 0)
+  valueAt (memory a size) = cond (inside a size) (done (number (gets size (s .memory) (address (s .integers) a)))) (refused outsideMemory)
+
+  -- the state that a number leaves in an operand, with the tag mark valid
+  abbrev pub putAt : Location → ℕ → Result State
+  putAt (mmxRegister r) value = done (marked Ordinary (put s (mmx r) value))
+  putAt (integerRegister r) value = done (marked Ordinary (put s (integer r) value))
+  putAt (memory a size) value =
+      cond (inside a size) (done (marked Ordinary (withMemory s (puts (s .memory) (address (s .integers) a) (bytes size value))))) (refused outsideMemory)
+
+  -- the bytes of an operand in memory, looked at
+  looks-bytes : (size a : ℕ) → looks look s (bytesFrom a size) ≡ gets size (s .memory) a
+  looks-bytes zero a = refl
+  looks-bytes (suc size) a = ap (λ (l : List ℕ). getD (s .memory) a 0 ∷ l) (looks-bytes size (a + 1))
+
+  take-bytes : (size a : ℕ) → number (take size (looks look s (bytesFrom a size))) ≡ number (gets size (s .memory) a)
+  take-bytes size a =
+      ap number (ap (take size) (looks-bytes size a) ∙ take-all size (gets size (s .memory) a) (omega (arith, length-gets size (s .memory) a)))
+
+  -- an operand that is taken, alone or as the last one
+  abbrev Taken : Location → Result ℕ → Result (List Place) → Type 0
+  Taken x (done v) (done ps) = valueIn x (take (width x) (looks look s (ps ++ []))) ≡ v
+  Taken x (done v) (refused n) = ⊥
+  Taken x (refused n) (done ps) = ⊥
+  Taken x (refused n) (refused n′) = n ≡ n′
+
+  taken : (x : Location) → Taken x (valueAt x) (placesOf s x)
+  taken (mmxRegister r) = refl
+  taken (integerRegister r) = refl
+  taken (memory a size) = by (inside a size) (address (s .integers) a)
+    where
+      by : (t : Bool) (p : ℕ)
+          → Taken (memory a size) (cond t (done (number (gets size (s .memory) p))) (refused outsideMemory)) (cond t (done (bytesFrom p size)) (refused outsideMemory))
+      by true p = ap (λ (l : List Place). number (take size (looks look s l))) (append-nil (bytesFrom p size)) ∙ take-bytes size p
+      by false p = refl
+
+  -- an operand that is given
+  abbrev Given : Location → ℕ → Result State → Result (List Place) → Type 0
+  Given x v o (done ps) = o ≡ done (marked Ordinary (putsAt put s (ps ++ []) (contentsOf x v ++ [])))
+  Given x v o (refused n) = o ≡ refused n
+
+-- bytes put one by one
+put-bytes : (size v : ℕ) (s : State) (a : ℕ) → putsAt put s (bytesFrom a size) (bytes size v) ≡ withMemory s (puts (s .memory) a (bytes size v))
+put-bytes zero v s a = refl
+put-bytes (suc size) v s a = put-bytes size (v / 256) (put s (byte a) (v % 256)) (a + 1)
+
+module _ (s : State) where
+  given : (x : Location) (v : ℕ) → Given s x v (putAt s x v) (placesOf s x)
+  given (mmxRegister r) v = refl
+  given (integerRegister r) v = refl
+  given (memory a size) v = by (inside s a size) (address (s .integers) a)
+    where
+      by : (t : Bool) (p : ℕ)
+          → Given s (memory a size) v (cond t (done (marked Ordinary (withMemory s (puts (s .memory) p (bytes size v))))) (refused outsideMemory)) (cond t (done (bytesFrom p size)) (refused outsideMemory))
+      by true p =
+          ap (λ (u : State). done (marked Ordinary u)) (sym (put-bytes size v s p))
+          ∙ ap₂ (λ (ps : List Place) (vs : List ℕ). done (marked Ordinary (putsAt put s ps vs))) (sym (append-nil (bytesFrom p size))) (sym (append-nil (bytes size v)))
+      by false p = refl
+
+  -- what an effect comes to once its operands' places are known
+  opened : Effect → Result (List Place) → Result (List Place) → Result State
+  opened e sources targets = perform look put marked s (andThen sources (λ ps. mapResult (planOn e ps) targets))
+
+  moves : (f : ℕ → ℕ) (d x : Location) (u : Result ℕ) (ps qs : Result (List Place)) → Taken s x u ps → ((v : ℕ) → Given s d v (putAt s d v) qs)
+      → opened (move f d x) (one ps) (one qs) ≡ andThen u (λ v. putAt s d (f v))
+  unfolding opened
+  moves f d x (done v) (done ps) (done qs) t g =
+      ap (λ (y : ℕ). done (marked Ordinary (putsAt put s (qs ++ []) (contentsOf d (f y) ++ [])))) t ∙ sym (g (f v))
+  moves f d x (done v) (done ps) (refused n) t g = sym (g (f v))
+  moves f d x (refused n) (refused n′) qs t g = ap refused (sym t)
+  moves f d x (done v) (refused n) qs t g = absurd t
+  moves f d x (refused n) (done ps) qs t g = absurd t
+
+  -- a destination made from the source alone
+  pub move-direct : (f : ℕ → ℕ) (d x : Location) → directly (move f d x) s ≡ andThen (valueAt s x) (λ v. putAt s d (f v))
+  unfolding opened
+  move-direct f d x = moves f d x (valueAt s x) (placesOf s x) (placesOf s d) (taken s x) (given d)
+
+  operates : (f : ℕ → ℕ → ℕ) (r : ℕ) (x : Location) (u : Result ℕ) (ps : Result (List Place)) → Taken s x u ps
+      → opened (both f (mmxRegister r) x) (mapResult (λ qs. mmx r ∷ qs) (one ps)) (done (mmx r ∷ [])) ≡ andThen u (λ v. putAt s (mmxRegister r) (f (getD (s .mmx) r 0) v))
+  unfolding opened
+  operates f r x (done v) (done ps) t = ap (λ (y : ℕ). putAt s (mmxRegister r) (f (getD (s .mmx) r 0) y)) t
+  operates f r x (refused n) (refused n′) t = ap refused (sym t)
+  operates f r x (done v) (refused n) t = absurd t
+  operates f r x (refused n) (done ps) t = absurd t
+
+  -- a register made from the register and the source
+  pub both-direct : (f : ℕ → ℕ → ℕ) (r : ℕ) (x : Location)
+      → directly (both f (mmxRegister r) x) s ≡ andThen (valueAt s x) (λ v. putAt s (mmxRegister r) (f (getD (s .mmx) r 0) v))
+  unfolding opened
+  both-direct f r x = operates f r x (valueAt s x) (placesOf s x) (taken s x)
+
+  -- the control marks go first
+  pub marks-first : (e : Effect) → performs e s ≡ unlessMarked (s .em) (s .ts) (s .pending) (directly e s)
+  marks-first e = by (s .em) (s .ts) (s .pending) (placed e s)
+    where
+      by : (em ts pending : Bool) (o : Result (Plan Place Kind))
+          → perform look put marked s (unlessMarked em ts pending o) ≡ unlessMarked em ts pending (perform look put marked s o)
+      by true ts pending o = refl
+      by false true pending o = refl
+      by false false true o = refl
+      by false false false o = refl

@@ -1,0 +1,198 @@
+-- Each refusal of a step is given exactly when there is its reason: the tests stand in document 01's order, and the operand test is the last.
+use mathlib.Core.Path.{_≡_, refl, sym, ap, subst, _∙_}
+use mathlib.Core.Logic.{_↔_, _⊎_, inl, inr}
+use mathlib.Core.Bool.{Bool, true, false, cond, false≢true}
+use mathlib.Core.List.{List, [], _∷_, _++_, List·Memᴰ as In, List·Memᴰ·head as here, List·Memᴰ·tail as there}
+use Prim.Native.Nat.{ℕ, _+_}
+use borrow.Author.Tests.{leb-false, lt-leb}
+use lib.ListN.{length}
+use Rattle.reorder.specs.Result.{Result, done, refused, andThen, mapResult, caseOf}
+use Rattle.reorder.specs.Plan.{looks, perform}
+use Rattle.codec.specs.Forms.{Form, absent, emms, shiftWD, shiftQ, storeD, loadD, storeQ, loadQ, usual}
+use Rattle.codec.specs.Opcodes.{Entry, entryOf}
+use Rattle.codec.specs.Answers as found
+use Rattle.codec.specs.Reads.{readAt}
+use Rattle.codec.specs.declared.Operand.{Operand}
+use Rattle.codec.specs.declared.Instruction.{Instruction}
+use Rattle.codec.proofs.Exactly.{reading-exactly}
+use Rattle.manual.specs.Refusals.{memoryTooLong, outsideMemory}
+use Rattle.manual.specs.State.{State, isTooLong}
+use Rattle.manual.specs.Places.{Place, look, put}
+use Rattle.manual.specs.Kinds.{marked}
+use Rattle.manual.specs.Addresses.{address}
+use Rattle.manual.specs.Locations.{Location, mmxRegister, integerRegister, memory, fits, bytesFrom, placesOf}
+use Rattle.manual.specs.Effects.{placesOfAll, valuesIn, planOn, plan, unlessMarked}
+use Rattle.manual.specs.Instructions.{effectBy, effectAt, effectOf, execute}
+use Rattle.manual.specs.Steps.{refusedWith, resultOf, concluded, instructionAt, stepAt}
+use Rattle.manual.specs.Reasons.{Stands, Outside, Reason, one, reading, seven, eight, nine, ten}
+
+-- Operands: the only refusal is 10, and it is given exactly where one of them is outside
+
+outside-refused : (s : State) (x : Location) → Outside s x → placesOf s x ≡ refused outsideMemory
+outside-refused s x o =
+    ap (placesOf s) (o .operand)
+    ∙ ap (λ (t : Bool). cond t (done (bytesFrom (address (s .integers) (o .at)) (o .size))) (refused outsideMemory)) (lt-leb _ _ (o .past))
+
+refused-outside : (s : State) (x : Location) (n : ℕ) → placesOf s x ≡ refused n → (n ≡ outsideMemory) × Outside s x
+refused-outside s (mmxRegister k) n e = absurd (false≢true (cc))
+refused-outside s (integerRegister k) n e = absurd (false≢true (cc))
+refused-outside s (memory a size) n e = by (fits (length (s .memory)) size (address (s .integers) a)) refl e
+  where
+    by : (t : Bool) → fits (length (s .memory)) size (address (s .integers) a) ≡ t
+        → cond t (done (bytesFrom (address (s .integers) a) size)) (refused outsideMemory) ≡ refused n → (n ≡ outsideMemory) × Outside s (memory a size)
+    by true t e = absurd (false≢true (cc))
+    by false t e = (cc, record { at = a; size = size; operand = refl; past = leb-false _ _ t })
+
+all-refused : (s : State) (xs : List Location) (x : Location) → In x xs → Outside s x → placesOfAll s xs ≡ refused outsideMemory
+all-refused s (y ∷ ys) x (here e) o =
+    ap (λ r. andThen r (λ ps. mapResult (λ qs. ps ++ qs) (placesOfAll s ys))) (ap (placesOf s) (sym e) ∙ outside-refused s x o)
+all-refused s (y ∷ ys) x (there m) o = by (placesOf s y) refl (all-refused s ys x m o)
+  where
+    by : (r : Result (List Place)) → placesOf s y ≡ r → placesOfAll s ys ≡ refused outsideMemory
+        → andThen r (λ ps. mapResult (λ qs. ps ++ qs) (placesOfAll s ys)) ≡ refused outsideMemory
+    by (done ps) e rest = ap (mapResult (λ qs. ps ++ qs)) rest
+    by (refused n) e rest = ap refused (refused-outside s y n e .0)
+
+-- an operand among these that is outside
+record OneOutside (s : State) (xs : List Location) (n : ℕ) : Type 0 where
+  number : n ≡ outsideMemory
+  operand : Location
+  among : In operand xs
+  outside : Outside s operand
+
+refused-all : (s : State) (xs : List Location) (n : ℕ) → placesOfAll s xs ≡ refused n → OneOutside s xs n
+refused-all s [] n e = absurd (false≢true (cc))
+refused-all s (y ∷ ys) n e = first (placesOf s y) refl (refused-all s ys n) e
+  where
+    rest : (r : Result (List Place)) (ps : List Place) → placesOfAll s ys ≡ r → (placesOfAll s ys ≡ refused n → OneOutside s ys n)
+        → mapResult (λ qs. ps ++ qs) r ≡ refused n → OneOutside s (y ∷ ys) n
+    rest (done qs) ps e further h = absurd (false≢true (cc))
+    rest (refused m) ps e further h =
+        let o = further (cc) in
+        record { number = o .number; operand = o .operand; among = there (o .among); outside = o .outside }
+
+    first : (r : Result (List Place)) → placesOf s y ≡ r → (placesOfAll s ys ≡ refused n → OneOutside s ys n)
+        → andThen r (λ ps. mapResult (λ qs. ps ++ qs) (placesOfAll s ys)) ≡ refused n → OneOutside s (y ∷ ys) n
+    first (done ps) e further h = rest (placesOfAll s ys) ps refl further h
+    first (refused m) e further h =
+        let o = refused-outside s y m e in
+        let same : m ≡ n = cc in
+        record { number = sym same ∙ o .0; operand = y; among = here refl; outside = o .1 }
+
+-- what an instruction computes is never refused
+makes : (form : Form) (entry : Entry) (w : Operand) (immediate : ℕ) (values : List ℕ)
+    → (out : List ℕ) × (effectBy form entry w immediate .value values ≡ done out)
+makes absent entry w immediate values = (_, refl)
+makes emms entry w immediate values = (_, refl)
+makes shiftWD entry w immediate values = (_, refl)
+makes shiftQ entry w immediate values = (_, refl)
+makes storeD entry w immediate values = (_, refl)
+makes loadD entry w immediate values = (_, refl)
+makes storeQ entry w immediate values = (_, refl)
+makes loadQ entry w immediate values = (_, refl)
+makes usual entry w immediate values = (_, refl)
+
+-- One instruction
+
+module _ (i : Instruction) (s : State) where
+  abbrev source : Result (List Place)
+  source = placesOfAll s (effectOf i .takes)
+
+  abbrev target : Result (List Place)
+  target = placesOfAll s (effectOf i .gives)
+
+  -- its step, where no control mark is set
+  abbrev unmarked : Result State
+  unmarked = perform look put marked s (andThen source (λ from. mapResult (planOn (effectOf i) from) target))
+
+  -- one of its operands is outside
+  record OperandOutside (n : ℕ) : Type 0 where
+    number : n ≡ outsideMemory
+    operand : Location
+    either : In operand (effectOf i .takes) ⊎ In operand (effectOf i .gives)
+    outside : Outside s operand
+
+  refused-unmarked : (n : ℕ) → unmarked ≡ refused n → OperandOutside n
+  unfolding effectAt
+  refused-unmarked n h = by source target refl refl h
+    where
+      made : (from to : List Place) → perform look put marked s (done (planOn (effectOf i) from to)) ≡ refused n → ⊥
+      made from to h =
+          let entry = entryOf (i .second) in
+          let (out, e) = makes (entry .form) entry (i .operand) (i .immediate) (valuesIn (effectOf i .takes) (looks look s from)) in
+          false≢true (cc (rw e at h))
+
+      by : (a b : Result (List Place)) → source ≡ a → target ≡ b
+          → perform look put marked s (andThen a (λ from. mapResult (planOn (effectOf i) from) b)) ≡ refused n → OperandOutside n
+      by (refused m) b ea eb h =
+          let same : m ≡ n = cc in
+          let o = refused-all s (effectOf i .takes) n (ea ∙ ap refused same) in
+          record { number = o .number; operand = o .operand; either = inl (o .among); outside = o .outside }
+      by (done from) (refused m) ea eb h =
+          let same : m ≡ n = cc in
+          let o = refused-all s (effectOf i .gives) n (eb ∙ ap refused same) in
+          record { number = o .number; operand = o .operand; either = inr (o .among); outside = o .outside }
+      by (done from) (done to) ea eb h = absurd (made from to h)
+
+  outside-unmarked : (x : Location) → In x (effectOf i .takes) ⊎ In x (effectOf i .gives) → Outside s x → unmarked ≡ refused outsideMemory
+  outside-unmarked x (inl m) o =
+      ap (λ a. perform look put marked s (andThen a (λ from. mapResult (planOn (effectOf i) from) target))) (all-refused s (effectOf i .takes) x m o)
+  outside-unmarked x (inr m) o =
+      ap (λ b. perform look put marked s (andThen source (λ from. mapResult (planOn (effectOf i) from) b))) (all-refused s (effectOf i .gives) x m o)
+      ∙ by source refl
+    where
+      by : (a : Result (List Place)) → source ≡ a
+          → perform look put marked s (andThen a (λ from. mapResult (planOn (effectOf i) from) (refused outsideMemory))) ≡ refused outsideMemory
+      by (done from) e = refl
+      by (refused n) e = ap refused (refused-all s (effectOf i .takes) n e .number)
+
+-- The step
+
+-- an instruction stands there: what it comes to
+step-stands : (code : List ℕ) (at : ℕ) (s : State) (i : Instruction) (size : ℕ) → Stands code at s i size
+    → stepAt code at s ≡ concluded at (at + size) s (perform look put marked s (plan (effectOf i) s))
+unfolding stepAt instructionAt execute
+step-stands code at s i size stands = simp (stands .memory-fits, stands .read)
+
+pub step-given : (code : List ℕ) (at : ℕ) (s : State) (n : ℕ) → Reason code at s n → stepAt code at s ≡ refusedWith n at s
+unfolding stepAt instructionAt
+step-given code at s n (one long) = simp long
+step-given code at s n (reading fit r) = simp (fit, reading-exactly code at n .1 r)
+step-given code at s n (seven i size stands em) = step-stands code at s i size stands ∙ simp em
+step-given code at s n (eight i size stands em ts) = step-stands code at s i size stands ∙ simp (em, ts)
+step-given code at s n (nine i size stands em ts pending) = step-stands code at s i size stands ∙ simp (em, ts, pending)
+step-given code at s n (ten i size stands em ts pending x either o) =
+    step-stands code at s i size stands ∙ simp (em, ts, pending) (ap (concluded at (at + size) s) (outside-unmarked i s x either o))
+
+pub step-exactly : (code : List ℕ) (at : ℕ) (s : State) (n : ℕ) → (stepAt code at s ≡ refusedWith n at s) ↔ Reason code at s n
+unfolding stepAt instructionAt execute
+step-exactly code at s n = (λ e. memory-test (isTooLong (s .memory)) refl e, step-given code at s n)
+  where
+    executed : (next : ℕ) (o : Result State) → concluded at next s o ≡ refusedWith n at s → o ≡ refused n
+    executed next (done t) h = absurd (false≢true (cc))
+    executed next (refused m) h = cc
+
+    marks : (i : Instruction) (size : ℕ) → Stands code at s i size → (em ts pending : Bool) → s .em ≡ em → s .ts ≡ ts → s .pending ≡ pending
+        → perform look put marked s (unlessMarked em ts pending (andThen (source i s) (λ from. mapResult (planOn (effectOf i) from) (target i s)))) ≡ refused n
+        → Reason code at s n
+    marks i size stands true ts pending e f g h = subst (Reason code at s) (cc) (seven i size stands e)
+    marks i size stands false true pending e f g h = subst (Reason code at s) (cc) (eight i size stands e f)
+    marks i size stands false false true e f g h = subst (Reason code at s) (cc) (nine i size stands e f g)
+    marks i size stands false false false e f g h =
+        let o = refused-unmarked i s n h in
+        subst (Reason code at s) (sym (o .number)) (ten i size stands e f g (o .operand) (o .either) (o .outside))
+
+    read : (z : found.Answer) → isTooLong (s .memory) ≡ false → readAt code at ≡ z
+        → caseOf (resultOf z) (λ m. refusedWith m at s) (λ r. concluded at (at + r .size) s (execute (r .instruction) s)) ≡ refusedWith n at s
+        → Reason code at s n
+    read (found.refused m) fit e h =
+        let same : m ≡ n = cc in
+        reading fit (reading-exactly code at n .0 (e ∙ ap found.refused same))
+    read (found.good i size) fit e h =
+        marks i size (record { memory-fits = fit; read = e }) (s .em) (s .ts) (s .pending) refl refl refl (executed (at + size) (execute i s) h)
+
+    memory-test : (t : Bool) → isTooLong (s .memory) ≡ t
+        → caseOf (cond t (refused memoryTooLong) (resultOf (readAt code at))) (λ m. refusedWith m at s) (λ r. concluded at (at + r .size) s (execute (r .instruction) s)) ≡ refusedWith n at s
+        → Reason code at s n
+    memory-test true t h = subst (Reason code at s) (cc) (one t)
+    memory-test false t h = read (readAt code at) t refl h

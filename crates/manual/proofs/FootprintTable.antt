@@ -1,0 +1,57 @@
+-- The table of footprints: for each form of instruction, which places its step reads and writes.
+use mathlib.Core.Bool.{false}
+use mathlib.Core.List.{List, [], _∷_}
+use Prim.Native.Nat.{ℕ}
+use lib.ListN.{replicate}
+use Rattle.reorder.specs.Result.{Result, done, refused}
+use Rattle.reorder.specs.Footprint.{Footprint}
+use Rattle.manual.specs.declared.Kind.{Kind}
+use Rattle.manual.specs.declared.Kind.the-variants.{Ordinary, Emms}
+use Rattle.manual.specs.State.{State}
+use Rattle.manual.specs.Places.{Place, mmx, integer}
+use Rattle.manual.specs.Locations.{bytesFrom}
+
+-- 8 in EAX, 2 in ECX, and 32 bytes of memory
+abbrev pub here : State
+here =
+    record { mmx = replicate 8 0; integers = 8 ∷ 2 ∷ replicate 6 0; valid = false; em = false; ts = false; pending = false; memory = replicate 32 0 }
+
+-- an instruction's bytes, and the footprint of its step or the step's refusal
+abbrev Line : Type 0
+Line = List ℕ × Result (Footprint Place Kind)
+
+-- bytes, what the step reads, what it writes
+abbrev uses : List ℕ → List Place → List Place → Line
+uses code reads writes = (code, done (record { reads = reads; writes = writes; kind = Ordinary }))
+
+abbrev pub footprints : List Line
+footprints =
+    -- PADDB MM1, MM2, and PXOR MM1, MM1
+    uses (0x0f ∷ 0xfc ∷ 0xca ∷ []) (mmx 1 ∷ mmx 2 ∷ []) (mmx 1 ∷ [])
+    ∷ uses (0x0f ∷ 0xef ∷ 0xc9 ∷ []) (mmx 1 ∷ mmx 1 ∷ []) (mmx 1 ∷ [])
+    -- PADDB and PUNPCKLBW MM1, [EAX + ECX * 2 + 4]
+    ∷ uses (0x0f ∷ 0xfc ∷ 0x4c ∷ 0x48 ∷ 4 ∷ []) (integer 0 ∷ integer 1 ∷ mmx 1 ∷ bytesFrom 16 8) (mmx 1 ∷ [])
+    ∷ uses (0x0f ∷ 0x60 ∷ 0x4c ∷ 0x48 ∷ 4 ∷ []) (integer 0 ∷ integer 1 ∷ mmx 1 ∷ bytesFrom 16 4) (mmx 1 ∷ [])
+    -- MOVD MM1, EDX, and MM1, [EAX + 4]
+    ∷ uses (0x0f ∷ 0x6e ∷ 0xca ∷ []) (integer 2 ∷ []) (mmx 1 ∷ [])
+    ∷ uses (0x0f ∷ 0x6e ∷ 0x48 ∷ 4 ∷ []) (integer 0 ∷ bytesFrom 12 4) (mmx 1 ∷ [])
+    -- MOVD EDX, MM1, and [EAX + 4], MM1
+    ∷ uses (0x0f ∷ 0x7e ∷ 0xca ∷ []) (mmx 1 ∷ []) (integer 2 ∷ [])
+    ∷ uses (0x0f ∷ 0x7e ∷ 0x48 ∷ 4 ∷ []) (integer 0 ∷ mmx 1 ∷ []) (bytesFrom 12 4)
+    -- MOVQ MM1, MM2, in both forms
+    ∷ uses (0x0f ∷ 0x6f ∷ 0xca ∷ []) (mmx 2 ∷ []) (mmx 1 ∷ [])
+    ∷ uses (0x0f ∷ 0x7f ∷ 0xd1 ∷ []) (mmx 2 ∷ []) (mmx 1 ∷ [])
+    -- MOVQ MM1, [EAX + 4], and [EAX + 4], MM1
+    ∷ uses (0x0f ∷ 0x6f ∷ 0x48 ∷ 4 ∷ []) (integer 0 ∷ bytesFrom 12 8) (mmx 1 ∷ [])
+    ∷ uses (0x0f ∷ 0x7f ∷ 0x48 ∷ 4 ∷ []) (integer 0 ∷ mmx 1 ∷ []) (bytesFrom 12 8)
+    -- PSRLW MM2, 3
+    ∷ uses (0x0f ∷ 0x71 ∷ 0xd2 ∷ 3 ∷ []) (mmx 2 ∷ []) (mmx 2 ∷ [])
+    -- EMMS
+    ∷ (0x0f ∷ 0x77 ∷ [], done (record { reads = []; writes = []; kind = Emms }))
+    -- MOVQ MM1, [EAX + EAX], and MM1, [0]
+    ∷ uses (0x0f ∷ 0x6f ∷ 0x0c ∷ 0x00 ∷ []) (integer 0 ∷ integer 0 ∷ bytesFrom 16 8) (mmx 1 ∷ [])
+    ∷ uses (0x0f ∷ 0x6f ∷ 0x0d ∷ 0 ∷ 0 ∷ 0 ∷ 0 ∷ []) (bytesFrom 0 8) (mmx 1 ∷ [])
+    -- the step's refusal: MOVQ MM1, [EAX + 17], and at the code's end
+    ∷ (0x0f ∷ 0x6f ∷ 0x48 ∷ 17 ∷ [], refused 10)
+    ∷ ([], refused 3)
+    ∷ []

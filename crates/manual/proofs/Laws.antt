@@ -1,0 +1,144 @@
+-- The machine obeys the laws of places, since its places are entries of lists; and its plans go by the address registers alone.
+use mathlib.Core.Path.{_≡_, refl, sym, ap}
+use mathlib.Core.Option.{Option, none, some}
+use mathlib.Core.List.{List, [], _∷_, _++_, List·Memᴰ as In, List·Memᴰ·head as here, Memᴰ·append-left, Memᴰ·append-right, Memᴰ·map}
+use Prim.Native.Nat.{ℕ}
+use lib.ListN.{getD, length-set}
+use lib.Seq.{getD-set-other, set-comm}
+use Rattle.reorder.specs.Result.{andThen, mapResult}
+use Rattle.reorder.proofs.Places.{Laws, Local}
+use Rattle.manual.specs.declared.Kind.{Kind}
+use Rattle.manual.specs.declared.Kind.the-variants.{Ordinary, Emms}
+use Rattle.manual.specs.State.{State, frozen}
+use Rattle.manual.specs.Places.{Place, mmx, integer, byte, look, put}
+use Rattle.manual.specs.Kinds.{marked, KindsMeet}
+use Rattle.manual.specs.Addresses.{Address, registerPart, address, registersOf, addressRegisters}
+use Rattle.manual.specs.Locations.{Location, mmxRegister, integerRegister, memory, tested, placesOf, registersBehind}
+use Rattle.manual.specs.Effects.{placesOfAll, registersBehindAll, addressRegistersOf, unlessMarked, planOn, plan, via}
+use Rattle.manual.proofs.Lists.{set-same, set-alike}
+
+look-other : (s : State) (p q : Place) (v : ℕ) → (p ≡ q → ⊥) → look (put s p v) q ≡ look s q
+look-other s (mmx i) (mmx j) v n = getD-set-other (s .mmx) i j v 0 (λ e. n (ap mmx (sym e)))
+look-other s (mmx i) (integer j) v n = refl
+look-other s (mmx i) (byte j) v n = refl
+look-other s (integer i) (mmx j) v n = refl
+look-other s (integer i) (integer j) v n = getD-set-other (s .integers) i j v 0 (λ e. n (ap integer (sym e)))
+look-other s (integer i) (byte j) v n = refl
+look-other s (byte i) (mmx j) v n = refl
+look-other s (byte i) (integer j) v n = refl
+look-other s (byte i) (byte j) v n = getD-set-other (s .memory) i j v 0 (λ e. n (ap byte (sym e)))
+
+look-same : (s s′ : State) (p : Place) (v : ℕ) → frozen s ≡ frozen s′ → look (put s p v) p ≡ look (put s′ p v) p
+look-same s s′ (mmx i) v f = set-same (s .mmx) (s′ .mmx) i v (λ j. f j .mmx)
+look-same s s′ (integer i) v f = set-same (s .integers) (s′ .integers) i v (λ j. f j .integers)
+look-same s s′ (byte i) v f = set-same (s .memory) (s′ .memory) i v (λ j. f j .memory)
+
+look-alike : (s s′ : State) (p q : Place) (v : ℕ) → frozen s ≡ frozen s′ → look s q ≡ look s′ q → look (put s p v) q ≡ look (put s′ p v) q
+look-alike s s′ (mmx i) (mmx j) v f h = set-alike (s .mmx) (s′ .mmx) i j v (λ j. f j .mmx) h
+look-alike s s′ (mmx i) (integer j) v f h = h
+look-alike s s′ (mmx i) (byte j) v f h = h
+look-alike s s′ (integer i) (mmx j) v f h = h
+look-alike s s′ (integer i) (integer j) v f h = set-alike (s .integers) (s′ .integers) i j v (λ j. f j .integers) h
+look-alike s s′ (integer i) (byte j) v f h = h
+look-alike s s′ (byte i) (mmx j) v f h = h
+look-alike s s′ (byte i) (integer j) v f h = h
+look-alike s s′ (byte i) (byte j) v f h = set-alike (s .memory) (s′ .memory) i j v (λ j. f j .memory) h
+
+put-comm : (s : State) (p q : Place) (v w : ℕ) → (p ≡ q → ⊥) → put (put s p v) q w ≡ put (put s q w) p v
+put-comm s (mmx i) (mmx j) v w n = cc (set-comm (s .mmx) i j v w (λ e. n (ap mmx e)))
+put-comm s (mmx i) (integer j) v w n = refl
+put-comm s (mmx i) (byte j) v w n = refl
+put-comm s (integer i) (mmx j) v w n = refl
+put-comm s (integer i) (integer j) v w n = cc (set-comm (s .integers) i j v w (λ e. n (ap integer e)))
+put-comm s (integer i) (byte j) v w n = refl
+put-comm s (byte i) (mmx j) v w n = refl
+put-comm s (byte i) (integer j) v w n = refl
+put-comm s (byte i) (byte j) v w n = cc (set-comm (s .memory) i j v w (λ e. n (ap byte e)))
+
+look-marked : (s : State) (k : Kind) (q : Place) → look (marked k s) q ≡ look s q
+look-marked s Ordinary (mmx i) = refl
+look-marked s Ordinary (integer i) = refl
+look-marked s Ordinary (byte i) = refl
+look-marked s Emms (mmx i) = refl
+look-marked s Emms (integer i) = refl
+look-marked s Emms (byte i) = refl
+
+put-marked : (s : State) (k : Kind) (q : Place) (v : ℕ) → put (marked k s) q v ≡ marked k (put s q v)
+put-marked s Ordinary (mmx i) v = refl
+put-marked s Ordinary (integer i) v = refl
+put-marked s Ordinary (byte i) v = refl
+put-marked s Emms (mmx i) v = refl
+put-marked s Emms (integer i) v = refl
+put-marked s Emms (byte i) v = refl
+
+marked-comm : (s : State) (a b : Kind) → ¬ KindsMeet a b → marked b (marked a s) ≡ marked a (marked b s)
+marked-comm s Ordinary Ordinary n = refl
+marked-comm s Ordinary Emms n = absurd (n refl)
+marked-comm s Emms Ordinary n = absurd (n refl)
+marked-comm s Emms Emms n = absurd (n refl)
+
+frozen-put : (s : State) (p : Place) (v : ℕ) → frozen (put s p v) ≡ frozen s
+frozen-put s (mmx i) v = cc (length-set (s .mmx) i v)
+frozen-put s (integer i) v = cc (length-set (s .integers) i v)
+frozen-put s (byte i) v = cc (length-set (s .memory) i v)
+
+frozen-marked : (s : State) (k : Kind) → frozen (marked k s) ≡ frozen s
+frozen-marked s Ordinary = refl
+frozen-marked s Emms = refl
+
+pub laws : Laws look put marked frozen KindsMeet
+laws =
+    record {
+      look-other = look-other;
+      look-same = look-same;
+      look-alike = look-alike;
+      put-comm = put-comm;
+      look-marked = look-marked;
+      put-marked = put-marked;
+      marked-comm = marked-comm;
+      frozen-put = frozen-put;
+      frozen-marked = frozen-marked;
+    }
+
+-- two states that agree on what is frozen and on address registers
+module _ (s s′ : State) (same : frozen s ≡ frozen s′) where
+  -- they have the same in these integer registers
+  abbrev Agree : List ℕ → Type 0
+  Agree ks = (k : ℕ) → In k ks → getD (s .integers) k 0 ≡ getD (s′ .integers) k 0
+
+  part-local : (o : Option ℕ) → Agree (registersOf o) → registerPart (s .integers) o ≡ registerPart (s′ .integers) o
+  part-local none h = refl
+  part-local (some k) h = h k (here refl)
+
+  address-local : (a : Address) → Agree (addressRegisters a) → address (s .integers) a ≡ address (s′ .integers) a
+  unfolding address
+  address-local a h =
+      cc (
+        part-local (a .base) (λ k m. h k (Memᴰ·append-left (registersOf (a .index)) m)),
+        part-local (a .index) (λ k m. h k (Memᴰ·append-right (registersOf (a .base)) m)),
+      )
+
+  places-local : (x : Location) → Agree (registersBehind x) → placesOf s x ≡ placesOf s′ x
+  places-local (mmxRegister k) h = refl
+  places-local (integerRegister k) h = refl
+  places-local (memory a size) h = λ j. tested (same j .memory) size (address-local a h j)
+
+  all-local : (xs : List Location) → Agree (registersBehindAll xs) → placesOfAll s xs ≡ placesOfAll s′ xs
+  all-local [] h = refl
+  all-local (x ∷ xs) h =
+      λ j. andThen (places-local x (λ k m. h k (Memᴰ·append-left (registersBehindAll xs) m)) j)
+      (λ ps. mapResult (λ qs. ps ++ qs) (all-local xs (λ k m. h k (Memᴰ·append-right (registersBehind x) m)) j))
+
+pub local : Local look frozen via plan
+local e s s′ same h =
+    λ j. unlessMarked (same j .em) (same j .ts) (same j .pending)
+    (andThen (takes j) (λ source. mapResult (planOn e source) (gives j)))
+  where
+    agree : Agree s s′ same (addressRegistersOf e)
+    agree k m = h (integer k) (Memᴰ·map integer m)
+
+    takes : placesOfAll s (e .takes) ≡ placesOfAll s′ (e .takes)
+    takes = all-local s s′ same (e .takes) (λ k m. agree k (Memᴰ·append-left (registersBehindAll (e .gives)) m))
+
+    gives : placesOfAll s (e .gives) ≡ placesOfAll s′ (e .gives)
+    gives = all-local s s′ same (e .gives) (λ k m. agree k (Memᴰ·append-right (registersBehindAll (e .takes)) m))

@@ -1,0 +1,18 @@
+-- The laws of the manual's rules: the places obey the laws of lists, reading is local, and so demand 3; a run is its steps; what refusals keep;
+-- what a footprint says, and which meet; the manual's headings; examples that the definitions compute.
+pub mod Lists
+pub mod Laws
+pub mod Locality
+pub mod Demand3
+pub mod Turns
+pub mod Refusals
+pub mod Exactly
+pub mod Uses
+pub mod Meeting
+pub mod Direct
+pub mod Headings
+pub mod Plates
+pub mod Edges
+pub mod FootprintTable
+pub mod Example
+pub mod Computed

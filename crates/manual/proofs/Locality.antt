@@ -1,0 +1,32 @@
+-- Reading what is left of a code is local, as the codec's reading is: it takes at least one byte and none past the end, and depends on its
+-- own bytes alone.
+use mathlib.Core.Bool.{false≢true}
+use mathlib.Core.Path.{_≡_, ap}
+use mathlib.Core.List.{List}
+use Prim.Native.Nat.{ℕ}
+use Rattle.reorder.specs.Result.{done}
+use Rattle.reorder.specs.Run.{Reading}
+use Rattle.reorder.proofs.Cutting.{LocalReader}
+use Rattle.codec.specs.Reads.{readPart}
+use Rattle.codec.specs.declared.Instruction.{Instruction}
+use Rattle.codec.specs.Answers.{Answer as Found}
+use Rattle.codec.specs.Answers as found
+use Rattle.codec.proofs.Theorems.{Local, reading-is-local}
+use Rattle.manual.specs.Steps.{resultOf}
+use Rattle.manual.specs.Runs.{read}
+
+found-of : (x : Found) (r : Reading Instruction) → resultOf x ≡ done r → x ≡ found.good (r .instruction) (r .size)
+found-of (found.good i n) r e = cc
+found-of (found.refused n) r e = absurd (false≢true (cc))
+
+local : (bytes : List ℕ) (r : Reading Instruction) → read bytes ≡ done r → Local bytes (r .instruction) (r .size)
+unfolding read
+local bytes r e = reading-is-local bytes (r .instruction) (r .size) (found-of (readPart bytes) r e)
+
+pub local-reader : LocalReader read
+unfolding read
+local-reader =
+    record {
+      some-bytes = λ bytes r e. (local bytes r e .some, local bytes r e .within);
+      own-bytes = λ bytes tail r e. ap resultOf (local bytes r e .again tail);
+    }

@@ -1,0 +1,60 @@
+-- The plates of document 01, from bytes: a block of one instruction over MM0 and MM1, run whole.
+use mathlib.Core.Bool.{Bool, false, _&&_}
+use mathlib.Core.List.{List, [], _∷_}
+use Prim.Native.Nat.{ℕ}
+use lib.Dec.{eqb}
+use lib.ListN.{getD, replicate}
+use Rattle.reorder.specs.Run.{Answer, finished, spent, stopped}
+use Rattle.manual.specs.State.{State}
+use Rattle.manual.specs.Runs.{runOf}
+
+-- two numbers in MM0 and MM1, the tag mark, and nothing else
+abbrev pub start : ℕ → ℕ → Bool → State
+start destination source valid =
+    record { mmx = destination ∷ source ∷ replicate 6 0; integers = replicate 8 0; valid = valid; em = false; ts = false; pending = false; memory = [] }
+
+-- done after one instruction, with this in MM0
+abbrev left : Answer State → ℕ → Bool
+left (finished at count t) result = eqb count 1 && eqb (getD (t .mmx) 0 0) result
+left (spent at count t) result = false
+left (stopped n at count t) result = false
+
+-- refused at the start by this number
+abbrev stoppedBy : Answer State → ℕ → Bool
+stoppedBy (finished at count t) number = false
+stoppedBy (spent at count t) number = false
+stoppedBy (stopped n at count t) number = eqb n number && eqb at 0 && eqb count 0
+
+-- bytes, destination, source, what is left
+abbrev plate : List ℕ → ℕ → ℕ → ℕ → Bool
+plate code destination source result = left (runOf code 4096 (start destination source false)) result
+
+abbrev pub plates : List Bool
+plates =
+    -- PADDSB
+    plate (0x0f ∷ 0xec ∷ 0xc1 ∷ []) 0xd2 0x88 0x80
+    ∷ plate (0x0f ∷ 0xec ∷ 0xc1 ∷ []) 0x53 0xec 0x3f
+    ∷ plate (0x0f ∷ 0xec ∷ 0xc1 ∷ []) 0x77 0x14 0x7f
+    -- PADDD
+    ∷ plate (0x0f ∷ 0xfe ∷ 0xc1 ∷ []) 0xfff05c43 0x000fa3be 0x00000001
+    -- PCMPGTD
+    ∷ plate (0x0f ∷ 0x66 ∷ 0xc1 ∷ []) 0x0000ba15 0x0000ba14 0xffffffff
+    ∷ plate (0x0f ∷ 0x66 ∷ 0xc1 ∷ []) 0x00000001 0xffffffff 0xffffffff
+    -- PSRLD, PSRLQ by 16
+    ∷ plate (0x0f ∷ 0x72 ∷ 0xd0 ∷ 16 ∷ []) 0xfff00000 0 0x0000fff0
+    ∷ plate (0x0f ∷ 0x73 ∷ 0xd0 ∷ 16 ∷ []) 0x000fa3be01234567 0 0x0000000fa3be0123
+    -- PSRAW by 16
+    ∷ plate (0x0f ∷ 0xe1 ∷ 0xc1 ∷ []) 0x8000 16 0xffff
+    -- PSLLW
+    ∷ plate (0x0f ∷ 0xf1 ∷ 0xc1 ∷ []) 0xffffffffffffffff 0x0000000100000000 0
+    -- PMULHW
+    ∷ plate (0x0f ∷ 0xe5 ∷ 0xc1 ∷ []) 0x8000 0x8000 0x4000
+    -- PMADDWD
+    ∷ plate (0x0f ∷ 0xf5 ∷ 0xc1 ∷ []) 0x8000800080008000 0x8000800080008000 0x8000000080000000
+    -- PACKUSWB
+    ∷ plate (0x0f ∷ 0x67 ∷ 0xc1 ∷ []) 0xffffffffffffffff 0xffffffffffffffff 0
+    -- digit 0 of 71 is not listed
+    ∷ stoppedBy (runOf (0x0f ∷ 0x71 ∷ 0xc0 ∷ 0x01 ∷ []) 4096 (start 0 0 false)) 6
+    -- the letter's question: of 0001 and FFFF, PCMPGTW finds 0001 the greater
+    ∷ plate (0x0f ∷ 0x65 ∷ 0xc1 ∷ []) 0x0001 0xffff 0xffff
+    ∷ []

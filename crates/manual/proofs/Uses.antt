@@ -1,0 +1,111 @@
+-- The footprint says what a step uses: the step goes by what its footprint reads alone, and changes what it writes alone, since both are made
+-- from one plan.
+use mathlib.Core.Path.{_≡_, refl, ap, _∙_, subst, subst₂}
+use mathlib.Core.Bool.{Bool, true, false}
+use mathlib.Core.List.{List, List·Memᴰ as In}
+use Prim.Native.Nat.{ℕ, _+_}
+use Rattle.reorder.specs.Result.{Result, done, refused, caseOf, andThen, mapResult}
+use Rattle.reorder.specs.Plan.{Plan, looks, leaves}
+use Rattle.reorder.specs.Footprint.{Footprint, footprintOf as ofPlan, asked}
+use Rattle.reorder.specs.Run.{Reading}
+use Rattle.reorder.proofs.Swapping.{completes, completed as planned}
+use Rattle.reorder.proofs.Honest.{Alike, asked-reads, honest, untouched}
+use Rattle.codec.specs.declared.Instruction.{Instruction}
+use Rattle.manual.specs.declared.Kind.{Kind}
+use Rattle.manual.specs.declared.Kind.the-variants.{Ordinary, Emms}
+use Rattle.manual.specs.State.{State, frozen}
+use Rattle.manual.specs.Places.{Place, look, put}
+use Rattle.manual.specs.Kinds.{marked, KindsMeet}
+use Rattle.manual.specs.Effects.{via, plan, footprintOf}
+use Rattle.manual.specs.Instructions.{effectOf, execute, footprint}
+use Rattle.manual.specs.Steps.{Outcome, completed, refusedWith, concluded, instructionAt, stepAt}
+use Rattle.manual.specs.Footprints.{footprintAt}
+use Rattle.manual.proofs.Laws.{laws, local}
+
+-- the places whose contents an instruction goes by in a state, whether it is refused or not
+abbrev pub askedBy : Instruction → State → List Place
+askedBy i s = asked (via (effectOf i)) (plan (effectOf i) s)
+
+-- where it has a footprint, these are the places that the footprint reads
+pub asked-is-read : (i : Instruction) (s : State) (f : Footprint Place Kind) → footprint i s ≡ done f → askedBy i s ≡ f .reads
+unfolding footprint
+asked-is-read i s f e = asked-reads look (via (effectOf i)) s (plan (effectOf i) s) f e
+
+-- two states that agree on what is frozen (the control marks, the memory's length, as many registers) and on these places: one footprint or
+-- one refusal, and the same is left in what the footprint writes
+pub goes-by-reads : (i : Instruction) (s s′ : State) → frozen s ≡ frozen s′ → ((p : Place) → In p (askedBy i s) → look s p ≡ look s′ p)
+    → (footprint i s′ ≡ footprint i s) × Alike look (footprint i s) (execute i s) (execute i s′)
+unfolding execute footprint
+goes-by-reads i s s′ f h = honest look put marked frozen KindsMeet laws via plan local (effectOf i) s s′ f h
+
+-- so a step that completes does so in every state that agrees on what is frozen and on what its footprint reads, with the same footprint, and
+-- leaves the same in what it writes
+pub completes-alike : (i : Instruction) (s s′ t : State) (f : Footprint Place Kind) → execute i s ≡ done t → footprint i s ≡ done f
+    → frozen s ≡ frozen s′ → ((p : Place) → In p (f .reads) → look s p ≡ look s′ p)
+    → (t′ : State) × (execute i s′ ≡ done t′) × (footprint i s′ ≡ done f) × ((p : Place) → In p (f .writes) → look t p ≡ look t′ p)
+completes-alike i s s′ t f e ef same agree =
+    let reads : askedBy i s ≡ f .reads = asked-is-read i s f ef in
+    let (ef′, alike) = goes-by-reads i s s′ same (λ p m. agree p (subst (In p) reads m)) in
+    go (execute i s′) refl (ef′ ∙ ef) (subst₂ (λ x y. Alike look x y (execute i s′)) ef e alike)
+  where
+    go : (o : Result State) → execute i s′ ≡ o → footprint i s′ ≡ done f → Alike look (done f) (done t) o
+        → (t′ : State) × (execute i s′ ≡ done t′) × (footprint i s′ ≡ done f) × ((p : Place) → In p (f .writes) → look t p ≡ look t′ p)
+    go (done t′) e′ ef′ alike = (t′, e′, ef′, alike)
+    go (refused n) e′ ef′ alike = absurd alike
+
+-- nothing else changes: no place but those that the footprint writes, no control mark, not the memory's length
+pub changes-writes : (i : Instruction) (s t : State) (f : Footprint Place Kind) → execute i s ≡ done t → footprint i s ≡ done f
+    → (frozen t ≡ frozen s) × ((p : Place) → ¬ In p (f .writes) → look t p ≡ look s p)
+unfolding execute footprint
+changes-writes i s t f e h = untouched look put marked frozen KindsMeet laws via plan (effectOf i) s t f e h
+
+-- the tag mark that a kind leaves
+abbrev pub tagOf : Kind → Bool
+tagOf Ordinary = true
+tagOf Emms = false
+
+tag-marked : (k : Kind) (s : State) → marked k s .valid ≡ tagOf k
+tag-marked Ordinary s = refl
+tag-marked Emms s = refl
+
+tag-planned : (i : Instruction) (s t : State) (f : Footprint Place Kind) (pl : Plan Place Kind) (vs : List ℕ)
+    → footprintOf (effectOf i) s ≡ done (ofPlan (via (effectOf i)) pl) → footprintOf (effectOf i) s ≡ done f → t ≡ leaves put marked pl s vs
+    → t .valid ≡ tagOf (f .kind)
+tag-planned i s t f pl vs e h et =
+    let same : ofPlan (via (effectOf i)) pl ≡ f = cc in
+    ap (λ (u : State). u .valid) et ∙ tag-marked (pl .kind) _ ∙ ap (λ g. tagOf (g .kind)) same
+
+-- a completed step leaves the tag mark valid, or empty if it is EMMS
+pub tag-after : (i : Instruction) (s t : State) (f : Footprint Place Kind) → execute i s ≡ done t → footprint i s ≡ done f
+    → t .valid ≡ tagOf (f .kind)
+unfolding execute footprint
+tag-after i s t f e h =
+    let (pl, vs, ep, em, et) = planned look put marked via plan (effectOf i) s t e in
+    tag-planned i s t f pl vs (completes look put marked via plan (effectOf i) s pl vs ep em .1) h et
+
+-- an outcome and a footprint go together: both there, or both refused by one number
+abbrev pub Together : Outcome → Result (Footprint Place Kind) → Type 0
+Together (completed at t) (done f) = Unit {0}
+Together (completed at t) (refused n) = ⊥
+Together (refusedWith m at t) (done f) = ⊥
+Together (refusedWith m at t) (refused n) = m ≡ n
+
+-- a step has a footprint exactly where it completes; else the footprint's refusal is the step's
+pub footprint-exactly : (code : List ℕ) (at : ℕ) (s : State) → Together (stepAt code at s) (footprintAt code at s)
+unfolding stepAt footprintAt execute footprint
+footprint-exactly code at s = reading (instructionAt code at s)
+  where
+    making : (size : ℕ) (o : Result (List ℕ)) (leave : List ℕ → State) (print : List ℕ → Footprint Place Kind)
+        → Together (concluded at (at + size) s (mapResult leave o)) (mapResult print o)
+    making size (done values) leave print = tt
+    making size (refused n) leave print = refl
+
+    planning : (r : Reading Instruction) (o : Result (Plan Place Kind)) → plan (effectOf (r .instruction)) s ≡ o
+        → Together (concluded at (at + r .size) s (execute (r .instruction) s)) (footprint (r .instruction) s)
+    planning r (done pl) e = simp e (making (r .size) (pl .make (looks look s (pl .source))) _ _)
+    planning r (refused n) e = simp e refl
+
+    reading : (o : Result (Reading Instruction))
+        → Together (caseOf o (λ n. refusedWith n at s) (λ r. concluded at (at + r .size) s (execute (r .instruction) s))) (andThen o (λ r. footprint (r .instruction) s))
+    reading (refused n) = refl
+    reading (done r) = planning r (plan (effectOf (r .instruction)) s) refl

@@ -1,0 +1,15 @@
+-- The manual's rules, in document 01's order: the state, its places and kinds, where an operand is, what each instruction takes and gives, the
+-- manual's headings, one step, the run, footprints.
+pub mod State
+pub mod Refusals
+pub mod Places
+pub mod Kinds
+pub mod Addresses
+pub mod Locations
+pub mod Effects
+pub mod Instructions
+pub mod Contents
+pub mod Steps
+pub mod Reasons
+pub mod Runs
+pub mod Footprints

@@ -1,0 +1,19 @@
+-- The places that steps read and write: MMX registers, integer registers, single memory bytes.
+use Prim.Native.Nat.{ℕ}
+use lib.ListN.{getD, set}
+use Rattle.manual.specs.State.{State, withMmx, withInteger, withMemory}
+
+pub data Place : Type 0 where
+  mmx integer byte : ℕ → Place
+
+-- what stands in a place
+abbrev pub look : State → Place → ℕ
+look s (mmx k) = getD (s .mmx) k 0
+look s (integer k) = getD (s .integers) k 0
+look s (byte a) = getD (s .memory) a 0
+
+-- the state with a number put into a place
+abbrev pub put : State → Place → ℕ → State
+put s (mmx k) value = withMmx s k value
+put s (integer k) value = withInteger s k value
+put s (byte a) value = withMemory s (set (s .memory) a value)

@@ -1,0 +1,37 @@
+-- When each refusal of a step is due, in document 01's words: 1, then 2 to 6 by the reading, then 7, 8, 9, then 10.
+use mathlib.Core.Path.{_≡_}
+use mathlib.Core.Logic.{_⊎_}
+use mathlib.Core.Bool.{true, false}
+use mathlib.Core.List.{List, List·Memᴰ as In}
+use Prim.Native.Nat.{ℕ, _+_, _<_}
+use lib.ListN.{length}
+use Rattle.codec.specs.Answers.{good}
+use Rattle.codec.specs.Reads.{readAt}
+use Rattle.codec.specs.Reasons.{ReasonAt}
+use Rattle.codec.specs.declared.Instruction.{Instruction}
+use Rattle.manual.specs.Refusals.{memoryTooLong, invalidOpcode, notAvailable, isPending, outsideMemory}
+use Rattle.manual.specs.State.{State, isTooLong}
+use Rattle.manual.specs.Addresses.{Address, address}
+use Rattle.manual.specs.Locations.{Location, memory}
+use Rattle.manual.specs.Instructions.{effectOf}
+
+-- the instruction at a position, of so many bytes: neither 1 to 6 is due
+pub record Stands (code : List ℕ) (at : ℕ) (s : State) (i : Instruction) (size : ℕ) : Type 0 where
+  pub memory-fits : isTooLong (s .memory) ≡ false
+  pub read : readAt code at ≡ good i size
+
+-- a byte of an operand in memory is outside the memory
+pub record Outside (s : State) (x : Location) : Type 0 where
+  pub at : Address
+  pub size : ℕ
+  pub operand : x ≡ memory at size
+  pub past : length (s .memory) < address (s .integers) at + size
+
+pub data Reason (code : List ℕ) (at : ℕ) (s : State) : ℕ → Type 0 where
+  one : isTooLong (s .memory) ≡ true → Reason code at s memoryTooLong
+  reading : {n : ℕ} → isTooLong (s .memory) ≡ false → ReasonAt code at n → Reason code at s n
+  seven : (i : Instruction) (size : ℕ) → Stands code at s i size → s .em ≡ true → Reason code at s invalidOpcode
+  eight : (i : Instruction) (size : ℕ) → Stands code at s i size → s .em ≡ false → s .ts ≡ true → Reason code at s notAvailable
+  nine : (i : Instruction) (size : ℕ) → Stands code at s i size → s .em ≡ false → s .ts ≡ false → s .pending ≡ true → Reason code at s isPending
+  ten : (i : Instruction) (size : ℕ) → Stands code at s i size → s .em ≡ false → s .ts ≡ false → s .pending ≡ false
+      → (x : Location) → In x (effectOf i .takes) ⊎ In x (effectOf i .gives) → Outside s x → Reason code at s outsideMemory

@@ -1,0 +1,26 @@
+-- The run with its budget.
+use mathlib.Core.Bool.{cond}
+use mathlib.Core.List.{List}
+use Prim.Native.Nat.{ℕ}
+use lib.Dec.{ltb}
+use lib.ListN.{length}
+use Rattle.reorder.specs.Result.{Result}
+use Rattle.reorder.specs.Run.{Reading, Answer, stopped, run}
+use Rattle.codec.specs.Refusals.{codeTooLong}
+use Rattle.codec.specs.Reads.{longestCode, readPart}
+use Rattle.codec.specs.declared.Instruction.{Instruction}
+use Rattle.manual.specs.Refusals.{memoryTooLong}
+use Rattle.manual.specs.State.{State, isTooLong}
+use Rattle.manual.specs.Instructions.{execute}
+use Rattle.manual.specs.Steps.{resultOf}
+
+-- reading what is left of a code
+unfoldable pub read : List ℕ → Result (Reading Instruction)
+read left = resultOf (readPart left)
+
+-- 1 and 2 first; then, before each instruction: at the code's end done, with nothing left of the budget spent, else a step
+unfoldable pub runOf : List ℕ → ℕ → State → Answer State
+runOf code budget s =
+    cond (isTooLong (s .memory)) (stopped memoryTooLong 0 0 s)
+    (cond (ltb longestCode (length code)) (stopped codeTooLong 0 0 s)
+    (run read execute budget code s))

@@ -1,0 +1,66 @@
+-- The state: registers, marks and the bytes of the lent memory; the limit of that memory, and what no step changes.
+use mathlib.Core.Bool.{Bool}
+use mathlib.Core.List.{List}
+use Prim.Native.Nat.{ℕ}
+use lib.Dec.{ltb}
+use lib.ListN.{length, set}
+
+pub record State : Type 0 where
+  -- MM0 to MM7
+  pub mmx : List ℕ
+  -- EAX ECX EDX EBX ESP EBP ESI EDI
+  pub integers : List ℕ
+  -- the tag mark: valid (true), or empty (false)
+  pub valid : Bool
+  -- the control marks
+  pub em : Bool
+  pub ts : Bool
+  pub pending : Bool
+  pub memory : List ℕ
+
+-- the state with a number in MMX register k
+abbrev pub withMmx : State → ℕ → ℕ → State
+withMmx s k value =
+    record { mmx = set (s .mmx) k value; integers = s .integers; valid = s .valid; em = s .em; ts = s .ts; pending = s .pending; memory = s .memory }
+
+-- the state with a number in integer register k
+abbrev pub withInteger : State → ℕ → ℕ → State
+withInteger s k value =
+    record { mmx = s .mmx; integers = set (s .integers) k value; valid = s .valid; em = s .em; ts = s .ts; pending = s .pending; memory = s .memory }
+
+-- the state with another memory
+abbrev pub withMemory : State → List ℕ → State
+withMemory s memory =
+    record { mmx = s .mmx; integers = s .integers; valid = s .valid; em = s .em; ts = s .ts; pending = s .pending; memory = memory }
+
+-- the state with the tag mark valid (true) or empty (false)
+abbrev pub withTag : State → Bool → State
+withTag s valid =
+    record { mmx = s .mmx; integers = s .integers; valid = valid; em = s .em; ts = s .ts; pending = s .pending; memory = s .memory }
+
+-- the longest memory, in bytes
+abbrev pub longestMemory : ℕ
+longestMemory = 32768
+
+abbrev pub isTooLong : List ℕ → Bool
+isTooLong memory = ltb longestMemory (length memory)
+
+-- what no step changes: the control marks, how many registers there are, and how long the memory is
+pub record Frozen : Type 0 where
+  pub em : Bool
+  pub ts : Bool
+  pub pending : Bool
+  pub mmx : ℕ
+  pub integers : ℕ
+  pub memory : ℕ
+
+abbrev pub frozen : State → Frozen
+frozen s =
+    record {
+      em = s .em;
+      ts = s .ts;
+      pending = s .pending;
+      mmx = length (s .mmx);
+      integers = length (s .integers);
+      memory = length (s .memory);
+    }

@@ -1,0 +1,39 @@
+-- One step at a position of the code.
+use mathlib.Core.Bool.{cond}
+use mathlib.Core.List.{List}
+use Prim.Native.Nat.{ℕ, _+_}
+use Rattle.reorder.specs.Result.{Result, done, refused, caseOf}
+use Rattle.reorder.specs.Run.{Reading}
+use Rattle.codec.specs.Reads.{readAt}
+use Rattle.codec.specs.declared.Instruction.{Instruction}
+use Rattle.codec.specs.Answers.{Answer as Found}
+use Rattle.codec.specs.Answers as found
+use Rattle.manual.specs.Refusals.{memoryTooLong}
+use Rattle.manual.specs.State.{State, isTooLong}
+use Rattle.manual.specs.Instructions.{execute}
+
+-- what a step comes to
+pub data Outcome : Type 0 where
+  -- the position after the instruction, and the state that it leaves
+  completed : ℕ → State → Outcome
+  -- the refusal's number, with the position and the state that the step was given
+  refusedWith : ℕ → ℕ → State → Outcome
+
+-- what the reader found: an instruction and its size, or a refusal
+abbrev pub resultOf : Found → Result (Reading Instruction)
+resultOf (found.good instruction size) = done (record { instruction = instruction; size = size })
+resultOf (found.refused n) = refused n
+
+-- the instruction at a position: 1, then 2 to 6 by the reader
+unfoldable pub instructionAt : List ℕ → ℕ → State → Result (Reading Instruction)
+instructionAt code at s = cond (isTooLong (s .memory)) (refused memoryTooLong) (resultOf (readAt code at))
+
+-- what an instruction came to, with the position after it: a refusal changes nothing
+abbrev pub concluded : ℕ → ℕ → State → Result State → Outcome
+concluded at next s (done t) = completed next t
+concluded at next s (refused n) = refusedWith n at s
+
+-- 1 to 6 where there is no instruction, then 7 to 10 by the instruction
+unfoldable pub stepAt : List ℕ → ℕ → State → Outcome
+stepAt code at s =
+    caseOf (instructionAt code at s) (λ n. refusedWith n at s) (λ read. concluded at (at + read .size) s (execute (read .instruction) s))
