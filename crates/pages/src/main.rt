@@ -2,7 +2,7 @@
 use libc::STDOUT_FILENO;
 
 // One byte more than the longest page file has, so that a longer one is seen as such.
-const FILE_BYTES: usize = 65537;
+const FILE_BYTES: usize = pagefile::LONGEST_FILE + 1;
 
 fn write(text: &[u8]) {
     io::write_all(STDOUT_FILENO, text);
@@ -18,7 +18,7 @@ fn write_heading(name: &[u8]) {
 fn write_text(input: i32) {
     let mut file = [0u8; FILE_BYTES];
     let n = io::read_full(input, &mut file);
-    let mut text = [0u8; printout::LONGEST_REPORT];
+    let mut text = printout::buffer();
     let written = player::play(&file[..n], &mut text);
     write(&text[0..written]);
 }

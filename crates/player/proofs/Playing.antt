@@ -6,16 +6,18 @@ use native.Mathlib.Nat.{sub-zero}
 use borrow.Author.Tests.{lt-ltb, le-ltb}
 use lib.ListN.{length, take, drop}
 use lib.Seq.{take-append-seam, take-length}
+use Rattle.manual.specs.State.{State}
+use Rattle.manual.specs.Runs.{runOf}
 use Rattle.machine.specs.declared.Machine.{Machine}
 use Rattle.machine.specs.declared.End.{End}
 use Rattle.machine.specs.declared.End.the-variants as end
 use Rattle.machine.specs.declared.Ran.{Ran}
-use Rattle.machine.specs.State.{State, stateOf}
+use Rattle.machine.specs.State.{stateOf}
 use Rattle.machine.specs.Starts.{startOf}
-use Rattle.machine.specs.Runs.{runOf, answerOf, answered}
+use Rattle.machine.specs.Runs.{answerOf, answered}
 use Rattle.pagefile.specs.declared.Page.{Page}
 use Rattle.pagefile.specs.declared.Page.the-variants.{WellFormed, Refused}
-use Rattle.pagefile.specs.Reading.{codeOf, memoryOf, mmxOf, integersOf, pageOf}
+use Rattle.pagefile.specs.Reading.{codeOf, memoryOf, mmxOf, integersOf, pageOf, outcomeOf}
 use Rattle.printout.specs.declared.Ending.{Ending}
 use Rattle.printout.specs.Lines.{reportText, refusalText}
 use Rattle.printout.specs.Lent.{Printed, printed}
@@ -68,7 +70,7 @@ module _ (file memory buffer : List ℕ) (marks : ℕ) (p : Printed) (m : memory
     page-run short′ told = rw (sym m, sym c, le-ltb _ _ short, le-ltb _ _ short′) told
 
 -- a page, by what its reading answers
-module _ (file buffer : List ℕ) (page : Page) (number : ℕ) (p : Printed) (read : page ≡ pageOf file) where
+module _ (file buffer : List ℕ) (page : Page) (number : ℕ) (p : Printed) (read : outcomeOf page ≡ pageOf file) where
   pub well-formed : page ≡ WellFormed number → p ≡ printed (wellFormedText number file) buffer → p ≡ printed (pageText file) buffer
   unfolding pageText
   well-formed is told = rw (sym read, is) told

@@ -7,15 +7,14 @@ use lib.ListN.{length}
 use Rattle.reorder.specs.Run.{Answer, finished, spent, stopped}
 use Rattle.codec.specs.Refusals.{codeTooLong}
 use Rattle.codec.specs.Reads.{longestCode}
+use Rattle.manual.specs.Refusals.{memoryTooLong}
+use Rattle.manual.specs.State.{State, isTooLong}
+use Rattle.manual.specs.Runs.{runOf}
 use Rattle.machine.specs.declared.End.{End}
 use Rattle.machine.specs.declared.End.the-variants as end
-use Rattle.machine.specs.Refusals.{memoryTooLong}
-use Rattle.machine.specs.State.{State, stateOf, isTooLong}
+use Rattle.machine.specs.State.{stateOf}
 use Rattle.machine.specs.Starts.{startOf}
-use Rattle.machine.specs.Runs.{runOf}
-use Rattle.pagefile.specs.declared.Page.{Page}
-use Rattle.pagefile.specs.declared.Page.the-variants.{WellFormed, Refused}
-use Rattle.pagefile.specs.Reading.{codeOf, memoryOf, mmxOf, integersOf, pageOf}
+use Rattle.pagefile.specs.Reading.{codeOf, memoryOf, mmxOf, integersOf, Outcome, wellFormedWith, refusedWith, pageOf}
 use Rattle.printout.specs.declared.Ending.{Ending}
 use Rattle.printout.specs.declared.Ending.the-variants as ending
 use Rattle.printout.specs.Lines.{reportText, refusalText}
@@ -33,7 +32,7 @@ endingOf (end.Refused n) = ending.Refused n
 -- the report of a state, with how its run ended, the position reached and the count of instructions completed
 unfoldable pub stateText : Ending → ℕ → ℕ → State → List ℕ
 stateText e at count s =
-    reportText e count at (s .machine .mmx) (s .machine .integers) (s .machine .valid) (s .memory)
+    reportText e count at (s .mmx) (s .integers) (s .valid) (s .memory)
 
 -- the report of each answer of a run
 abbrev pub answerText : Answer State → List ℕ
@@ -52,10 +51,10 @@ wellFormedText marks file =
     (cond (ltb longestCode (length (codeOf file))) (refusalText codeTooLong)
     (answerText (runIn (memoryOf file) marks file)))
 
--- 13 comes before 1 and 2: it is what the reading of a malformed file answers
-abbrev pub textOf : Page → List ℕ → List ℕ
-textOf (WellFormed marks) file = wellFormedText marks file
-textOf (Refused n) file = refusalText n
+-- 13 comes before 1 and 2: it is what the reading of a malformed file comes to
+abbrev pub textOf : Outcome → List ℕ → List ℕ
+textOf (wellFormedWith marks) file = wellFormedText marks file
+textOf (refusedWith n) file = refusalText n
 
 -- all that is printed of a page file
 unfoldable pub pageText : List ℕ → List ℕ

@@ -1,7 +1,11 @@
 // From a page file to what is printed of it.
+use codec::numbers::CODE_TOO_LONG;
+use codec::numbers::LONGEST_CODE;
 use machine::End;
 use machine::Machine;
 use machine::Ran;
+use machine::numbers::LONGEST_MEMORY;
+use machine::numbers::MEMORY_TOO_LONG;
 use pagefile::Page;
 use printout::Ending;
 ghost use mathlib.Core.Path.{_≡_};
@@ -13,15 +17,6 @@ ghost use Rattle.player.specs.Page.{endingOf, answerText, runIn, wellFor
 
 // The instructions that a page may run.
 const BUDGET: u32 = 4096;
-
-// The bytes of the longest memory and of the longest code, and the refusals of longer ones.
-const LONGEST_MEMORY: usize = 32768;
-
-const LONGEST_CODE: usize = 4096;
-
-const MEMORY_TOO_LONG: u8 = 1;
-
-const CODE_TOO_LONG: u8 = 2;
 
 // How the printout names the end of a run.
 fn ending(end: End) -> Ending
