@@ -1,0 +1,27 @@
+-- `put_instructions` meets its contract: its place stays within the file, and what is left of the count falls.
+use mathlib.Core.Path.{_≡_}
+use Prim.Native.Nat.{_-_, _≤_}
+use lib.ListN.{length}
+use borrow.Author.Needs.{needs}
+use Rattle.hostile.proofs.code.put_instructions.Statement.{statement}
+use Rattle.hostile.proofs.code.put_instructions.Tie as tie
+
+abbrev Inv-loop : tie.InvT-loop
+Inv-loop file₀ at dice₀ count place₀ counter₀ file dice place counter = (counter ≤ count) × (at ≤ place) × (place ≤ length file) × (length file ≡ length file₀)
+
+abbrev μ-loop : tie.MeasureT-loop
+μ-loop file₀ at dice₀ count place₀ counter₀ file dice place counter = count - counter
+
+pub put-instructions-spec : {M : Type 1} → statement M
+put-instructions-spec =
+    tie.close
+    (tie.spec
+    Inv-loop
+    μ-loop
+    (λ c. search needs)
+    (λ c κs. search needs)
+    (λ c. search needs)
+    (λ c. search needs)
+    (λ c. search needs)
+    (λ c. search needs)
+    (λ c. search needs))

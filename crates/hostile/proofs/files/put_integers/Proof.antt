@@ -1,0 +1,28 @@
+-- `put_integers` meets its contract: its place stays within the file, and what is left of the eight registers falls.
+use mathlib.Core.Path.{_≡_}
+use Prim.Native.Nat.{_-_, _≤_}
+use lib.ListN.{length}
+use borrow.Author.Needs.{needs}
+use Rattle.hostile.proofs.files.put_integers.Statement.{statement}
+use Rattle.hostile.proofs.files.put_integers.Tie as tie
+
+abbrev Inv-loop : tie.InvT-loop
+Inv-loop file₀ at dice₀ place₀ counter₀ file dice place counter = (counter ≤ 8) × (at ≤ place) × (place ≤ length file) × (length file ≡ length file₀)
+
+abbrev μ-loop : tie.MeasureT-loop
+μ-loop file₀ at dice₀ place₀ counter₀ file dice place counter = 8 - counter
+
+pub put-integers-spec : {M : Type 1} → statement M
+put-integers-spec =
+    tie.close
+    (tie.spec
+    Inv-loop
+    μ-loop
+    (λ c κs. search needs)
+    (λ c. search needs)
+    (λ c κs. search needs)
+    (λ c. search needs)
+    (λ c. search needs)
+    (λ c. search needs)
+    (λ c. search needs)
+    (λ c. search needs))

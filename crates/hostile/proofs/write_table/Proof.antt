@@ -1,0 +1,30 @@
+-- `write_table` is safe and ends: the answer goes up to their number.
+use Prim.Native.Nat.{_-_, _≤_}
+use borrow.Author.Needs.{needs}
+use Rattle.hostile.proofs.write_table.Statement.{statement}
+use Rattle.hostile.proofs.write_table.Tie as tie
+
+abbrev Inv-loop : tie.InvT-loop
+Inv-loop plain headed likely answer₀ answer = answer ≤ 16
+
+abbrev μ-loop : tie.MeasureT-loop
+μ-loop plain headed likely answer₀ answer = 16 - answer
+
+pub write-table-spec : {M : Type 1} → statement M
+write-table-spec =
+    tie.close
+    (tie.spec
+    Inv-loop
+    μ-loop
+    (λ c. search needs)
+    (λ c. search needs)
+    (λ c. search needs)
+    (λ c. search needs)
+    (λ c. search needs)
+    (λ c. search needs)
+    (λ c. search needs)
+    (λ c κs. search needs)
+    (λ c. search needs)
+    (λ c. search needs)
+    (λ c. search needs)
+    (λ c. search needs))

@@ -1,0 +1,147 @@
+// Likely code: mostly instructions of the table, with operands that may lie in the memory.
+ghost use Prim.Native.Nat.{_≤_};
+ghost use lib.ListN.{length};
+use crate::dice::any_byte;
+use crate::dice::is_rare;
+use crate::dice::roll;
+use crate::put::put;
+use crate::put::put_small;
+
+// The first byte of every opcode, and the second bytes.
+const ESCAPE: u8 = 0x0f;
+
+const SECONDS: u64 = 52;
+
+const SECOND_BYTES: [u8; 52] = [
+    0x60,
+    0x61,
+    0x62,
+    0x63,
+    0x67,
+    0x6b,
+    0x64,
+    0x65,
+    0x66,
+    0x68,
+    0x69,
+    0x6a,
+    0x6e,
+    0x7e,
+    0x6f,
+    0x7f,
+    0x71,
+    0x72,
+    0x73,
+    0x74,
+    0x75,
+    0x76,
+    0x77,
+    0xd1,
+    0xd2,
+    0xd3,
+    0xe1,
+    0xe2,
+    0xf1,
+    0xf2,
+    0xf3,
+    0xd5,
+    0xe5,
+    0xf5,
+    0xd8,
+    0xd9,
+    0xdc,
+    0xdd,
+    0xe8,
+    0xe9,
+    0xec,
+    0xed,
+    0xdb,
+    0xdf,
+    0xeb,
+    0xef,
+    0xf8,
+    0xf9,
+    0xfa,
+    0xfc,
+    0xfd,
+    0xfe,
+];
+
+// A ModRM byte is this times its mode and more, and its rm is what is left over of this.
+const MODE: u8 = 64;
+
+const RM: u8 = 8;
+
+// The ModRM bytes from here on have mode 11, and below it this rm asks for an SIB byte.
+const REGISTERS: u8 = 0xc0;
+
+const SIB: u8 = 4;
+
+// Mostly 0F.
+fn first_byte(dice: &mut u64) -> u8 {
+    if is_rare(dice) {
+        return any_byte(dice);
+    }
+    ESCAPE
+}
+
+// Mostly one of the table.
+fn second_byte(dice: &mut u64) -> u8 {
+    if is_rare(dice) {
+        return any_byte(dice);
+    }
+    let index = roll(dice, SECONDS) as usize;
+    SECOND_BYTES[index]
+}
+
+// The bytes of the displacement that a ModRM byte asks for by its mode.
+fn displacement_bytes(modrm: u8) -> usize
+    ensures { λ r. ⌜ r ≤ 4 ⌝ }
+{
+    match modrm / MODE {
+        1 => 1,
+        2 => 4,
+        _ => 0,
+    }
+}
+
+// How many bytes follow a ModRM byte, where an SIB byte names a base.
+fn following(modrm: u8) -> usize {
+    let displacement = displacement_bytes(modrm);
+    if modrm < REGISTERS && modrm % RM == SIB {
+        return displacement + 1;
+    }
+    displacement
+}
+
+// A ModRM byte and what it asks for, with small numbers.
+fn put_operand(file: &mut [u8], at: usize, dice: &mut u64) -> usize
+    requires { ⌜ at ≤ length (now file) ⌝ }
+    ensures { λ r. ⌜ (at ≤ r) × (r ≤ length (now (file .entry))) ⌝ }
+{
+    let modrm = any_byte(dice);
+    let start = put(file, at, modrm);
+    put_small(file, start, dice, following(modrm))
+}
+
+// A likely instruction.
+fn put_instruction(file: &mut [u8], at: usize, dice: &mut u64) -> usize
+    requires { ⌜ at ≤ length (now file) ⌝ }
+    ensures { λ r. ⌜ (at ≤ r) × (r ≤ length (now (file .entry))) ⌝ }
+{
+    let second = put(file, at, first_byte(dice));
+    let modrm = put(file, second, second_byte(dice));
+    put_operand(file, modrm, dice)
+}
+
+// So many likely instructions.
+pub(crate) fn put_instructions(file: &mut [u8], at: usize, dice: &mut u64, count: u64) -> usize
+    requires { ⌜ at ≤ length (now file) ⌝ }
+    ensures { λ r. ⌜ (at ≤ r) × (r ≤ length (now (file .entry))) ⌝ }
+{
+    let mut place = at;
+    for _ in 0..count {
+        place = put_instruction(file, place, dice);
+    }
+    place
+}

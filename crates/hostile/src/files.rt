@@ -1,0 +1,178 @@
+// Three sorts of files: plain random bytes; right headings with random contents; and the same with likely code.
+ghost use Prim.Native.Nat.{_<_, _≤_};
+ghost use lib.ListN.{length};
+use crate::code::put_instructions;
+use crate::dice::is_half;
+use crate::dice::is_rare;
+use crate::dice::roll;
+use crate::put::put;
+use crate::put::put_random;
+use crate::put::put_small;
+use codec::numbers::LONGEST_CODE;
+use machine::numbers::LONGEST_MEMORY;
+use pagefile::LONGEST_FILE;
+
+// How a file is made.
+pub(crate) enum Sort {
+    Plain,
+    Headed,
+    Likely,
+}
+
+// One byte more than a file may have.
+pub(crate) const ROOM: usize = LONGEST_FILE + 1;
+
+// The tags of the five fields, and the bytes of those of a fixed length.
+const CODE: u8 = 1;
+
+const MEMORY: u8 = 2;
+
+const MMX_REGISTERS: u8 = 3;
+
+const INTEGER_REGISTERS: u8 = 4;
+
+const MARKS: u8 = 5;
+
+const REGISTERS: usize = 8;
+
+const QUADWORD: usize = 8;
+
+const DOUBLEWORD: usize = 4;
+
+const MMX_BYTES: usize = QUADWORD * REGISTERS;
+
+const INTEGER_BYTES: usize = DOUBLEWORD * REGISTERS;
+
+// How many values a byte of a length has.
+const BASE: usize = 256;
+
+// Most files and fields are shorter than this.
+const SHORT: u64 = 1024;
+
+// The marks are below 16: one more is refused.
+const MARK_SIDES: u64 = 17;
+
+// A likely code has fewer instructions than this.
+const INSTRUCTIONS: u64 = 12;
+
+// A tag and a length.
+fn put_heading(file: &mut [u8], at: usize, tag: u8, count: usize) -> usize
+    requires { ⌜ at ≤ length (now file) ⌝ }
+    ensures { λ r. ⌜ (at ≤ r) × (r ≤ length (now (file .entry))) ⌝ }
+{
+    let low = put(file, at, tag);
+    let high = put(file, low, (count % BASE) as u8);
+    put(file, high, (count / BASE % BASE) as u8)
+}
+
+// A field of random contents.
+fn put_field(file: &mut [u8], at: usize, dice: &mut u64, tag: u8, count: usize) -> usize
+    requires { ⌜ at ≤ length (now file) ⌝ }
+    ensures { λ r. ⌜ (at ≤ r) × (r ≤ length (now (file .entry))) ⌝ }
+{
+    let start = put_heading(file, at, tag, count);
+    put_random(file, start, dice, count)
+}
+
+// The same, or no field.
+fn put_field_or_none(file: &mut [u8], at: usize, dice: &mut u64, tag: u8, count: usize) -> usize
+    requires { ⌜ at ≤ length (now file) ⌝ }
+    ensures { λ r. ⌜ (at ≤ r) × (r ≤ length (now (file .entry))) ⌝ }
+{
+    if is_half(dice) {
+        return at;
+    }
+    put_field(file, at, dice, tag, count)
+}
+
+// Marks, or no field.
+fn put_marks(file: &mut [u8], at: usize, dice: &mut u64) -> usize
+    requires { ⌜ at ≤ length (now file) ⌝ }
+    ensures { λ r. ⌜ (at ≤ r) × (r ≤ length (now (file .entry))) ⌝ }
+{
+    if is_half(dice) {
+        return at;
+    }
+    let start = put_heading(file, at, MARKS, 1);
+    put(file, start, roll(dice, MARK_SIDES) as u8)
+}
+
+// The eight integer registers, each a number that may be an address.
+fn put_integers(file: &mut [u8], at: usize, dice: &mut u64) -> usize
+    requires { ⌜ at ≤ length (now file) ⌝ }
+    ensures { λ r. ⌜ (at ≤ r) × (r ≤ length (now (file .entry))) ⌝ }
+{
+    let mut place = put_heading(file, at, INTEGER_REGISTERS, INTEGER_BYTES);
+    for _ in 0..REGISTERS {
+        place = put_small(file, place, dice, DOUBLEWORD);
+    }
+    place
+}
+
+// A field's length: short, or now and then from a long one on.
+fn some_length(dice: &mut u64, long: usize) -> usize
+    requires { ⌜ (0 < long) × (long ≤ 32768) ⌝ }
+{
+    if is_rare(dice) {
+        return long + roll(dice, long as u64) as usize;
+    }
+    roll(dice, SHORT) as usize
+}
+
+// The field of a likely code, at the start of a file: its heading is known when its end is.
+fn put_likely_code(file: &mut [u8], dice: &mut u64) -> usize
+    ensures { λ r. ⌜ r ≤ length (now (file .entry)) ⌝ }
+{
+    let count = roll(dice, INSTRUCTIONS);
+    let start = put_heading(file, 0, CODE, 0);
+    let end = put_instructions(file, start, dice, count);
+    put_heading(file, 0, CODE, end - start);
+    end
+}
+
+// Plain random bytes: few, or now and then more than a file may have.
+fn plain(file: &mut [u8], dice: &mut u64) -> usize
+    ensures { λ r. ⌜ r ≤ length (now (file .entry)) ⌝ }
+{
+    if is_rare(dice) {
+        return put_random(file, 0, dice, ROOM);
+    }
+    let count = roll(dice, SHORT) as usize;
+    put_random(file, 0, dice, count)
+}
+
+// Right headings: any of the five fields, with random contents.
+fn headed(file: &mut [u8], dice: &mut u64) -> usize
+    ensures { λ r. ⌜ r ≤ length (now (file .entry)) ⌝ }
+{
+    let code = some_length(dice, LONGEST_CODE);
+    let memory = some_length(dice, LONGEST_MEMORY);
+    let mut end = put_field_or_none(file, 0, dice, CODE, code);
+    end = put_field_or_none(file, end, dice, MEMORY, memory);
+    end = put_field_or_none(file, end, dice, MMX_REGISTERS, MMX_BYTES);
+    end = put_field_or_none(file, end, dice, INTEGER_REGISTERS, INTEGER_BYTES);
+    put_marks(file, end, dice)
+}
+
+// Likely code, with a memory and small numbers in the integer registers.
+fn likely(file: &mut [u8], dice: &mut u64) -> usize
+    ensures { λ r. ⌜ r ≤ length (now (file .entry)) ⌝ }
+{
+    let memory = some_length(dice, LONGEST_MEMORY);
+    let mut end = put_likely_code(file, dice);
+    end = put_field(file, end, dice, MEMORY, memory);
+    end = put_field_or_none(file, end, dice, MMX_REGISTERS, MMX_BYTES);
+    end = put_integers(file, end, dice);
+    put_marks(file, end, dice)
+}
+
+// Puts a file of a sort at the start of a buffer, and answers its length.
+pub(crate) fn make(file: &mut [u8], dice: &mut u64, sort: Sort) -> usize
+    ensures { λ r. ⌜ r ≤ length (now (file .entry)) ⌝ }
+{
+    match sort {
+        Sort::Plain => plain(file, dice),
+        Sort::Headed => headed(file, dice),
+        Sort::Likely => likely(file, dice),
+    }
+}
