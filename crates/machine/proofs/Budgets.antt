@@ -1,6 +1,6 @@
 -- The run as the code's loop takes it: what is left of the run after each turn is the whole run, since a turn is a step at its position.
-use mathlib.Core.Path.{_≡_, refl, sym, ap, _∙_}
-use mathlib.Core.Bool.{Bool, true, false, false≢true}
+use mathlib.Core.Path.{_≡_, sym, ap, _∙_}
+use mathlib.Core.Bool.{Bool, true, false}
 use mathlib.Core.List.{List}
 use Prim.Native.Nat.{ℕ, zero, suc, _+_, _-_, _≤_, _<_}
 use native.Mathlib.Nat.{sub-zero}
@@ -9,20 +9,17 @@ use native.Mathlib.Omega.{arith}
 use borrow.Author.Needs.{needs}
 use borrow.Author.Tests.{eq-eqb, ne-eqb, le-ltb, lt-ltb}
 use lib.Dec.{eqb}
-use lib.ListN.{length, drop, length-drop}
-use Rattle.reorder.specs.Result.{Result, done, refused, caseOf}
+use lib.ListN.{length}
 use Rattle.reorder.specs.Run.{Answer, finished, spent, stopped, runFrom}
-use Rattle.codec.specs.Reads.{longestCode, readPart}
+use Rattle.codec.specs.Reads.{longestCode}
 use Rattle.codec.specs.Refusals.{codeTooLong}
-use Rattle.codec.specs.Answers.{Answer as Found}
-use Rattle.codec.specs.Answers as found
-use Rattle.codec.proofs.Theorems.{reading-is-local}
 use Rattle.manual.specs.Refusals.{memoryTooLong}
 use Rattle.manual.specs.State.{State, longestMemory}
 use Rattle.manual.specs.Instructions.{execute}
-use Rattle.manual.specs.Steps.{concluded, completed, refusedWith, resultOf, stepAt}
+use Rattle.manual.specs.Steps.{completed, refusedWith, stepAt}
 use Rattle.manual.specs.Runs.{read, runOf}
-use Rattle.manual.proofs.Turns.{onward, turn, instruction-here}
+use Rattle.manual.proofs.Turns.{onward, turn}
+use Rattle.manual.proofs.Bounds.{step-within}
 use Rattle.machine.specs.declared.End.the-variants.{Done, Spent, Refused}
 use Rattle.machine.specs.declared.Machine.{Machine}
 use Rattle.machine.specs.declared.gathering.Marks.{Marks}
@@ -48,26 +45,6 @@ module _ (code : List ℕ) (budget : ℕ) (k : Machine) (m : List ℕ) where
   pub run-starts : length m ≤ longestMemory → length code ≤ longestCode → remaining (budget - 0) code 0 0 (stateOf k m) ≡ runOf code budget (stateOf k m)
   unfolding runOf remaining
   run-starts h g = simp (le-ltb longestMemory (length m) h, le-ltb longestCode (length code) g, sub-zero)
-
--- a completed step leaves a position of the code
-module _ (code : List ℕ) (at : ℕ) (s : State) (memory-fits : length (s .memory) ≤ longestMemory) (code-fits : length code ≤ longestCode) where
-  within : (next : ℕ) (t : State) → stepAt code at s ≡ completed next t → next ≤ length code
-  unfolding stepAt read
-  within next t e =
-      reading (readPart (drop at code)) refl
-      (simp (instruction-here code at s (le-ltb longestMemory (length (s .memory)) memory-fits) (le-ltb longestCode (length code) code-fits)) at e)
-    where
-      executing : (n : ℕ) (o : Result State) → n ≤ length (drop at code) → 0 < n
-          → concluded at (at + n) s o ≡ completed next t → next ≤ length code
-      executing n (refused r) h g z = absurd (false≢true (cc))
-      executing n (done u) h g z = let same : at + n ≡ next = cc in omega (arith, length-drop at code)
-
-      reading : (z : Found) → readPart (drop at code) ≡ z
-          → caseOf (resultOf z) (λ r. refusedWith r at s) (λ r. concluded at (at + r .size) s (execute (r .instruction) s)) ≡ completed next t
-          → next ≤ length code
-      reading (found.good i n) r z =
-          let l = reading-is-local (drop at code) i n r in executing n (execute i s) (l .within) (l .some) z
-      reading (found.refused n) r z = absurd (false≢true (cc))
 
 -- a run that comes to R, at a turn with what is left of its budget
 module _ (code : List ℕ) (at count budget : ℕ) (R : Answer State) where
@@ -118,7 +95,7 @@ module _ (code : List ℕ) (at count budget : ℕ) (R : Answer State) where
     pub run-within : moved .refusal ≡ 0 → moved .next ≤ length code
     run-within e =
         let fits : length m ≤ longestMemory = omega arith in
-        within code at s fits code-fits (moved .next) t (sym (completes e))
+        step-within code (le-ltb longestCode (length code) code-fits) at (moved .next) s t (le-ltb longestMemory (length (s .memory)) fits) (sym (completes e))
 
     pub run-on : moved .refusal ≡ 0 → remaining (budget - (count + 1)) code (moved .next) (count + 1) t ≡ R
     unfolding remaining

@@ -7,6 +7,7 @@ pub mod Demand3
 pub mod Turns
 pub mod Refusals
 pub mod Exactly
+pub mod Bounds
 pub mod Uses
 pub mod Meeting
 pub mod Direct

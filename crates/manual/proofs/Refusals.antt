@@ -48,7 +48,7 @@ execute-frozen i s t e =
     let (pl, vs, ep, em, et) = planned look put marked via plan (effectOf i) s t e in
     ap frozen et ∙ leaves-frozen look put marked frozen KindsMeet laws pl s vs
 
-step-frozen : (code : List ℕ) (at at′ : ℕ) (s t : State) → stepAt code at s ≡ completed at′ t → frozen t ≡ frozen s
+pub step-frozen : (code : List ℕ) (at at′ : ℕ) (s t : State) → stepAt code at s ≡ completed at′ t → frozen t ≡ frozen s
 unfolding stepAt
 step-frozen code at at′ s t e = reading (instructionAt code at s) e
   where

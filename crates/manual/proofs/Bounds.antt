@@ -1,0 +1,120 @@
+-- A run stays within its bounds: its position within the code, its count within the budget, its refusal at most 10; and it changes nothing that is
+-- frozen. By its turns: so does each step.
+use mathlib.Core.Path.{_≡_, refl, sym, ap, subst, _∙_}
+use mathlib.Core.Bool.{Bool, true, false, cond, false≢true}
+use mathlib.Core.List.{List}
+use Prim.Native.Nat.{ℕ, zero, suc, _+_, _≤_, _<_}
+use native.Mathlib.Omega.{arith}
+use lib.Dec.{eqb, ltb}
+use lib.ListN.{length, drop, length-drop}
+use Rattle.reorder.specs.Result.{Result, done, refused, caseOf}
+use Rattle.reorder.specs.Run.{Answer, finished, spent, stopped, runFrom, run}
+use Rattle.codec.specs.Reads.{longestCode, readPart}
+use Rattle.codec.specs.Reasons as codec
+use Rattle.codec.specs.Answers.{Answer as Found}
+use Rattle.codec.specs.Answers as found
+use Rattle.codec.proofs.Theorems.{reading-is-local}
+use Rattle.manual.specs.State.{State, Frozen, frozen, longestMemory, isTooLong}
+use Rattle.manual.specs.Instructions.{execute}
+use Rattle.manual.specs.Steps.{Outcome, concluded, completed, refusedWith, resultOf, stepAt}
+use Rattle.manual.specs.Reasons.{Reason, one, reading, seven, eight, nine, ten}
+use Rattle.manual.specs.Runs.{read, runOf}
+use Rattle.manual.proofs.Turns.{onward, turn, instruction-here}
+use Rattle.manual.proofs.Refusals.{refused-step, step-frozen}
+use Rattle.manual.proofs.Exactly.{step-exactly}
+
+-- a step's refusal is at most 10
+part-small : (s : List ℕ) (n : ℕ) → codec.Reason s n → n ≤ 10
+part-small s n (codec.three x) = omega arith
+part-small s n (codec.four x) = omega arith
+part-small s n (codec.five x) = omega arith
+part-small s n (codec.six x) = omega arith
+
+reading-small : (code : List ℕ) (at n : ℕ) → codec.ReasonAt code at n → n ≤ 10
+reading-small code at n (codec.two h) = omega arith
+reading-small code at n (codec.left h r) = part-small (drop at code) n r
+
+reason-small : (code : List ℕ) (at : ℕ) (s : State) (n : ℕ) → Reason code at s n → n ≤ 10
+reason-small code at s n (one h) = omega arith
+reason-small code at s n (reading h r) = reading-small code at n r
+reason-small code at s n (seven i size h em) = omega arith
+reason-small code at s n (eight i size h em ts) = omega arith
+reason-small code at s n (nine i size h em ts pending) = omega arith
+reason-small code at s n (ten i size h em ts pending x either o) = omega arith
+
+module _ (code : List ℕ) (code-fits : ltb longestCode (length code) ≡ false) where
+  -- a completed step leaves a position of the code
+  pub step-within : (at next : ℕ) (s t : State) → isTooLong (s .memory) ≡ false → stepAt code at s ≡ completed next t → next ≤ length code
+  unfolding stepAt read
+  step-within at next s t memory-fits e =
+      reads (readPart (drop at code)) refl (simp (instruction-here code at s memory-fits code-fits) at e)
+    where
+      executing : (n : ℕ) (o : Result State) → n ≤ length (drop at code) → 0 < n → concluded at (at + n) s o ≡ completed next t → next ≤ length code
+      executing n (refused r) h g z = absurd (false≢true (cc))
+      executing n (done u) h g z = let same : at + n ≡ next = cc in omega (arith, length-drop at code)
+
+      reads : (z : Found) → readPart (drop at code) ≡ z
+          → caseOf (resultOf z) (λ r. refusedWith r at s) (λ r. concluded at (at + r .size) s (execute (r .instruction) s)) ≡ completed next t
+          → next ≤ length code
+      reads (found.good i n) r z = let l = reading-is-local (drop at code) i n r in executing n (execute i s) (l .within) (l .some) z
+      reads (found.refused n) r z = absurd (false≢true (cc))
+
+-- the bounds of a run's end, from a start with so large a budget
+pub record Bounds (code : List ℕ) (budget : ℕ) (start : State) (at count : ℕ) (t : State) : Type 0 where
+  pub position : at ≤ length code
+  pub completed-steps : count ≤ budget
+  pub kept : frozen t ≡ frozen start
+
+abbrev pub Bounded : List ℕ → ℕ → State → Answer State → Type 0
+Bounded code budget start (finished at count t) = Bounds code budget start at count t
+Bounded code budget start (spent at count t) = Bounds code budget start at count t
+Bounded code budget start (stopped n at count t) = (n ≤ 10) × Bounds code budget start at count t
+
+module _ (code : List ℕ) (code-fits : ltb longestCode (length code) ≡ false) (budget : ℕ) (start : State) where
+  from : (left at count : ℕ) (s : State) → count + left ≤ budget → isTooLong (s .memory) ≡ false → Bounds code budget start at count s
+      → Bounded code budget start (runFrom read execute left code at count s)
+  from zero at count s most fits b = at-end (eqb at (length code))
+    where
+      at-end : (t : Bool) → Bounded code budget start (cond t (finished at count s) (spent at count s))
+      at-end true = b
+      at-end false = b
+  from (suc left) at count s most fits b =
+      at-end (eqb at (length code)) refl (λ at′ u fits′ b′. from left at′ (suc count) u (omega arith) fits′ b′)
+    where
+      Further : Type 0
+      Further =
+          (at′ : ℕ) (u : State) → isTooLong (u .memory) ≡ false → Bounds code budget start at′ (suc count) u
+          → Bounded code budget start (runFrom read execute left code at′ (suc count) u)
+
+      stepping : (o : Outcome) → stepAt code at s ≡ o → Further → Bounded code budget start (onward (runFrom read execute left code) count o)
+      stepping (refusedWith n at′ u) e further =
+          let (same-at, same-state) = refused-step code at n at′ s u e in
+          let given : stepAt code at s ≡ refusedWith n at s = cc in (
+            reason-small code at s n (step-exactly code at s n .0 given),
+            record {
+              position = omega (arith, b .position);
+              completed-steps = b .completed-steps;
+              kept = ap frozen same-state ∙ b .kept;
+            },
+          )
+      stepping (completed at′ u) e further =
+          let same = step-frozen code at at′ s u e in
+          further at′ u (ap (λ (f : Frozen). ltb longestMemory (f .memory)) same ∙ fits)
+          (record { position = step-within code code-fits at at′ s u fits e; completed-steps = omega arith; kept = same ∙ b .kept })
+
+      at-end : (t : Bool) → eqb at (length code) ≡ t → Further → Bounded code budget start (runFrom read execute (suc left) code at count s)
+      at-end true e further = rw e b
+      at-end false e further = subst (Bounded code budget start) (sym (turn code at s fits code-fits left count e)) (stepping (stepAt code at s) refl further)
+
+pub run-bounded : (code : List ℕ) (budget : ℕ) (s : State) → Bounded code budget s (runOf code budget s)
+unfolding runOf
+run-bounded code budget s = tests (isTooLong (s .memory)) (ltb longestCode (length code)) refl refl
+  where
+    still : Bounds code budget s 0 0 s
+    still = record { position = omega arith; completed-steps = omega arith; kept = refl }
+
+    tests : (a b : Bool) → isTooLong (s .memory) ≡ a → ltb longestCode (length code) ≡ b
+        → Bounded code budget s (cond a (stopped 1 0 0 s) (cond b (stopped 2 0 0 s) (run read execute budget code s)))
+    tests true b ea eb = (omega arith, still)
+    tests false true ea eb = (omega arith, still)
+    tests false false ea eb = from code eb budget s budget 0 0 s (omega arith) ea still
