@@ -2,8 +2,8 @@
 -- a reason is refused by its number.
 use Prim.Native.Nat.{ℕ, _+_, _-_, _≤_, _<_}
 use mathlib.Core.Path.{_≡_, refl, sym, ap, subst, _∙_}
-use mathlib.Core.Logic.{_↔_, inl, inr}
-use mathlib.Core.Bool.{Bool, true, false, cond, false≢true}
+use mathlib.Core.Logic.{_↔_, inl, inr, _⊎_}
+use mathlib.Core.Bool.{Bool, true, false, cond, false≢true, _&&_, _||_}
 use mathlib.Core.List.{List, [], _∷_, _++_, append-assoc}
 use native.Mathlib.Omega.{arith}
 use borrow.Author.Tests.{leb-true, leb-false, le-leb, lt-leb, ltb-true, ltb-false, lt-ltb, le-ltb, eqb-true, eqb-false}
@@ -14,15 +14,17 @@ use Rattle.words.specs.Number.{number}
 use Rattle.codec.specs.Refusals.{codeTooLong, codeEnds, prefixed, notListed, notAllowed, noBytes, bufferEnds}
 use Rattle.codec.specs.Forms.{Form, absent, emms, shiftWD, shiftQ, storeD, loadD, storeQ, loadQ, usual, isAmong, isAbsent, hasOperand, allows}
 use Rattle.codec.specs.Opcodes.{entryOf, escape, prefixes}
+use Rattle.codec.specs.Packed.{formNumber}
 use Rattle.codec.specs.Operands.{upper, middle, lower, hasSib, noOperand}
 use Rattle.codec.specs.Reader.{Reader, whole, refuse, byte, field, reads}
 use Rattle.codec.specs.Reads.{immediateReader, displacementReader, sibReader, modrmReader, formReader, secondReader, instructionReader, refusalOf, readPart, longestCode, readAt}
-use Rattle.codec.specs.Reasons.{EndsInside, StartsPrefixed, StartsOther, StartsUnlisted, StartsNotAllowed, Reason, three, four, five, six, ReasonAt, two, left}
+use Rattle.codec.specs.Reasons.{EndsInside, StartsPrefixed, StartsOther, StartsUnlisted, Shifts, words, doublewords, quadwords, StartsNotAllowed, Reason, three, four, five, six, ReasonAt, two, left}
 use Rattle.codec.specs.Fits.{hasBytes}
 use Rattle.codec.specs.Writes.{bytesOf, writeTo}
 use Rattle.codec.specs.declared.Operand.{Operand}
 use Rattle.codec.specs.declared.Instruction.{Instruction}
 use Rattle.codec.specs.Answers.{Answer, good, refused, wrote, refusedWith}
+use Rattle.codec.proofs.Bytes.{numberIs, byte-with}
 use Rattle.codec.proofs.Readers.{field-reads, reads-yes, reads-no}
 use Rattle.codec.proofs.Theorems.{reading-is-local}
 
@@ -157,9 +159,60 @@ restrains storeQ mode reg rm e = absurd (false≢true (cc))
 restrains loadQ mode reg rm e = absurd (false≢true (cc))
 restrains usual mode reg rm e = absurd (false≢true (cc))
 
+either-false : (a b : Bool) → (a && b) ≡ false → (a ≡ false) ⊎ (b ≡ false)
+either-false true b e = inr e
+either-false false b e = inl refl
+
+false-either : (a b : Bool) → (a ≡ false) ⊎ (b ≡ false) → (a && b) ≡ false
+false-either true b (inl e) = absurd (false≢true (cc))
+false-either true b (inr e) = e
+false-either false b h = refl
+
+-- the forms of 71 to 73 allow what is not their reason for 6
+shifts-allow : (second mode reg rm : ℕ) (digits : List ℕ) → Shifts second digits → allows (entryOf second .form) mode reg rm ≡ (eqb mode 3 && isAmong reg digits)
+unfolding allows entryOf
+shifts-allow second mode reg rm digits words = refl
+shifts-allow second mode reg rm digits doublewords = refl
+shifts-allow second mode reg rm digits quadwords = refl
+
+-- and no other form restrains a ModRM byte
+word-bytes : (second : ℕ) → isAmong second (0x71 ∷ 0x72 ∷ []) ≡ true → Shifts second (2 ∷ 4 ∷ 6 ∷ [])
+word-bytes second h = by (eqb second 0x71) (eqb second 0x72) refl refl h
+  where
+    by : (a b : Bool) → eqb second 0x71 ≡ a → eqb second 0x72 ≡ b → (a || (b || false)) ≡ true → Shifts second (2 ∷ 4 ∷ 6 ∷ [])
+    by true b ea eb h = subst (λ (k : ℕ). Shifts k (2 ∷ 4 ∷ 6 ∷ [])) (sym (eqb-true second 0x71 ea)) words
+    by false true ea eb h = subst (λ (k : ℕ). Shifts k (2 ∷ 4 ∷ 6 ∷ [])) (sym (eqb-true second 0x72 eb)) doublewords
+    by false false ea eb h = absurd (false≢true (cc))
+
+quadword-byte : (second : ℕ) → isAmong second (0x73 ∷ []) ≡ true → Shifts second (2 ∷ 6 ∷ [])
+quadword-byte second h = by (eqb second 0x73) refl h
+  where
+    by : (a : Bool) → eqb second 0x73 ≡ a → (a || false) ≡ true → Shifts second (2 ∷ 6 ∷ [])
+    by true ea h = subst (λ (k : ℕ). Shifts k (2 ∷ 6 ∷ [])) (sym (eqb-true second 0x73 ea)) quadwords
+    by false ea h = absurd (false≢true (cc))
+
+not-allowed : (second modrm : ℕ) (s : List ℕ) → allows (entryOf second .form) (upper modrm) (middle modrm) (lower modrm) ≡ false
+    → StartsNotAllowed (escape ∷ second ∷ modrm ∷ s)
+unfolding allows
+not-allowed second modrm s h = by (entryOf second .form) refl h
+  where
+    by : (form : Form) → entryOf second .form ≡ form → allows form (upper modrm) (middle modrm) (lower modrm) ≡ false → StartsNotAllowed (escape ∷ second ∷ modrm ∷ s)
+    by absent e h = absurd (false≢true (cc))
+    by emms e h = absurd (false≢true (cc))
+    by shiftWD e h =
+        (second, modrm, 2 ∷ 4 ∷ 6 ∷ [], (s, refl), word-bytes second (byte-with (numberIs 2) refl second (ap (numberIs 2) e)), either-false (eqb (upper modrm) 3) _ h)
+    by shiftQ e h =
+        (second, modrm, 2 ∷ 6 ∷ [], (s, refl), quadword-byte second (byte-with (numberIs 3) refl second (ap (numberIs 3) e)), either-false (eqb (upper modrm) 3) _ h)
+    by storeD e h = absurd (false≢true (cc))
+    by loadD e h = absurd (false≢true (cc))
+    by storeQ e h = absurd (false≢true (cc))
+    by loadQ e h = absurd (false≢true (cc))
+    by usual e h = absurd (false≢true (cc))
+
 pub is-not-allowed : (s : List ℕ) → StartsNotAllowed s → readPart s ≡ refused notAllowed
 unfolding instructionReader secondReader formReader modrmReader
-is-not-allowed s (second, modrm, (rest, e), barred) =
+is-not-allowed s (second, modrm, digits, (rest, e), shifts, either) =
+    let barred = shifts-allow second (upper modrm) (middle modrm) (lower modrm) digits shifts ∙ false-either (eqb (upper modrm) 3) (isAmong (middle modrm) digits) either in
     let (there, has) = restrains (entryOf second .form) (upper modrm) (middle modrm) (lower modrm) barred in
     ap readPart e
     ∙ reads-no (isAbsent (entryOf second .form)) _ _ 2 (modrm ∷ rest) there
@@ -243,7 +296,7 @@ module _ (second : ℕ) (there : isAbsent (entryOf second .form) ≡ false) wher
       tested : (modrm : ℕ) (s : List ℕ) → hasOperand (entryOf second .form) ≡ true
           → (t : Bool) → allows (entryOf second .form) (upper modrm) (middle modrm) (lower modrm) ≡ t → Due (escape ∷ second ∷ modrm ∷ s)
       tested modrm s has true t = due-modrm modrm has t s
-      tested modrm s has false t = refusal notAllowed (six (second, modrm, (s, refl), t))
+      tested modrm s has false t = refusal notAllowed (six (not-allowed second modrm s t))
 
       by : (t : Bool) → hasOperand (entryOf second .form) ≡ t → (s : List ℕ) → Due (escape ∷ second ∷ s)
       by false bare s = due-bare s bare

@@ -6,6 +6,7 @@ pub mod FormNumbers
 pub mod Readers
 pub mod Given
 pub mod Entries
+pub mod Bytes
 pub mod Steps
 pub mod OurTable
 pub mod Facts

@@ -10,12 +10,12 @@ use Rattle.manual.specs.State.{State}
 use Rattle.manual.specs.Steps.{Outcome, completed, refusedWith, stepAt}
 use Rattle.manual.specs.Runs.{runOf}
 
--- the bytes 10 to 17 hex in the memory, all ones in MM0, these numbers in EAX and ECX, the tag mark empty, and these control marks
+-- the bytes 10 to 17 hex in the memory, all ones in MM0, these numbers in EAX and ECX, 4 in ESP and EBP, the tag mark empty, and these control marks
 abbrev start : ℕ → ℕ → Bool → Bool → Bool → State
 start eax ecx em ts pending =
     record {
       mmx = 0xffffffffffffffff ∷ replicate 7 0;
-      integers = eax ∷ ecx ∷ replicate 6 0;
+      integers = eax ∷ ecx ∷ 0 ∷ 0 ∷ 4 ∷ 4 ∷ 0 ∷ 0 ∷ [];
       valid = false;
       em = em;
       ts = ts;
@@ -69,10 +69,14 @@ memory value t = eqb (number (t .memory)) value && t .valid
 abbrev tagsEmpty : State → Bool
 tagsEmpty t = not (t .valid)
 
--- nothing has changed, and the tags are still empty
+-- MM0 and the memory are as they were, and the tags still empty
 abbrev unchanged : State → Bool
 unchanged t =
     eqb (getD (t .mmx) 0 0) 0xffffffffffffffff && eqb (number (t .memory)) 0x1716151413121110 && not (t .valid)
+
+-- a MOVQ from address 0 completes
+abbrev reachesZero : Answer State → Bool
+reachesZero = doneWith 1 (mm0 0x1716151413121110)
 
 abbrev completes : Answer State → Bool
 completes = doneWith 1 (λ t. t .valid)
@@ -83,7 +87,7 @@ refuses number = refusedAfter number 0 unchanged
 abbrev pub edges : List Bool
 edges =
     -- MOVQ at 0 completes, at 1 is 10
-    doneWith 1 (mm0 0x1716151413121110) (run (0x0f ∷ 0x6f ∷ 0x05 ∷ 0 ∷ 0 ∷ 0 ∷ 0 ∷ []))
+    reachesZero (run (0x0f ∷ 0x6f ∷ 0x05 ∷ 0 ∷ 0 ∷ 0 ∷ 0 ∷ []))
     ∷ refuses 10 (run (0x0f ∷ 0x6f ∷ 0x05 ∷ 1 ∷ 0 ∷ 0 ∷ 0 ∷ []))
     -- PUNPCKLBW at 4 completes, at 5 is 10
     ∷ completes (run (0x0f ∷ 0x60 ∷ 0x05 ∷ 4 ∷ 0 ∷ 0 ∷ 0 ∷ []))
@@ -91,15 +95,33 @@ edges =
     -- a store at 1 is 10, and writes none of its bytes
     ∷ refuses 10 (run (0x0f ∷ 0x7f ∷ 0x05 ∷ 1 ∷ 0 ∷ 0 ∷ 0 ∷ []))
     -- EAX = FFFFFFFF with displacement 1 reaches 0, EAX = 1 with displacement -1 too
-    ∷ doneWith 1 (mm0 0x1716151413121110) (runWith 0xffffffff 0 (0x0f ∷ 0x6f ∷ 0x40 ∷ 0x01 ∷ []))
-    ∷ doneWith 1 (mm0 0x1716151413121110) (runWith 1 0 (0x0f ∷ 0x6f ∷ 0x40 ∷ 0xff ∷ []))
+    ∷ reachesZero (runWith 0xffffffff 0 (0x0f ∷ 0x6f ∷ 0x40 ∷ 0x01 ∷ []))
+    ∷ reachesZero (runWith 1 0 (0x0f ∷ 0x6f ∷ 0x40 ∷ 0xff ∷ []))
     -- address FFFFFFFC is 10: the operand itself never wraps
     ∷ refuses 10 (run (0x0f ∷ 0x6f ∷ 0x05 ∷ 0xfc ∷ 0xff ∷ 0xff ∷ 0xff ∷ []))
+    -- the sum has 32 bits, no fewer: address 80000000 is 10
+    ∷ refuses 10 (runWith 0x80000000 0 (0x0f ∷ 0x6f ∷ 0x00 ∷ []))
+    -- a displacement byte is signed from 80 on; one of 32 bits stands for itself
+    ∷ reachesZero (runWith 0x80 0 (0x0f ∷ 0x6f ∷ 0x40 ∷ 0x80 ∷ []))
+    ∷ reachesZero (runWith 0xffffff81 0 (0x0f ∷ 0x6f ∷ 0x40 ∷ 0x7f ∷ []))
+    ∷ reachesZero (runWith 0xffffff80 0 (0x0f ∷ 0x6f ∷ 0x80 ∷ 0x80 ∷ 0 ∷ 0 ∷ 0 ∷ []))
+    -- EAX plus ECX times 1, 2, 4 and 8
+    ∷ reachesZero (runWith 0xffffffff 1 (0x0f ∷ 0x6f ∷ 0x04 ∷ 0x08 ∷ []))
+    ∷ reachesZero (runWith 0xfffffffe 1 (0x0f ∷ 0x6f ∷ 0x04 ∷ 0x48 ∷ []))
+    ∷ reachesZero (runWith 0xfffffffc 1 (0x0f ∷ 0x6f ∷ 0x04 ∷ 0x88 ∷ []))
+    ∷ reachesZero (runWith 0xfffffff8 1 (0x0f ∷ 0x6f ∷ 0x04 ∷ 0xc8 ∷ []))
     -- EAX + ECX * 8 + 8 wraps
-    ∷ completes (runWith 0 0x1fffffff (0x0f ∷ 0x6f ∷ 0x44 ∷ 0xc8 ∷ 0x08 ∷ []))
-    -- index 100 is none, at any scale; at mod 00, base 101 is none
-    ∷ completes (runWith 0 0 (0x0f ∷ 0x6f ∷ 0x04 ∷ 0xe0 ∷ []))
-    ∷ completes (runWith 0xffffffff 0 (0x0f ∷ 0x6f ∷ 0x04 ∷ 0x25 ∷ 0 ∷ 0 ∷ 0 ∷ 0 ∷ []))
+    ∷ reachesZero (runWith 0 0x1fffffff (0x0f ∷ 0x6f ∷ 0x44 ∷ 0xc8 ∷ 0x08 ∷ []))
+    -- index 100 is none, at any scale; base 100 is ESP, which is 4
+    ∷ reachesZero (runWith 0 0 (0x0f ∷ 0x6f ∷ 0x04 ∷ 0xe0 ∷ []))
+    ∷ reachesZero (runWith 0 0 (0x0f ∷ 0x6f ∷ 0x44 ∷ 0x24 ∷ 0xfc ∷ []))
+    -- at mod 00, rm 101 and base 101 are none; at mod 01 and 10 they are EBP, which is 4
+    ∷ reachesZero (run (0x0f ∷ 0x6f ∷ 0x05 ∷ 0 ∷ 0 ∷ 0 ∷ 0 ∷ []))
+    ∷ reachesZero (run (0x0f ∷ 0x6f ∷ 0x04 ∷ 0x25 ∷ 0 ∷ 0 ∷ 0 ∷ 0 ∷ []))
+    ∷ reachesZero (run (0x0f ∷ 0x6f ∷ 0x45 ∷ 0xfc ∷ []))
+    ∷ reachesZero (run (0x0f ∷ 0x6f ∷ 0x85 ∷ 0xfc ∷ 0xff ∷ 0xff ∷ 0xff ∷ []))
+    ∷ reachesZero (run (0x0f ∷ 0x6f ∷ 0x44 ∷ 0x25 ∷ 0xfc ∷ []))
+    ∷ reachesZero (run (0x0f ∷ 0x6f ∷ 0x84 ∷ 0x25 ∷ 0xfc ∷ 0xff ∷ 0xff ∷ 0xff ∷ []))
     -- MOVD to MMX clears the upper half; MOVD from MMX takes the low half
     ∷ doneWith 1 (mm0 5) (runWith 5 0 (0x0f ∷ 0x6e ∷ 0xc0 ∷ []))
     ∷ doneWith 1 (eax 0xffffffff) (run (0x0f ∷ 0x7e ∷ 0xc0 ∷ []))

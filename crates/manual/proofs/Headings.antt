@@ -11,7 +11,7 @@ use Rattle.codec.specs.Opcodes.{Row, row, rows, entryOf}
 use Rattle.codec.specs.declared.Operand.{Operand}
 use Rattle.manual.specs.Locations.{rmOf}
 use Rattle.manual.specs.Instructions.{shiftOf, effectAt}
-use Rattle.manual.specs.Contents.{Line, alone, computes, copies, shifts, contents, linesOf, AllHold}
+use Rattle.manual.specs.Contents.{Line, alone, computes, combines, copies, shifts, contents, linesOf, AllHold}
 
 infixr 40 _and_
 _and_ : {A B : Type 0} → A → B → A × B
@@ -33,9 +33,10 @@ key second digit = second * 8 + digit
 
 abbrev keyOf : Line → ℕ
 keyOf (alone second kind) = key second 0
-keyOf (computes destination source second f) = key second 0
+keyOf (computes destination source second rule lane) = key second 0
+keyOf (combines destination source second f) = key second 0
 keyOf (copies destination source second f) = key second 0
-keyOf (shifts second digit f) = key second digit
+keyOf (shifts second digit rule lane) = key second digit
 
 -- the keys of a second byte in the table: of a shift, one for each digit that it may have
 abbrev digitKeys : ℕ → Form → List ℕ → List ℕ
@@ -67,7 +68,19 @@ abbrev onceEach : List ℕ → List ℕ → Bool
 onceEach [] ys = true
 onceEach (x ∷ xs) ys = eqb (count x ys) 1 && onceEach xs ys
 
--- 47 headings with 57 instructions; 52 second bytes, which with their digits make 57 opcodes; and these are those, each once
+-- the table's lane width is that of the rule; of a move, that of its operand
+abbrev isWide : Line → Bool
+isWide (alone second kind) = true
+isWide (computes destination source second rule lane) = eqb (entryOf second .lane) lane
+isWide (combines destination source second f) = eqb (entryOf second .lane) 64
+isWide (copies destination source second f) = eqb (entryOf second .lane) (entryOf second .size * 8)
+isWide (shifts second digit rule lane) = eqb (entryOf second .lane) lane
+
+abbrev allWide : List Line → Bool
+allWide [] = true
+allWide (x ∷ xs) = isWide x && allWide xs
+
+-- 47 headings with 57 instructions; 52 second bytes, which with their digits make 57 opcodes; and these are those, each once, with the table's lane width
 pub headings-complete :
     (length contents ≡ 47)
     × (length (linesOf contents) ≡ 57)
@@ -75,5 +88,6 @@ pub headings-complete :
     × (length (tableKeys rows) ≡ 57)
     × T (onceEach (tableKeys rows) (map keyOf (linesOf contents)))
     × T (onceEach (map keyOf (linesOf contents)) (tableKeys rows))
-unfolding allows
-headings-complete = (refl, refl, refl, refl, tt, tt)
+    × T (allWide (linesOf contents))
+unfolding allows entryOf
+headings-complete = (refl, refl, refl, refl, tt, tt, tt)

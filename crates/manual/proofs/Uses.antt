@@ -1,7 +1,7 @@
 -- The footprint says what a step uses: the step goes by what its footprint reads alone, and changes what it writes alone, since both are made
 -- from one plan.
-use mathlib.Core.Path.{_≡_, refl, ap, _∙_, subst, subst₂}
-use mathlib.Core.Bool.{Bool, true, false}
+use mathlib.Core.Path.{_≡_, refl, sym, ap, _∙_, subst, subst₂}
+use mathlib.Core.Bool.{Bool, true, false, not, _||_, false≢true}
 use mathlib.Core.List.{List, List·Memᴰ as In}
 use Prim.Native.Nat.{ℕ, _+_}
 use Rattle.reorder.specs.Result.{Result, done, refused, caseOf, andThen, mapResult}
@@ -10,14 +10,20 @@ use Rattle.reorder.specs.Footprint.{Footprint, footprintOf as ofPlan, asked}
 use Rattle.reorder.specs.Run.{Reading}
 use Rattle.reorder.proofs.Swapping.{completes, completed as planned}
 use Rattle.reorder.proofs.Honest.{Alike, asked-reads, honest, untouched}
+use Rattle.codec.specs.Forms.{Form, absent, emms, shiftWD, shiftQ, storeD, loadD, storeQ, loadQ, usual}
+use Rattle.codec.specs.Opcodes.{Entry, entryOf}
+use Rattle.codec.specs.declared.Operand.{Operand}
 use Rattle.codec.specs.declared.Instruction.{Instruction}
+use Rattle.codec.proofs.Bytes.{numberIs, byte-with}
+use borrow.Author.Tests.{eqb-true}
+use lib.Dec.{eqb}
 use Rattle.manual.specs.declared.Kind.{Kind}
 use Rattle.manual.specs.declared.Kind.the-variants.{Ordinary, Emms}
 use Rattle.manual.specs.State.{State, frozen}
 use Rattle.manual.specs.Places.{Place, look, put}
 use Rattle.manual.specs.Kinds.{marked, KindsMeet}
-use Rattle.manual.specs.Effects.{via, plan, footprintOf}
-use Rattle.manual.specs.Instructions.{effectOf, execute, footprint}
+use Rattle.manual.specs.Effects.{Effect, placesOfAll, planOn, unlessMarked, via, plan, footprintOf}
+use Rattle.manual.specs.Instructions.{effectBy, effectAt, effectOf, execute, footprint}
 use Rattle.manual.specs.Steps.{Outcome, completed, refusedWith, concluded, instructionAt, stepAt}
 use Rattle.manual.specs.Footprints.{footprintAt}
 use Rattle.manual.proofs.Laws.{laws, local}
@@ -60,7 +66,7 @@ unfolding execute footprint
 changes-writes i s t f e h = untouched look put marked frozen KindsMeet laws via plan (effectOf i) s t f e h
 
 -- the tag mark that a kind leaves
-abbrev pub tagOf : Kind → Bool
+abbrev tagOf : Kind → Bool
 tagOf Ordinary = true
 tagOf Emms = false
 
@@ -68,20 +74,53 @@ tag-marked : (k : Kind) (s : State) → marked k s .valid ≡ tagOf k
 tag-marked Ordinary s = refl
 tag-marked Emms s = refl
 
-tag-planned : (i : Instruction) (s t : State) (f : Footprint Place Kind) (pl : Plan Place Kind) (vs : List ℕ)
-    → footprintOf (effectOf i) s ≡ done (ofPlan (via (effectOf i)) pl) → footprintOf (effectOf i) s ≡ done f → t ≡ leaves put marked pl s vs
-    → t .valid ≡ tagOf (f .kind)
-tag-planned i s t f pl vs e h et =
-    let same : ofPlan (via (effectOf i)) pl ≡ f = cc in
-    ap (λ (u : State). u .valid) et ∙ tag-marked (pl .kind) _ ∙ ap (λ g. tagOf (g .kind)) same
+-- a plan has its effect's kind
+plan-kind : (e : Effect) (s : State) (pl : Plan Place Kind) → plan e s ≡ done pl → pl .kind ≡ e .kind
+plan-kind e s pl h = marks (s .em) (s .ts) (s .pending) h
+  where
+    placed : (a b : Result (List Place)) → andThen a (λ source. mapResult (planOn e source) b) ≡ done pl → pl .kind ≡ e .kind
+    placed (done from) (done to) h = let same : planOn e from to ≡ pl = cc in sym (ap (λ (p : Plan Place Kind). p .kind) same)
+    placed (done from) (refused n) h = absurd (false≢true (cc))
+    placed (refused n) b h = absurd (false≢true (cc))
 
--- a completed step leaves the tag mark valid, or empty if it is EMMS
-pub tag-after : (i : Instruction) (s t : State) (f : Footprint Place Kind) → execute i s ≡ done t → footprint i s ≡ done f
-    → t .valid ≡ tagOf (f .kind)
-unfolding execute footprint
-tag-after i s t f e h =
+    marks : (em ts pending : Bool)
+        → unlessMarked em ts pending (andThen (placesOfAll s (e .takes)) (λ source. mapResult (planOn e source) (placesOfAll s (e .gives)))) ≡ done pl
+        → pl .kind ≡ e .kind
+    marks true ts pending h = absurd (false≢true (cc))
+    marks false true pending h = absurd (false≢true (cc))
+    marks false false true h = absurd (false≢true (cc))
+    marks false false false h = placed (placesOfAll s (e .takes)) (placesOfAll s (e .gives)) h
+
+-- the form of EMMS has its kind, and no other
+form-tag : (form : Form) (entry : Entry) (w : Operand) (immediate : ℕ) → tagOf (effectBy form entry w immediate .kind) ≡ not (numberIs 1 form)
+form-tag absent entry w immediate = refl
+form-tag emms entry w immediate = refl
+form-tag shiftWD entry w immediate = refl
+form-tag shiftQ entry w immediate = refl
+form-tag storeD entry w immediate = refl
+form-tag loadD entry w immediate = refl
+form-tag storeQ entry w immediate = refl
+form-tag loadQ entry w immediate = refl
+form-tag usual entry w immediate = refl
+
+-- 77 has that form, and no other second byte
+emms-byte : (second : ℕ) → numberIs 1 (entryOf second .form) ≡ eqb second 0x77
+unfolding entryOf
+emms-byte second = by (eqb second 0x77) (numberIs 1 (entryOf second .form)) refl refl
+  where
+    by : (t u : Bool) → eqb second 0x77 ≡ t → numberIs 1 (entryOf second .form) ≡ u → u ≡ t
+    by true u e f = sym f ∙ ap (λ (k : ℕ). numberIs 1 (entryOf k .form)) (eqb-true second 0x77 e)
+    by false false e f = refl
+    by false true e f = absurd (false≢true (ap (λ (v : Bool). v || false) (sym e) ∙ byte-with (numberIs 1) refl second f))
+
+-- "Every completed instruction but EMMS sets it valid; EMMS sets it empty"
+pub tag-after : (i : Instruction) (s t : State) → execute i s ≡ done t → t .valid ≡ not (eqb (i .second) 0x77)
+unfolding execute effectAt
+tag-after i s t e =
     let (pl, vs, ep, em, et) = planned look put marked via plan (effectOf i) s t e in
-    tag-planned i s t f pl vs (completes look put marked via plan (effectOf i) s pl vs ep em .1) h et
+    let entry = entryOf (i .second) in
+    ap (λ (u : State). u .valid) et ∙ tag-marked (pl .kind) _ ∙ ap tagOf (plan-kind (effectOf i) s pl ep)
+    ∙ form-tag (entry .form) entry (i .operand) (i .immediate) ∙ ap not (emms-byte (i .second))
 
 -- an outcome and a footprint go together: both there, or both refused by one number
 abbrev pub Together : Outcome → Result (Footprint Place Kind) → Type 0
