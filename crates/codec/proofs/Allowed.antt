@@ -8,7 +8,7 @@ use contract.Lifetimes.{Lfts}
 use borrow.Fn.Kinds.{Dens, resT, endedOf}
 use denote.Triple.Clauses.{AtExit}
 use denote.Ref.{now}
-use Rattle.codec.specs.Answers.{answerOf, written}
+use Rattle.codec.specs.Answers.{paperOfReading, paperOfWriting}
 use Rattle.codec.specs.declared.Reading.{Reading}
 use Rattle.codec.specs.declared.Reading.the-variants as reading
 use Rattle.codec.specs.declared.Writing.{Writing}
@@ -22,13 +22,13 @@ use Rattle.codec.proofs.read.Kinds as read-kinds
 use Rattle.codec.proofs.write.Reads as write-reads
 use Rattle.codec.proofs.write.Kinds as write-kinds
 
-answer-one : (x y : Reading) → answerOf x ≡ answerOf y → x ≡ y
+answer-one : (x y : Reading) → paperOfReading x ≡ paperOfReading y → x ≡ y
 answer-one (reading.Read i m) (reading.Read j n) e = cc
 answer-one (reading.Read i m) (reading.Refused n) e = absurd (false≢true (cc))
 answer-one (reading.Refused m) (reading.Read j n) e = absurd (false≢true (cc))
 answer-one (reading.Refused m) (reading.Refused n) e = cc
 
-written-one : (x y : Writing) (a b : List ℕ) → written x a ≡ written y b → (x ≡ y) × (a ≡ b)
+written-one : (x y : Writing) (a b : List ℕ) → paperOfWriting x a ≡ paperOfWriting y b → (x ≡ y) × (a ≡ b)
 written-one (writing.Wrote m) (writing.Wrote n) a b e = (cc, cc)
 written-one (writing.Wrote m) (writing.Refused n) a b e = absurd (false≢true (cc))
 written-one (writing.Refused m) (writing.Wrote n) a b e = absurd (false≢true (cc))

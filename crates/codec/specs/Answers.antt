@@ -15,9 +15,9 @@ pub data Answer : Type 0 where
   refused : ℕ → Answer
 
 -- the paper's answer for each case of the reader's
-abbrev pub answerOf : Reading → Answer
-answerOf (reading.Read instruction size) = good instruction size
-answerOf (reading.Refused refusal) = refused refusal
+abbrev pub paperOfReading : Reading → Answer
+paperOfReading (reading.Read instruction size) = good instruction size
+paperOfReading (reading.Refused refusal) = refused refusal
 
 -- what writing comes to, with what is then in the buffer
 pub data Written : Type 0 where
@@ -27,6 +27,6 @@ pub data Written : Type 0 where
   refusedWith : ℕ → List ℕ → Written
 
 -- the paper's answer for each case of the writer's
-abbrev pub written : Writing → List ℕ → Written
-written (writing.Wrote size) buffer = wrote size buffer
-written (writing.Refused refusal) buffer = refusedWith refusal buffer
+abbrev pub paperOfWriting : Writing → List ℕ → Written
+paperOfWriting (writing.Wrote size) buffer = wrote size buffer
+paperOfWriting (writing.Refused refusal) buffer = refusedWith refusal buffer

@@ -1,6 +1,6 @@
 // MMX instruction bytes to records and back: the records, the answers, and the table, the reader and the writer for other crates.
 ghost use mathlib.Core.Path.{_≡_};
-ghost use Rattle.codec.specs.Answers.{answerOf, written};
+ghost use Rattle.codec.specs.Answers.{paperOfReading, paperOfWriting};
 ghost use Rattle.codec.specs.Packed.{packedRows};
 ghost use Rattle.codec.specs.Reads.{readAt};
 ghost use Rattle.codec.specs.Lent.{findWith};
@@ -83,7 +83,7 @@ pub fn read_from(table: &[u32; 256], code: &[u8], at: usize) -> Found
 
 // Reads the instruction at a position.
 pub fn read(code: &[u8], at: usize) -> Reading
-    ensures { λ r. ⌜ answerOf r ≡ readAt (now (code .entry)) at ⌝ }
+    ensures { λ r. ⌜ paperOfReading r ≡ readAt (now (code .entry)) at ⌝ }
 {
     if LONGEST_CODE < code.len() {
         return Reading::Refused(CODE_TOO_LONG);
@@ -101,7 +101,7 @@ pub fn read(code: &[u8], at: usize) -> Reading
 
 // Writes an instruction at the start of a buffer; a refused one changes no byte of it.
 pub fn write(instruction: Instruction, buffer: &mut [u8]) -> Writing
-    ensures { λ r. ⌜ written r (now (buffer .exit)) ≡ writeTo instruction (now (buffer .entry)) ⌝ }
+    ensures { λ r. ⌜ paperOfWriting r (now (buffer .exit)) ≡ writeTo instruction (now (buffer .entry)) ⌝ }
 {
     let form = opcodes::form_for(instruction.second);
     if writer::has_bytes(form, instruction) {

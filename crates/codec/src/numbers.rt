@@ -1,4 +1,4 @@
-// The numbers that the codec's modules share, and who goes on with what was read.
+// The numbers that the codec's modules share with each other, and with whoever uses what was read.
 
 // The longest code, in bytes.
 pub const LONGEST_CODE: usize = 4096;

@@ -1,5 +1,5 @@
 -- Every lane of every rule fits its width: what is wrapped does, and so do ones, lanes and what a shift leaves of them.
-use Prim.Native.Nat.{ℕ, _+_, _*_, _/_, _-_, _^_, _<_, min}
+use Prim.Native.Nat.{ℕ, _+_, _*_, _/_, _^_, _<_, min}
 use mathlib.Core.Bool.{Bool, true, false}
 use native.Mathlib.Nat.{mod-lt, div-le-self, lt-of-le-of-lt}
 use native.Mathlib.Omega.{arith}

@@ -1,9 +1,9 @@
--- Illustrations of manual 004, for what document 01's plates leave out: whole registers.
+-- Illustrations of manual 004, for what document 01's plates leave out, and an example of PANDN, for which 004 has no numbers.
 use Prim.Native.Nat.{ℕ}
 use mathlib.Core.Bool.{Bool, true, _&&_}
 use mathlib.Core.List.{List, [], _∷_}
 use lib.Dec.{eqb}
-use Rattle.lanes.specs.Operations.{Operation, PUNPCKLWD, PACKSSWB, PCMPGTW, PUNPCKHWD, PCMPEQB, PMULLW, PADDUSB, PANDN, operate}
+use Rattle.lanes.specs.Operations.{Operation, PUNPCKLWD, PACKSSWB, PCMPGTW, PUNPCKHWD, PCMPEQB, PMULLW, PSUBUSW, PADDUSB, PSUBSB, PSUBSW, PANDN, PSUBB, operate}
 
 -- an operation, its destination, its source, and what it leaves
 pub data Illustration : Type 0 where
@@ -23,6 +23,11 @@ illustrations =
     ∷ shows PUNPCKHWD 0x403076625FCF0001 0x1569F98C06FD0000 0x15694030F98C7662
     ∷ shows PUNPCKLWD 0x403076625FCF0001 0x1569F98C06FD0000 0x06FD5FCF00000001
     ∷ shows PADDUSB 0x7FD253427770079A 0x8188EC0E1444F7A8 0xFFFFFF508BB4FEFF
-    -- 004 has no numbers for PANDN: it inverts its destination
+    -- single lanes of subtractions
+    ∷ shows PSUBB 0x53079A 0xECF7A8 0x6710F2
+    ∷ shows PSUBSB 0x8242 0x0FC1 0x807F
+    ∷ shows PSUBSW 0x53218007 0xD3200FF9 0x7FFF8000
+    ∷ shows PSUBUSW 0x00005321 0x0000EC22 0
+    -- PANDN inverts its destination
     ∷ shows PANDN 0xF0F0F0F0F0F0F0F0 0xFFFF0000FFFF0000 0x0F0F00000F0F0000
     ∷ []

@@ -14,7 +14,7 @@ use Rattle.machine.specs.declared.gathering.Marks.{Marks}
 use Rattle.machine.specs.declared.gathering.Work.{Work}
 use Rattle.machine.specs.declared.stepping.Moved.{Moved}
 use Rattle.machine.specs.State.{stateOf}
-use Rattle.machine.specs.Works.{machineOf, toOperate, toStore, toMove, toEmpty, performed, Gathered, endedAs}
+use Rattle.machine.specs.Works.{machineOf, toOperate, toStore, toInteger, toEmpty, performed, Gathered, endedAs}
 
 module _ (registers integers : List ℕ) (marks : Marks) (code : List ℕ) (at : ℕ) (m : List ℕ) (work : Work) (g : Gathered work registers integers marks code at m) where
   abbrev Step : Outcome
@@ -24,7 +24,7 @@ module _ (registers integers : List ℕ) (marks : Marks) (code : List ℕ) (at :
   pub register-there : work .what ≡ toOperate → work .place < 8
   register-there e = g .sound .operates e
 
-  pub integer-there : work .what ≡ toMove → work .place < 8
+  pub integer-there : work .what ≡ toInteger → work .place < 8
   integer-there e = g .sound .moves e
 
   pub register-offset : work .what ≡ toOperate → work .place * 8 < 2 ^ 64
@@ -44,7 +44,7 @@ module _ (registers integers : List ℕ) (marks : Marks) (code : List ℕ) (at :
   unfolding endedAs performed
   ended-store m′ e h = simp (e, ← h) at (g .steps)
 
-  pub ended-integer : (integers′ : List ℕ) → work .what ≡ toMove → integers′ ≡ set integers (work .place) (work .value % 2 ^ 32)
+  pub ended-integer : (integers′ : List ℕ) → work .what ≡ toInteger → integers′ ≡ set integers (work .place) (work .value % 2 ^ 32)
       → endedAs (went true) registers integers′ marks m ≡ Step
   unfolding endedAs performed
   ended-integer integers′ e h = simp (e, ← h) at (g .steps)
@@ -53,12 +53,12 @@ module _ (registers integers : List ℕ) (marks : Marks) (code : List ℕ) (at :
   unfolding endedAs performed
   ended-empty e = simp e at (g .steps)
 
-  pub ended-refused : (work .what ≡ toOperate → ⊥) → (work .what ≡ toStore → ⊥) → (work .what ≡ toMove → ⊥) → (work .what ≡ toEmpty → ⊥)
+  pub ended-refused : (work .what ≡ toOperate → ⊥) → (work .what ≡ toStore → ⊥) → (work .what ≡ toInteger → ⊥) → (work .what ≡ toEmpty → ⊥)
       → endedAs (record { refusal = work .number; next = at; valid = marks .valid }) registers integers marks m ≡ Step
   unfolding endedAs performed
   ended-refused a b c d =
       simp (ne-eqb (work .number) 0 (g .sound .refuses a b c d))
-      (simp (ne-eqb (work .what) toOperate a, ne-eqb (work .what) toStore b, ne-eqb (work .what) toMove c, ne-eqb (work .what) toEmpty d) at (g .steps))
+      (simp (ne-eqb (work .what) toOperate a, ne-eqb (work .what) toStore b, ne-eqb (work .what) toInteger c, ne-eqb (work .what) toEmpty d) at (g .steps))
 
 pub ruleset operating = (needs, register-there, register-offset, ended-operate)
 

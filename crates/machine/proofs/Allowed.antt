@@ -18,8 +18,8 @@ use Rattle.machine.specs.declared.End.{End}
 use Rattle.machine.specs.declared.End.the-variants as end
 use Rattle.machine.specs.declared.Ran.{Ran}
 use Rattle.machine.specs.State.{stateOf}
-use Rattle.machine.specs.Steps.{outcomeOf, outcome}
-use Rattle.machine.specs.Runs.{answerOf, answered}
+use Rattle.machine.specs.Steps.{paperOfTaken, paperOfStep}
+use Rattle.machine.specs.Runs.{paperOfEnd, paperOfRun}
 use Rattle.machine.proofs.Machine.step.Reads as step-reads
 use Rattle.machine.proofs.Machine.step.Kinds as step-kinds
 use Rattle.machine.proofs.Machine.run.Reads as run-reads
@@ -28,7 +28,7 @@ use Rattle.reorder.specs.Result.{Result, done, refused}
 use Rattle.machine.specs.declared.Footprint.{Footprint}
 use Rattle.machine.specs.declared.Printed.{Printed}
 use Rattle.machine.specs.declared.Printed.the-variants as printed
-use Rattle.machine.specs.Prints.{printGiven}
+use Rattle.machine.specs.Prints.{paperOfFootprint}
 use Rattle.machine.proofs.Machine.footprint.Reads as footprint-reads
 use Rattle.machine.proofs.Machine.footprint.Kinds as footprint-kinds
 use Rattle.machine.proofs.meetings.meets.Reads as meets-reads
@@ -49,7 +49,7 @@ stepBack (completed at s) = record { answer = record { answer = taken.Completed;
 stepBack (refusedWith n at s) = record { answer = record { answer = taken.Refused n; machine = machineIn s; at = at }; memory = s .memory }
 
 step-back : (a : Taken) (at : ℕ) (k : Machine) (m : List ℕ)
-    → stepBack (outcomeOf a at (stateOf k m)) ≡ record { answer = record { answer = a; machine = k; at = at }; memory = m }
+    → stepBack (paperOfTaken a at (stateOf k m)) ≡ record { answer = record { answer = a; machine = k; at = at }; memory = m }
 unfolding stepBack
 step-back taken.Completed at k m = refl
 step-back (taken.Refused n) at k m = refl
@@ -59,7 +59,7 @@ pub step-one : (κs : Lfts 2) (a : Dens κs step-kinds.ps) (r₁ r₂ : resT ste
 step-one κs a r₁ r₂ s₁ s₂ p q =
     let m₁ = now (s₁ .1 .1 .1 .0) in
     let m₂ = now (s₂ .1 .1 .1 .0) in
-    let e : outcome r₁ m₁ ≡ outcome r₂ m₂ = p ∙ sym q in
+    let e : paperOfStep r₁ m₁ ≡ paperOfStep r₂ m₂ = p ∙ sym q in
     let b = sym (step-back (r₁ .answer) (r₁ .at) (r₁ .machine) m₁) ∙ ap stepBack e ∙ step-back (r₂ .answer) (r₂ .at) (r₂ .machine) m₂ in
     (ap (λ (x : After Stepped). x .answer) b, ap (λ (x : After Stepped). x .memory) b)
 
@@ -69,7 +69,7 @@ runBack (spent at count s) = record { answer = record { end = end.Spent; at = at
 runBack (stopped n at count s) = record { answer = record { end = end.Refused n; at = at; count = count; machine = machineIn s }; memory = s .memory }
 
 run-back : (e : End) (at count : ℕ) (k : Machine) (m : List ℕ)
-    → runBack (answerOf e at count (stateOf k m)) ≡ record { answer = record { end = e; at = at; count = count; machine = k }; memory = m }
+    → runBack (paperOfEnd e at count (stateOf k m)) ≡ record { answer = record { end = e; at = at; count = count; machine = k }; memory = m }
 unfolding runBack
 run-back end.Done at count k m = refl
 run-back end.Spent at count k m = refl
@@ -80,7 +80,7 @@ pub run-one : (κs : Lfts 2) (a : Dens κs run-kinds.ps) (r₁ r₂ : resT run-k
 run-one κs a r₁ r₂ s₁ s₂ p q =
     let m₁ = now (s₁ .1 .1 .0) in
     let m₂ = now (s₂ .1 .1 .0) in
-    let e : answered r₁ m₁ ≡ answered r₂ m₂ = p ∙ sym q in
+    let e : paperOfRun r₁ m₁ ≡ paperOfRun r₂ m₂ = p ∙ sym q in
     let b = sym (run-back (r₁ .end) (r₁ .at) (r₁ .count) (r₁ .machine) m₁) ∙ ap runBack e ∙ run-back (r₂ .end) (r₂ .at) (r₂ .count) (r₂ .machine) m₂ in
     (ap (λ (x : After Ran). x .answer) b, ap (λ (x : After Ran). x .memory) b)
 
@@ -89,7 +89,7 @@ abbrev printedAs : Result Footprint → Printed
 printedAs (done f) = printed.Of f
 printedAs (refused n) = printed.Refused n
 
-back : (r : Printed) → printedAs (printGiven r) ≡ r
+back : (r : Printed) → printedAs (paperOfFootprint r) ≡ r
 back (printed.Of f) = refl
 back (printed.Refused n) = refl
 

@@ -15,7 +15,7 @@ use Rattle.machine.specs.declared.Machine.{Machine}
 use Rattle.machine.specs.declared.gathering.Marks.{Marks}
 use Rattle.machine.specs.declared.stepping.Moved.{Moved}
 use Rattle.machine.specs.State.{stateOf}
-use Rattle.machine.specs.Steps.{outcome}
+use Rattle.machine.specs.Steps.{paperOfStep}
 use Rattle.machine.specs.Works.{machineOf, renewedWith, endedAs}
 
 abbrev marksOf : Machine → ℕ → Marks
@@ -23,11 +23,11 @@ marksOf k bar = record { valid = k .valid; em = k .em; ts = k .ts; pending = k .
 
 -- the tests of the limits
 module _ (code : List ℕ) (at : ℕ) (k : Machine) (m : List ℕ) where
-  pub step-memory : longestMemory < length m → outcome (record { answer = Refused memoryTooLong; machine = k; at = at }) m ≡ stepAt code at (stateOf k m)
+  pub step-memory : longestMemory < length m → paperOfStep (record { answer = Refused memoryTooLong; machine = k; at = at }) m ≡ stepAt code at (stateOf k m)
   unfolding stepAt instructionAt
   step-memory h = simp (lt-ltb longestMemory (length m) h)
 
-  pub step-code : length m ≤ longestMemory → longestCode < length code → outcome (record { answer = Refused codeTooLong; machine = k; at = at }) m ≡ stepAt code at (stateOf k m)
+  pub step-code : length m ≤ longestMemory → longestCode < length code → paperOfStep (record { answer = Refused codeTooLong; machine = k; at = at }) m ≡ stepAt code at (stateOf k m)
   unfolding stepAt instructionAt readAt
   step-code h g = simp (le-ltb longestMemory (length m) h, lt-ltb longestCode (length code) g)
 
@@ -35,11 +35,11 @@ module _ (code : List ℕ) (at : ℕ) (k : Machine) (m : List ℕ) where
   module _ (moved : Moved) (registers integers m′ : List ℕ) (marks : Marks)
       (ended : endedAs moved registers integers marks m′ ≡ stepAt code at (stateOf (machineOf (k .mmx) (k .integers) marks) m)) (own : marks ≡ marksOf k (marks .bar))
       (k′ : Machine) (renewed : k′ ≡ renewedWith k registers integers (moved .valid)) where
-    pub step-completed : moved .refusal ≡ 0 → outcome (record { answer = Completed; machine = k′; at = moved .next }) m′ ≡ stepAt code at (stateOf k m)
+    pub step-completed : moved .refusal ≡ 0 → paperOfStep (record { answer = Completed; machine = k′; at = moved .next }) m′ ≡ stepAt code at (stateOf k m)
     unfolding endedAs
     step-completed e = simp renewed (simp (own, eq-eqb (moved .refusal) 0 e) at ended)
 
-    pub step-refused : (moved .refusal ≡ 0 → ⊥) → outcome (record { answer = Refused (moved .refusal); machine = k′; at = moved .next }) m′ ≡ stepAt code at (stateOf k m)
+    pub step-refused : (moved .refusal ≡ 0 → ⊥) → paperOfStep (record { answer = Refused (moved .refusal); machine = k′; at = moved .next }) m′ ≡ stepAt code at (stateOf k m)
     unfolding endedAs
     step-refused e = simp renewed (simp (own, ne-eqb (moved .refusal) 0 e) at ended)
 

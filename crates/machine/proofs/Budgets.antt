@@ -25,7 +25,7 @@ use Rattle.machine.specs.declared.Machine.{Machine}
 use Rattle.machine.specs.declared.gathering.Marks.{Marks}
 use Rattle.machine.specs.declared.stepping.Moved.{Moved}
 use Rattle.machine.specs.State.{stateOf}
-use Rattle.machine.specs.Runs.{answered}
+use Rattle.machine.specs.Runs.{paperOfRun}
 use Rattle.machine.specs.Works.{machineOf, renewedWith, endedAs}
 
 -- a run from a position on, with what is left of its budget
@@ -34,11 +34,11 @@ remaining left code at count s = runFrom read execute left code at count s
 
 -- the start
 module _ (code : List ℕ) (budget : ℕ) (k : Machine) (m : List ℕ) where
-  pub run-memory : longestMemory < length m → answered (record { end = Refused memoryTooLong; at = 0; count = 0; machine = k }) m ≡ runOf code budget (stateOf k m)
+  pub run-memory : longestMemory < length m → paperOfRun (record { end = Refused memoryTooLong; at = 0; count = 0; machine = k }) m ≡ runOf code budget (stateOf k m)
   unfolding runOf
   run-memory h = simp (lt-ltb longestMemory (length m) h)
 
-  pub run-code : length m ≤ longestMemory → longestCode < length code → answered (record { end = Refused codeTooLong; at = 0; count = 0; machine = k }) m ≡ runOf code budget (stateOf k m)
+  pub run-code : length m ≤ longestMemory → longestCode < length code → paperOfRun (record { end = Refused codeTooLong; at = 0; count = 0; machine = k }) m ≡ runOf code budget (stateOf k m)
   unfolding runOf
   run-code h g = simp (le-ltb longestMemory (length m) h, lt-ltb longestCode (length code) g)
 
@@ -50,7 +50,7 @@ module _ (code : List ℕ) (budget : ℕ) (k : Machine) (m : List ℕ) where
 module _ (code : List ℕ) (at count budget : ℕ) (R : Answer State) where
   -- at the code's end, and with nothing left
   module _ (k k′ : Machine) (m : List ℕ) (run : remaining (budget - count) code at count (stateOf k m) ≡ R) (renewed : k′ ≡ k) where
-    pub run-done : length code ≤ at → at ≤ length code → answered (record { end = Done; at = at; count = count; machine = k′ }) m ≡ R
+    pub run-done : length code ≤ at → at ≤ length code → paperOfRun (record { end = Done; at = at; count = count; machine = k′ }) m ≡ R
     unfolding remaining
     run-done h g = ap (λ (j : Machine). finished at count (stateOf j m)) renewed ∙ by (budget - count) run
       where
@@ -61,7 +61,7 @@ module _ (code : List ℕ) (at count budget : ℕ) (R : Answer State) where
         by zero z = simp ends at z
         by (suc n) z = simp ends at z
 
-    pub run-spent : at < length code → count ≡ budget → answered (record { end = Spent; at = at; count = count; machine = k′ }) m ≡ R
+    pub run-spent : at < length code → count ≡ budget → paperOfRun (record { end = Spent; at = at; count = count; machine = k′ }) m ≡ R
     unfolding remaining
     run-spent h e =
         let none : budget - count ≡ 0 = omega arith in
@@ -104,7 +104,7 @@ module _ (code : List ℕ) (at count budget : ℕ) (R : Answer State) where
         ∙ ap (onward (runFrom read execute (budget - (count + 1)) code) count) (completes e) ∙ turned
 
     pub run-refused : (k′ : Machine) → k′ ≡ renewedWith k registers′ integers′ (moved .valid) → (moved .refusal ≡ 0 → ⊥)
-        → answered (record { end = Refused (moved .refusal); at = moved .next; count = count; machine = k′ }) m′ ≡ R
+        → paperOfRun (record { end = Refused (moved .refusal); at = moved .next; count = count; machine = k′ }) m′ ≡ R
     unfolding endedAs
     run-refused k′ renewed e =
         let refuses : refusedWith (moved .refusal) (moved .next) t ≡ stepAt code at s = simp (own, ne-eqb (moved .refusal) 0 e) at ended in

@@ -10,7 +10,7 @@ use borrow.Author.Tests.{ltb-true, leb-true, eqb-true}
 use lib.Dec.{eqb, ltb, leb}
 use lib.ListN.{length, getD, drop}
 use Rattle.lanes.specs.Operations.{Operation, operationOf, numbered, MOVE}
-use Rattle.codec.specs.Answers.{Answer, good, refused, answerOf}
+use Rattle.codec.specs.Answers.{Answer, good, refused, paperOfReading}
 use Rattle.codec.specs.Forms.{Form, absent, emms, shiftWD, shiftQ, storeD, loadD, storeQ, loadQ, usual, isAbsent}
 use Rattle.codec.specs.Opcodes.{Entry, Row, row, rows, find, entryOf}
 use Rattle.codec.specs.Packed.{packedRows, unpacked, entryIn}
@@ -40,17 +40,17 @@ movesIf emms operation = true
 movesIf shiftWD operation = true
 movesIf shiftQ operation = true
 movesIf storeD operation = true
-movesIf loadD operation = eqb (numbered operation .0) 12
+movesIf loadD operation = eqb (numbered operation .0) (numbered MOVE .0)
 movesIf storeQ operation = true
-movesIf loadQ operation = eqb (numbered operation .0) 12
+movesIf loadQ operation = eqb (numbered operation .0) (numbered MOVE .0)
 movesIf usual operation = true
 
 abbrev rowsKeep : List Row → Bool
 rowsKeep [] = true
 rowsKeep (row second operation lane size form ∷ rest) = (ltb second 256 && (ltb 0 size && (leb size 8 && movesIf form operation))) && rowsKeep rest
 
-move-is : (operation : Operation) → eqb (numbered operation .0) 12 ≡ true → operation ≡ MOVE
-move-is operation h = sym (numbered operation .1) ∙ ap operationOf (eqb-true (numbered operation .0) 12 h)
+move-is : (operation : Operation) → eqb (numbered operation .0) (numbered MOVE .0) ≡ true → operation ≡ MOVE
+move-is operation h = sym (numbered operation .1) ∙ ap operationOf (eqb-true (numbered operation .0) (numbered MOVE .0) h)
 
 find-keeps : (second : ℕ) (rs : List Row) → rowsKeep rs ≡ true → Kept second (find second rs)
 find-keeps second [] h =
@@ -101,10 +101,10 @@ module _ (s : List ℕ) (i : Instruction) (n : ℕ) (e : readPart s ≡ good i n
   row-listed = subst Listed (sym row-found) (known-listed i known)
 
 -- the same at a position of a code
-module _ (code : List ℕ) (at : ℕ) (x : Reading) (e : answerOf x ≡ readAt code at) (i : Instruction) (n : ℕ) (r : x ≡ Read i n) where
+module _ (code : List ℕ) (at : ℕ) (x : Reading) (e : paperOfReading x ≡ readAt code at) (i : Instruction) (n : ℕ) (r : x ≡ Read i n) where
   read-known : Known entryOf i
   unfolding readAt
-  read-known = by (ltb longestCode (length code)) (readPart (drop at code)) (reads-known entryOf 0 (drop at code)) (sym e ∙ ap answerOf r)
+  read-known = by (ltb longestCode (length code)) (readPart (drop at code)) (reads-known entryOf 0 (drop at code)) (sym e ∙ ap paperOfReading r)
     where
       by : (t : Bool) (z : Answer) → Holds (Known entryOf) Refusal z → cond t (refused codeTooLong) z ≡ good i n → Known entryOf i
       by true z h e = absurd (false≢true (cc))

@@ -1,7 +1,7 @@
 -- The footprint that no control mark stops, by the form's number: each form has its shape. Rules for what the code makes of a form.
 use mathlib.Core.Path.{_≡_, refl}
 use mathlib.Core.Logic.{_⊎_, inl, inr}
-use Prim.Native.Nat.{ℕ, _-_, _/_, _^_, _≤_, _<_}
+use Prim.Native.Nat.{ℕ, _/_, _^_, _≤_, _<_}
 use borrow.Author.Needs.{needs}
 use Rattle.lanes.specs.Operations.{operate}
 use Rattle.reorder.specs.Result.{done, refused}

@@ -9,7 +9,7 @@ use lib.ListN.{length}
 use Rattle.reorder.specs.Result.{Result, refused, mapResult}
 use Rattle.reorder.specs.Plan.{Plan}
 use Rattle.reorder.specs.Footprint.{footprintIn}
-use Rattle.codec.specs.Answers.{answerOf}
+use Rattle.codec.specs.Answers.{paperOfReading}
 use Rattle.codec.specs.Opcodes.{Entry, entryOf}
 use Rattle.codec.specs.Packed.{unpacked}
 use Rattle.codec.specs.Reads.{readAt}
@@ -27,7 +27,7 @@ use Rattle.manual.specs.Footprints.{footprintAt}
 use Rattle.machine.specs.declared.Machine.{Machine}
 use Rattle.machine.specs.declared.Printed.{Printed}
 use Rattle.machine.specs.State.{stateOf}
-use Rattle.machine.specs.Prints.{print, printAt, printGiven}
+use Rattle.machine.specs.Prints.{print, printAt, paperOfFootprint}
 use Rattle.machine.specs.PrintShapes.{unmarkedPrint}
 use Rattle.machine.specs.Works.{barredBy, effectIn, Listed}
 use Rattle.machine.proofs.Testing.{unbarred-by, barred-by}
@@ -55,7 +55,7 @@ module _ (machine : Machine) (memory : List ℕ) (i : Instruction) where
     print-barred h = ap refused found ∙ sym (by-marks ∙ barred-by (machine .em) (machine .ts) (machine .pending) _ (λ e. h (found ∙ e)))
 
     pub print-unbarred : (entry : ℕ) (r : Printed) → bar ≡ 0 → unpacked entry ≡ entryOf (i .second)
-        → printGiven r ≡ unmarkedPrint (effectIn entry i) here → printGiven r ≡ mapResult print (footprint i here)
+        → paperOfFootprint r ≡ unmarkedPrint (effectIn entry i) here → paperOfFootprint r ≡ mapResult print (footprint i here)
     unfolding effectAt
     print-unbarred entry r h e p =
         p ∙ ap (λ (y : Entry). unmarkedPrint (effectBy (y .form) y (i .operand) (i .immediate)) here) e
@@ -70,13 +70,13 @@ module _ (code : List ℕ) (at : ℕ) (machine : Machine) (memory : List ℕ) wh
   unfolding printAt footprintAt instructionAt
   print-long h = simp (lt-ltb longestMemory (length memory) h)
 
-  module _ (short : length memory ≤ longestMemory) (z : Reading) (read : answerOf z ≡ readAt code at) where
+  module _ (short : length memory ≤ longestMemory) (z : Reading) (read : paperOfReading z ≡ readAt code at) where
     pub print-unread : (n : ℕ) → z ≡ reading.Refused n → refused n ≡ printAt code at (stateOf machine memory)
     unfolding printAt footprintAt instructionAt
     print-unread n e = simp (le-ltb longestMemory (length memory) short, ← read, e)
 
-    pub print-read : (i : Instruction) (n : ℕ) (r : Printed) → z ≡ reading.Read i n → printGiven r ≡ mapResult print (footprint i (stateOf machine memory))
-        → printGiven r ≡ printAt code at (stateOf machine memory)
+    pub print-read : (i : Instruction) (n : ℕ) (r : Printed) → z ≡ reading.Read i n → paperOfFootprint r ≡ mapResult print (footprint i (stateOf machine memory))
+        → paperOfFootprint r ≡ printAt code at (stateOf machine memory)
     unfolding printAt footprintAt instructionAt
     print-read i n r e h = h ∙ simp (le-ltb longestMemory (length memory) short, ← read, e)
 

@@ -3,7 +3,7 @@ use mathlib.Core.Path.{_≡_, refl}
 use Prim.Native.Nat.{ℕ, _<_}
 use native.Mathlib.Omega.{arith}
 use Rattle.machine.specs.declared.gathering.Work.{Work}
-use Rattle.machine.specs.Works.{toOperate, toStore, toMove, toEmpty, Sound, refusedWork}
+use Rattle.machine.specs.Works.{toOperate, toStore, toInteger, toEmpty, Sound, refusedWork}
 
 abbrev pub operation : ℕ → ℕ → ℕ → ℕ → Work
 operation number place value next = record { what = toOperate; number = number; place = place; value = value; next = next }
@@ -12,7 +12,7 @@ abbrev pub store : ℕ → ℕ → ℕ → ℕ → Work
 store number place value next = record { what = toStore; number = number; place = place; value = value; next = next }
 
 abbrev pub integerMove : ℕ → ℕ → ℕ → Work
-integerMove place value next = record { what = toMove; number = 0; place = place; value = value; next = next }
+integerMove place value next = record { what = toInteger; number = 0; place = place; value = value; next = next }
 
 abbrev pub empties : ℕ → Work
 empties next = record { what = toEmpty; number = 0; place = 0; value = 0; next = next }

@@ -64,9 +64,9 @@ unfoldable pub printAt : List ℕ → ℕ → State → Result Footprint
 printAt code at s = mapResult print (footprintAt code at s)
 
 -- the paper's answer for each case of the footprint's
-abbrev pub printGiven : Printed → Result Footprint
-printGiven (Of f) = done f
-printGiven (Refused n) = refused n
+abbrev pub paperOfFootprint : Printed → Result Footprint
+paperOfFootprint (Of f) = done f
+paperOfFootprint (Refused n) = refused n
 
 -- the m bytes from a on and the n bytes from b on have one in common
 unfoldable pub overlap : ℕ → ℕ → ℕ → ℕ → Bool

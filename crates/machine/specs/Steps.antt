@@ -9,10 +9,10 @@ use Rattle.machine.specs.declared.Stepped.{Stepped}
 use Rattle.machine.specs.State.{stateOf}
 
 -- the paper's answer for each case of the step's
-abbrev pub outcomeOf : Taken → ℕ → State → Outcome
-outcomeOf Completed at s = completed at s
-outcomeOf (Refused n) at s = refusedWith n at s
+abbrev pub paperOfTaken : Taken → ℕ → State → Outcome
+paperOfTaken Completed at s = completed at s
+paperOfTaken (Refused n) at s = refusedWith n at s
 
 -- what a step hands back, with what is then in the lent memory
-abbrev pub outcome : Stepped → List ℕ → Outcome
-outcome r memory = outcomeOf (r .answer) (r .at) (stateOf (r .machine) memory)
+abbrev pub paperOfStep : Stepped → List ℕ → Outcome
+paperOfStep r memory = paperOfTaken (r .answer) (r .at) (stateOf (r .machine) memory)

@@ -54,8 +54,8 @@ toOperate = 0
 abbrev pub toStore : ℕ
 toStore = 1
 
-abbrev pub toMove : ℕ
-toMove = 2
+abbrev pub toInteger : ℕ
+toInteger = 2
 
 abbrev pub toEmpty : ℕ
 toEmpty = 3
@@ -71,15 +71,15 @@ performed work at s =
     (completed (work .next) (marked Ordinary (put s (mmx (work .place)) (operate (operationOf (work .number)) (look s (mmx (work .place))) (work .value)))))
     (cond (eqb (work .what) toStore)
     (completed (work .next) (marked Ordinary (withMemory s (stored (s .memory) (work .place) (work .number) (work .value)))))
-    (cond (eqb (work .what) toMove) (completed (work .next) (marked Ordinary (put s (integer (work .place)) (work .value % 2 ^ 32))))
+    (cond (eqb (work .what) toInteger) (completed (work .next) (marked Ordinary (put s (integer (work .place)) (work .value % 2 ^ 32))))
     (cond (eqb (work .what) toEmpty) (completed (work .next) (marked Emms s))
     (refusedWith (work .number) at s))))
 
 -- the registers that it names are there, and a refusal has a number
 pub record Sound (work : Work) : Type 0 where
   pub operates : work .what ≡ toOperate → work .place < 8
-  pub moves : work .what ≡ toMove → work .place < 8
-  pub refuses : (work .what ≡ toOperate → ⊥) → (work .what ≡ toStore → ⊥) → (work .what ≡ toMove → ⊥) → (work .what ≡ toEmpty → ⊥) → work .number ≡ 0 → ⊥
+  pub moves : work .what ≡ toInteger → work .place < 8
+  pub refuses : (work .what ≡ toOperate → ⊥) → (work .what ≡ toStore → ⊥) → (work .what ≡ toInteger → ⊥) → (work .what ≡ toEmpty → ⊥) → work .number ≡ 0 → ⊥
 
 -- with these registers and this memory a work does what an effect does, whatever the marks and the position, and goes on at `next`
 pub record Does (work : Work) (registers integers memory : List ℕ) (e : Effect) (next : ℕ) : Type 0 where

@@ -25,7 +25,7 @@ ghost use Rattle.codec.specs.Opcodes.{entryOf};
 ghost use Rattle.codec.specs.Packed.{unpacked};
 ghost use Rattle.manual.specs.Instructions.{footprint};
 ghost use Rattle.machine.specs.State.{stateOf};
-ghost use Rattle.machine.specs.Prints.{print, printAt, printGiven};
+ghost use Rattle.machine.specs.Prints.{print, printAt, paperOfFootprint};
 ghost use Rattle.machine.specs.PrintShapes.{storing, loading, computing, unmarkedPrint};
 ghost use Rattle.machine.specs.Works.{effectIn, Listed};
 
@@ -75,7 +75,7 @@ fn computed(register: u8, registers: u8, places: Places) -> Footprint
 // An instruction with two operands.
 fn two_operands(machine: Machine, entry: u32, instruction: Instruction, memory: &[u8]) -> Printed
     requires { ⌜ Registers (instruction .operand) × (Listed (unpacked entry) × (4 ≤ entry / 2 ^ 24)) ⌝ }
-    ensures { λ r. ⌜ printGiven r ≡ unmarkedPrint (effectIn entry instruction) (stateOf machine (now (memory .entry))) ⌝ }
+    ensures { λ r. ⌜ paperOfFootprint r ≡ unmarkedPrint (effectIn entry instruction) (stateOf machine (now (memory .entry))) ⌝ }
 {
     let operand = instruction.operand;
     let form = entry / FORM;
@@ -95,7 +95,7 @@ fn two_operands(machine: Machine, entry: u32, instruction: Instruction, memory: 
 // An instruction that the control marks let pass.
 fn unmarked(machine: Machine, entry: u32, instruction: Instruction, memory: &[u8]) -> Printed
     requires { ⌜ Registers (instruction .operand) × Listed (unpacked entry) ⌝ }
-    ensures { λ r. ⌜ printGiven r ≡ unmarkedPrint (effectIn entry instruction) (stateOf machine (now (memory .entry))) ⌝ }
+    ensures { λ r. ⌜ paperOfFootprint r ≡ unmarkedPrint (effectIn entry instruction) (stateOf machine (now (memory .entry))) ⌝ }
 {
     let form = entry / FORM;
     if STORE_D <= form {
@@ -127,7 +127,7 @@ fn entry_for(second: u8) -> u32
 // An instruction that is read: the control marks first.
 fn of_instruction(machine: Machine, instruction: Instruction, memory: &[u8]) -> Printed
     requires { ⌜ Registers (instruction .operand) × Listed (entryOf (instruction .second)) ⌝ }
-    ensures { λ r. ⌜ printGiven r ≡ mapResult print (footprint instruction (stateOf machine (now (memory .entry)))) ⌝ }
+    ensures { λ r. ⌜ paperOfFootprint r ≡ mapResult print (footprint instruction (stateOf machine (now (memory .entry)))) ⌝ }
 {
     let bar = gathering::barred(machine.em, machine.ts, machine.pending);
     if bar != 0 {
@@ -140,7 +140,7 @@ fn of_instruction(machine: Machine, instruction: Instruction, memory: &[u8]) -> 
 impl Machine {
     // What the step at a position reads and writes.
     pub fn footprint(self, code: &[u8], at: usize, memory: &[u8]) -> Printed
-        ensures { λ r. ⌜ printGiven r ≡ printAt (now (code .entry)) at (stateOf self (now (memory .entry))) ⌝ }
+        ensures { λ r. ⌜ paperOfFootprint r ≡ printAt (now (code .entry)) at (stateOf self (now (memory .entry))) ⌝ }
     {
         if LONGEST_MEMORY < memory.len() {
             return Printed::Refused(MEMORY_TOO_LONG);

@@ -26,7 +26,7 @@ ghost use Rattle.manual.specs.State.{longestMemory};
 ghost use Rattle.machine.specs.Works.{barredBy, effectIn, Listed, Does, Gathered, refusedWork};
 
 // How many values a doubleword has.
-pub(crate) const DOUBLEWORD: u64 = 0x100000000;
+pub(crate) const DOUBLEWORD_RANGE: u64 = 0x100000000;
 
 // The marks of a machine whose registers are lent, and the refusal of its control marks, which is found once, or 0.
 pub(crate) struct Marks {
@@ -124,7 +124,7 @@ fn in_memory(
             what: STORE,
             number: size,
             place: address,
-            value: mmx[register] % DOUBLEWORD,
+            value: mmx[register] % DOUBLEWORD_RANGE,
             next: next,
         };
     }

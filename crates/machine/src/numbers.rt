@@ -1,4 +1,4 @@
-// The numbers that the machine's modules share, and who lends it a memory.
+// The numbers that the machine's modules share with each other, and with whoever lends it a memory.
 
 // The longest memory, in bytes.
 pub const LONGEST_MEMORY: usize = 32768;

@@ -12,12 +12,12 @@ use codec::numbers::LONGEST_CODE;
 ghost use mathlib.Core.Path.{_≡_};
 ghost use Rattle.manual.specs.Runs.{runOf};
 ghost use Rattle.machine.specs.State.{stateOf};
-ghost use Rattle.machine.specs.Runs.{answered};
+ghost use Rattle.machine.specs.Runs.{paperOfRun};
 
 impl Machine {
     // The instructions from position 0 on.
     pub fn run(self, code: &[u8], memory: &mut [u8], budget: u32) -> Ran
-        ensures { λ r. ⌜ answered r (now (memory .exit)) ≡ runOf (now (code .entry)) budget (stateOf self (now (memory .entry))) ⌝ }
+        ensures { λ r. ⌜ paperOfRun r (now (memory .exit)) ≡ runOf (now (code .entry)) budget (stateOf self (now (memory .entry))) ⌝ }
     {
         if LONGEST_MEMORY < memory.len() {
             return Ran {

@@ -16,23 +16,23 @@ ghost use Rattle.lanes.specs.Operations.{operationOf};
 ghost use Rattle.manual.specs.Instructions.{ofWidth, shiftOf};
 
 // The lanes' widths.
-const WORD: u8 = 16;
+const WORD_BITS: u8 = 16;
 
-const DOUBLEWORD: u8 = 32;
+const DOUBLEWORD_BITS: u8 = 32;
 
-const QUADWORD: u8 = 64;
+const QUADWORD_BITS: u8 = 64;
 
 // Of a word, doubleword and quadword operation, the one for the width.
 fn of_width(lane: u8, word: u8, doubleword: u8, quadword: u8) -> u8
     ensures { λ r. ⌜ operationOf r ≡ ofWidth lane (operationOf word) (operationOf doubleword) (operationOf quadword) ⌝ }
 {
-    if lane == WORD {
+    if lane == WORD_BITS {
         return word;
     }
-    if lane == DOUBLEWORD {
+    if lane == DOUBLEWORD_BITS {
         return doubleword;
     }
-    if lane == QUADWORD {
+    if lane == QUADWORD_BITS {
         return quadword;
     }
     KEEP

@@ -5,9 +5,9 @@ ghost use Rattle.machine.specs.Starts.{nth, eight, startOf};
 use crate::Machine;
 
 // The bytes of an MMX register and of an integer register.
-const QUADWORD: usize = 8;
+const QUADWORD_BYTES: usize = 8;
 
-const DOUBLEWORD: usize = 4;
+const DOUBLEWORD_BYTES: usize = 4;
 
 // The bits of the marks byte.
 const EM: u8 = 1;
@@ -22,14 +22,14 @@ fn quadword(field: &[u8], k: usize) -> u64
     requires { ⌜ k < 8 ⌝ }
     ensures { λ r. ⌜ r ≡ nth (now (field .entry)) 8 k ⌝ }
 {
-    words::load(field, QUADWORD * k, QUADWORD)
+    words::load(field, QUADWORD_BYTES * k, QUADWORD_BYTES)
 }
 
 fn doubleword(field: &[u8], k: usize) -> u32
     requires { ⌜ k < 8 ⌝ }
     ensures { λ r. ⌜ r ≡ nth (now (field .entry)) 4 k ⌝ }
 {
-    words::load(field, DOUBLEWORD * k, DOUBLEWORD) as u32
+    words::load(field, DOUBLEWORD_BYTES * k, DOUBLEWORD_BYTES) as u32
 }
 
 fn mmx_of(field: &[u8]) -> [u64; 8]

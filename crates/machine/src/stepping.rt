@@ -16,7 +16,7 @@ ghost use Rattle.codec.specs.Reads.{longestCode};
 ghost use Rattle.manual.specs.State.{longestMemory};
 ghost use Rattle.manual.specs.Steps.{stepAt};
 ghost use Rattle.machine.specs.State.{stateOf};
-ghost use Rattle.machine.specs.Steps.{outcome};
+ghost use Rattle.machine.specs.Steps.{paperOfStep};
 ghost use Rattle.machine.specs.Works.{machineOf, barredBy, renewedWith, endedAs};
 
 // How a step ended: the refusal or 0, the position and the tag mark after it.
@@ -31,7 +31,7 @@ fn put_low(integers: &mut [u32; 8], register: usize, value: u64)
     requires { ⌜ register < 8 ⌝ }
     ensures { λ _. ⌜ now (integers .exit) ≡ set (now (integers .entry)) register (value % 2 ^ 32) ⌝ }
 {
-    integers[register] = (value % gathering::DOUBLEWORD) as u32;
+    integers[register] = (value % gathering::DOUBLEWORD_RANGE) as u32;
 }
 
 // The step at a position, where memory and code are within their limits.
@@ -98,7 +98,7 @@ impl Machine {
 
     // The instruction at a position.
     pub fn step(self, code: &[u8], at: usize, memory: &mut [u8]) -> Stepped
-        ensures { λ r. ⌜ outcome r (now (memory .exit)) ≡ stepAt (now (code .entry)) at (stateOf self (now (memory .entry))) ⌝ }
+        ensures { λ r. ⌜ paperOfStep r (now (memory .exit)) ≡ stepAt (now (code .entry)) at (stateOf self (now (memory .entry))) ⌝ }
     {
         if LONGEST_MEMORY < memory.len() {
             return Stepped {

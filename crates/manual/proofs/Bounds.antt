@@ -9,11 +9,13 @@ use lib.Dec.{eqb, ltb}
 use lib.ListN.{length, drop, length-drop}
 use Rattle.reorder.specs.Result.{Result, done, refused, caseOf}
 use Rattle.reorder.specs.Run.{Answer, finished, spent, stopped, runFrom, run}
+use Rattle.codec.specs.Refusals.{codeTooLong}
 use Rattle.codec.specs.Reads.{longestCode, readPart}
 use Rattle.codec.specs.Reasons as codec
 use Rattle.codec.specs.Answers.{Answer as Found}
 use Rattle.codec.specs.Answers as found
 use Rattle.codec.proofs.Theorems.{reading-is-local}
+use Rattle.manual.specs.Refusals.{memoryTooLong}
 use Rattle.manual.specs.State.{State, Frozen, frozen, longestMemory, isTooLong}
 use Rattle.manual.specs.Instructions.{execute}
 use Rattle.manual.specs.Steps.{Outcome, concluded, completed, refusedWith, resultOf, stepAt}
@@ -114,7 +116,7 @@ run-bounded code budget s = tests (isTooLong (s .memory)) (ltb longestCode (leng
     still = record { position = omega arith; completed-steps = omega arith; kept = refl }
 
     tests : (a b : Bool) → isTooLong (s .memory) ≡ a → ltb longestCode (length code) ≡ b
-        → Bounded code budget s (cond a (stopped 1 0 0 s) (cond b (stopped 2 0 0 s) (run read execute budget code s)))
+        → Bounded code budget s (cond a (stopped memoryTooLong 0 0 s) (cond b (stopped codeTooLong 0 0 s) (run read execute budget code s)))
     tests true b ea eb = (omega arith, still)
     tests false true ea eb = (omega arith, still)
     tests false false ea eb = from code eb budget s budget 0 0 s (omega arith) ea still

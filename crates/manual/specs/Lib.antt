@@ -1,4 +1,4 @@
--- The manual's rules, in document 01's order: the state, its places and kinds, where an operand is, what each instruction takes and gives, the
+-- The manual's rules, each after what it builds on: the state, its places and kinds, where an operand is, what each instruction takes and gives, the
 -- manual's headings, one step, the run, footprints.
 pub mod State
 pub mod Refusals

@@ -15,7 +15,7 @@ use Rattle.manual.specs.Addresses.{Address, address}
 use Rattle.manual.specs.Locations.{Location, memory}
 use Rattle.manual.specs.Instructions.{effectOf}
 
--- the instruction at a position, of so many bytes: neither 1 to 6 is due
+-- the instruction at a position, of so many bytes: none of 1 to 6 is due
 pub record Stands (code : List ℕ) (at : ℕ) (s : State) (i : Instruction) (size : ℕ) : Type 0 where
   pub memory-fits : isTooLong (s .memory) ≡ false
   pub read : readAt code at ≡ good i size

@@ -4,7 +4,7 @@ ghost use Prim.Native.Nat.{_<_};
 use libc::STDIN_FILENO;
 use libc::STDOUT_FILENO;
 
-// One more than the greatest number that names an operation: a number that names none is performed too.
+// How many numbers are performed: those of the 45 operations, and one that names none.
 const OPERATIONS: u8 = 46;
 
 const ROUNDS: u64 = 1000;

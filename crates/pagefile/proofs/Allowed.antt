@@ -7,7 +7,7 @@ use denote.Triple.Clauses.{AtExit}
 use denote.Ref.{now}
 use Rattle.pagefile.specs.declared.Page.{Page}
 use Rattle.pagefile.specs.declared.Page.the-variants.{WellFormed, Refused}
-use Rattle.pagefile.specs.Reading.{outcomeOf}
+use Rattle.pagefile.specs.Reading.{paperOfPage}
 use Rattle.pagefile.proofs.read.Reads as read-reads
 use Rattle.pagefile.proofs.read.Kinds as read-kinds
 use Rattle.pagefile.proofs.code.Reads as code-reads
@@ -20,7 +20,7 @@ use Rattle.pagefile.proofs.integer_registers.Reads as integers-reads
 use Rattle.pagefile.proofs.integer_registers.Kinds as integers-kinds
 
 -- the paper's answers of two cases are equal only where the cases are
-same : (p q : Page) → outcomeOf p ≡ outcomeOf q → p ≡ q
+same : (p q : Page) → paperOfPage p ≡ paperOfPage q → p ≡ q
 same (WellFormed m) (WellFormed n) e = cc
 same (WellFormed m) (Refused n) e = cc
 same (Refused m) (WellFormed n) e = cc

@@ -70,6 +70,6 @@ unfoldable pub pageOf : List ℕ → Outcome
 pageOf file = cond (wellFormed file) (wellFormedWith (getD (marksOf file) 0 0)) (refusedWith malformed)
 
 -- the paper's answer for each case of the code's
-abbrev pub outcomeOf : Page → Outcome
-outcomeOf (WellFormed marks) = wellFormedWith marks
-outcomeOf (Refused number) = refusedWith number
+abbrev pub paperOfPage : Page → Outcome
+paperOfPage (WellFormed marks) = wellFormedWith marks
+paperOfPage (Refused number) = refusedWith number

@@ -3,7 +3,7 @@ ghost use mathlib.Core.Path.{_≡_};
 ghost use Prim.Native.Nat.{_+_, _<_, _≤_};
 ghost use lib.ListN.{length, drop};
 ghost use Rattle.pagefile.specs.Fields.{mayHold};
-ghost use Rattle.pagefile.specs.Reading.{size, left, wellFormed, contentsOf, codeOf, memoryOf, mmxOf, integersOf, pageOf, outcomeOf};
+ghost use Rattle.pagefile.specs.Reading.{size, left, wellFormed, contentsOf, codeOf, memoryOf, mmxOf, integersOf, pageOf, paperOfPage};
 
 // The tags of the five fields.
 const CODE: u8 = 1;
@@ -129,7 +129,7 @@ fn contents(file: &[u8], tag: u8) -> &[u8]
 
 // Whether a file is well formed. The marks are 0 where their field is absent.
 pub fn read(file: &[u8]) -> Page
-    ensures { λ r. ⌜ outcomeOf r ≡ pageOf (now (file .entry)) ⌝ }
+    ensures { λ r. ⌜ paperOfPage r ≡ pageOf (now (file .entry)) ⌝ }
 {
     if !well_formed(file) {
         return Page::Refused(MALFORMED);

@@ -6,39 +6,42 @@ use native.Mathlib.Nat.{sub-zero}
 use borrow.Author.Tests.{lt-ltb, le-ltb}
 use lib.ListN.{length, take, drop}
 use lib.Seq.{take-append-seam, take-length}
-use Rattle.manual.specs.State.{State}
+use Rattle.manual.specs.State.{State, longestMemory}
 use Rattle.manual.specs.Runs.{runOf}
+use Rattle.codec.specs.Refusals.{codeTooLong}
+use Rattle.codec.specs.Reads.{longestCode}
+use Rattle.manual.specs.Refusals.{memoryTooLong}
 use Rattle.machine.specs.declared.Machine.{Machine}
 use Rattle.machine.specs.declared.End.{End}
 use Rattle.machine.specs.declared.End.the-variants as end
 use Rattle.machine.specs.declared.Ran.{Ran}
 use Rattle.machine.specs.State.{stateOf}
 use Rattle.machine.specs.Starts.{startOf}
-use Rattle.machine.specs.Runs.{answerOf, answered}
+use Rattle.machine.specs.Runs.{paperOfEnd, paperOfRun}
 use Rattle.pagefile.specs.declared.Page.{Page}
 use Rattle.pagefile.specs.declared.Page.the-variants.{WellFormed, Refused}
-use Rattle.pagefile.specs.Reading.{codeOf, memoryOf, mmxOf, integersOf, pageOf, outcomeOf}
+use Rattle.pagefile.specs.Reading.{codeOf, memoryOf, mmxOf, integersOf, pageOf, paperOfPage}
 use Rattle.printout.specs.declared.Ending.{Ending}
 use Rattle.printout.specs.Lines.{reportText, refusalText}
 use Rattle.printout.specs.Lent.{Printed, printed}
 use Rattle.player.specs.Page.{budget, endingOf, stateText, answerText, runIn, wellFormedText, pageText}
 
 -- the report of an answer names the run's end
-answer-text : (e : End) (at count : ℕ) (s : State) → answerText (answerOf e at count s) ≡ stateText (endingOf e) at count s
+answer-text : (e : End) (at count : ℕ) (s : State) → answerText (paperOfEnd e at count s) ≡ stateText (endingOf e) at count s
 answer-text end.Done at count s = refl
 answer-text end.Spent at count s = refl
 answer-text (end.Refused n) at count s = refl
 
 pub reported : (ran : Ran) (memory buffer : List ℕ) (named : Ending) (p : Printed) → named ≡ endingOf (ran .end)
     → p ≡ printed (reportText named (ran .count) (ran .at) (ran .machine .mmx) (ran .machine .integers) (ran .machine .valid) memory) buffer
-    → p ≡ printed (answerText (answered ran memory)) buffer
+    → p ≡ printed (answerText (paperOfRun ran memory)) buffer
 unfolding stateText
 reported ran memory buffer named p name told = rw (answer-text (ran .end) (ran .at) (ran .count) (stateOf (ran .machine) memory)) (rw name at told)
 
 -- the run of a page's parts is the page's
 pub run-of-parts : (file memory after mmx integers code buffer : List ℕ) (marks : ℕ) (machine : Machine) (ran : Ran) (p : Printed)
     → mmx ≡ mmxOf file → integers ≡ integersOf file → machine ≡ startOf mmx integers marks → code ≡ codeOf file
-    → answered ran after ≡ runOf code budget (stateOf machine memory) → p ≡ printed (answerText (answered ran after)) buffer
+    → paperOfRun ran after ≡ runOf code budget (stateOf machine memory) → p ≡ printed (answerText (paperOfRun ran after)) buffer
     → p ≡ printed (answerText (runIn memory marks file)) buffer
 unfolding runIn
 run-of-parts file memory after mmx integers code buffer marks machine ran p m i start c run told =
@@ -56,21 +59,21 @@ run-of-copy file memory before after buffer n marks p count copied told = rw fro
 
 -- a well-formed page
 module _ (file memory buffer : List ℕ) (marks : ℕ) (p : Printed) (m : memory ≡ memoryOf file) where
-  pub long-memory : 32768 < length memory → p ≡ printed (refusalText 1) buffer → p ≡ printed (wellFormedText marks file) buffer
+  pub long-memory : longestMemory < length memory → p ≡ printed (refusalText memoryTooLong) buffer → p ≡ printed (wellFormedText marks file) buffer
   unfolding wellFormedText
   long-memory long told = rw (sym m, lt-ltb _ _ long) told
 
-  module _ (code : List ℕ) (c : code ≡ codeOf file) (short : length memory ≤ 32768) where
-    pub long-code : 4096 < length code → p ≡ printed (refusalText 2) buffer → p ≡ printed (wellFormedText marks file) buffer
+  module _ (code : List ℕ) (c : code ≡ codeOf file) (short : length memory ≤ longestMemory) where
+    pub long-code : longestCode < length code → p ≡ printed (refusalText codeTooLong) buffer → p ≡ printed (wellFormedText marks file) buffer
     unfolding wellFormedText
     long-code long told = rw (sym m, sym c, le-ltb _ _ short, lt-ltb _ _ long) told
 
-    pub page-run : length code ≤ 4096 → p ≡ printed (answerText (runIn memory marks file)) buffer → p ≡ printed (wellFormedText marks file) buffer
+    pub page-run : length code ≤ longestCode → p ≡ printed (answerText (runIn memory marks file)) buffer → p ≡ printed (wellFormedText marks file) buffer
     unfolding wellFormedText
     page-run short′ told = rw (sym m, sym c, le-ltb _ _ short, le-ltb _ _ short′) told
 
 -- a page, by what its reading answers
-module _ (file buffer : List ℕ) (page : Page) (number : ℕ) (p : Printed) (read : outcomeOf page ≡ pageOf file) where
+module _ (file buffer : List ℕ) (page : Page) (number : ℕ) (p : Printed) (read : paperOfPage page ≡ pageOf file) where
   pub well-formed : page ≡ WellFormed number → p ≡ printed (wellFormedText number file) buffer → p ≡ printed (pageText file) buffer
   unfolding pageText
   well-formed is told = rw (sym read, is) told

@@ -11,7 +11,7 @@ use printout::Ending;
 ghost use mathlib.Core.Path.{_≡_};
 ghost use Prim.Native.Nat.{_≤_};
 ghost use lib.ListN.{length};
-ghost use Rattle.machine.specs.Runs.{answered};
+ghost use Rattle.machine.specs.Runs.{paperOfRun};
 ghost use Rattle.printout.specs.Lent.{printing, printed};
 ghost use Rattle.player.specs.Page.{endingOf, answerText, runIn, wellFormedText, pageText};
 
@@ -31,7 +31,7 @@ fn ending(end: End) -> Ending
 
 // Prints what a run handed back, and the memory that it left.
 fn print(ran: Ran, memory: &[u8], out: &mut [u8]) -> usize
-    ensures { λ r. ⌜ printing r (now (out .exit)) ≡ printed (answerText (answered ran (now (memory .entry)))) (now (out .entry)) ⌝ }
+    ensures { λ r. ⌜ printing r (now (out .exit)) ≡ printed (answerText (paperOfRun ran (now (memory .entry)))) (now (out .entry)) ⌝ }
 {
     let end = ran.end;
     let machine = ran.machine;
