@@ -1,8 +1,13 @@
-// Blocks through `run`: the customer's example, the edges of document 01, and then the block on standard input.
+// Blocks through `run`: the customer's example, the edges of document 01; single steps, footprints and meetings; and then the block on standard
+// input.
 use libc::STDIN_FILENO;
 use libc::STDOUT_FILENO;
 use machine::End;
+use machine::Footprint;
 use machine::Machine;
+use machine::Places;
+use machine::Printed;
+use machine::Taken;
 
 // The budget of the page program.
 const BUDGET: u32 = 4096;
@@ -22,8 +27,10 @@ const QUADWORD: usize = 8;
 
 const DIGITS: usize = 16;
 
-// The memory lent to the block on standard input.
+// The memory lent to the block on standard input, and the one that footprints are taken in.
 const MEMORY: usize = 256;
+
+const WIDE_MEMORY: usize = 512;
 
 fn text(bytes: &[u8]) {
     io::write_all(STDOUT_FILENO, bytes);
@@ -193,6 +200,121 @@ fn limits() {
     );
 }
 
+// One step at a position: what it came to, and the position that it hands back.
+fn step_at(title: &[u8], code: &[u8], at: usize) {
+    let mut memory = [1u8, 2, 3, 4, 5, 6, 7, 8];
+    let stepped = machine_with(FIRST, START, false, false).step(code, at, &mut memory);
+    let answer = stepped.answer;
+    text(title);
+    match answer {
+        Taken::Completed => text(b"completed"),
+        Taken::Refused(refusal) => show_refusal(refusal),
+    }
+    text(b" at ");
+    decimal(stepped.at as u64);
+    text(b"\n");
+}
+
+fn show_refusal(refusal: u8) {
+    text(b"refused ");
+    decimal(refusal as u64);
+}
+
+// Places: the masks of the registers, and the range of the bytes.
+fn show_places(name: &[u8], places: Places) {
+    text(name);
+    decimal(places.mmx as u64);
+    text(b" and ");
+    decimal(places.integers as u64);
+    text(b" and ");
+    decimal(places.length as u64);
+    text(b" bytes at ");
+    decimal(places.start as u64);
+}
+
+fn show_footprint(footprint: Footprint) {
+    show_places(b"reads ", footprint.reads);
+    show_places(b", writes ", footprint.writes);
+}
+
+// The footprint of an instruction.
+fn printed_of(code: &[u8]) -> Printed {
+    let memory = [0u8; WIDE_MEMORY];
+    machine_with(FIRST, START, false, false).footprint(code, 0, &memory)
+}
+
+fn footprint_of(title: &[u8], code: &[u8]) {
+    text(title);
+    match printed_of(code) {
+        Printed::Of(footprint) => show_footprint(footprint),
+        Printed::Refused(refusal) => show_refusal(refusal),
+    }
+    text(b"\n");
+}
+
+// Whether the footprints of two instructions meet: one that is refused has none.
+fn do_meet(one: Printed, other: Printed) -> bool {
+    match one {
+        Printed::Of(first) => match other {
+            Printed::Of(second) => machine::meets(first, second),
+            Printed::Refused(_) => false,
+        },
+        Printed::Refused(_) => false,
+    }
+}
+
+fn meeting_of(title: &[u8], first: &[u8], second: &[u8]) {
+    text(title);
+    if do_meet(printed_of(first), printed_of(second)) {
+        text(b"meet\n");
+    } else {
+        text(b"do not meet\n");
+    }
+}
+
+fn steps() {
+    step_at(b"the second EMMS of two: ", b"\x0f\x77\x0f\x77", 2);
+    step_at(b"a step at the code's end: ", b"\x0f\x77", 2);
+    step_at(
+        b"MOVQ [1], mm0 in a step: ",
+        b"\x0f\x7f\x05\x01\x00\x00\x00",
+        0,
+    );
+}
+
+fn footprints() {
+    footprint_of(b"PADDB mm1, [eax + ecx * 2 + 4]: ", b"\x0f\xfc\x4c\x48\x04");
+    footprint_of(b"PUNPCKLBW mm1, [eax]: ", b"\x0f\x60\x08");
+    footprint_of(b"MOVQ [eax + 8], mm0: ", b"\x0f\x7f\x40\x08");
+    footprint_of(b"MOVD edx, mm1: ", b"\x0f\x7e\xca");
+    footprint_of(b"EMMS in a footprint: ", b"\x0f\x77");
+    footprint_of(b"MOVQ mm0, [-8]: ", b"\x0f\x6f\x40\xf8");
+}
+
+fn meetings() {
+    meeting_of(
+        b"MOVQ mm0, [eax] and PADDUSB mm0, mm1: ",
+        b"\x0f\x6f\x00",
+        b"\x0f\xdc\xc1",
+    );
+    meeting_of(
+        b"MOVQ mm0, [eax] and MOVQ mm2, [eax]: ",
+        b"\x0f\x6f\x00",
+        b"\x0f\x6f\x10",
+    );
+    meeting_of(
+        b"MOVQ [eax + 8], mm0 and PADDUSB mm2, [eax + 8]: ",
+        b"\x0f\x7f\x40\x08",
+        b"\x0f\xdc\x50\x08",
+    );
+    meeting_of(
+        b"MOVQ [eax + 8], mm0 and MOVQ mm2, [eax]: ",
+        b"\x0f\x7f\x40\x08",
+        b"\x0f\x6f\x10",
+    );
+    meeting_of(b"EMMS and MOVQ mm2, [eax]: ", b"\x0f\x77", b"\x0f\x6f\x10");
+}
+
 fn main() {
     examples();
     operands();
@@ -200,6 +322,9 @@ fn main() {
     refusals();
     budgets();
     limits();
+    steps();
+    footprints();
+    meetings();
     let mut space = io::buffer();
     let size = io::read_full(STDIN_FILENO, &mut space);
     let mut memory = [0u8; MEMORY];
