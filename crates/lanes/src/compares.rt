@@ -3,6 +3,7 @@ ghost use mathlib.Core.Path.{_≡_};
 ghost use Prim.Native.Nat.{_≤_};
 ghost use Rattle.lanes.specs.Lane.{Within, Fills};
 ghost use Rattle.lanes.specs.Rules.{packed, pairwise, mask, equal, greater};
+use crate::lane::QUADWORD;
 use crate::lane::half;
 use crate::lane::lane_of;
 use crate::lane::ones;
@@ -29,7 +30,7 @@ pub(crate) fn equals(a: u64, b: u64, w: u64) -> u64
     requires { ⌜ Fills w ⌝ }
     ensures { λ r. ⌜ r ≡ packed (pairwise equal) w a b ⌝ }
 {
-    let n = 64 / w;
+    let n = QUADWORD / w;
     let mut lanes: u64 = 0;
     let mut i: u64 = 0;
     while i < n {
@@ -52,7 +53,7 @@ pub(crate) fn exceeds(a: u64, b: u64, w: u64) -> u64
     requires { ⌜ Fills w ⌝ }
     ensures { λ r. ⌜ r ≡ packed (pairwise greater) w a b ⌝ }
 {
-    let n = 64 / w;
+    let n = QUADWORD / w;
     let mut lanes: u64 = 0;
     let mut i: u64 = 0;
     while i < n {

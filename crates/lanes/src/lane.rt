@@ -5,6 +5,22 @@ ghost use lib.IntN.{subℕ};
 ghost use Rattle.lanes.specs.Lane.{lane, Within};
 ghost use Rattle.lanes.specs.Signed.{wrap, clampUnsigned};
 
+// The lanes' widths, and the bits of half a register. A quadword is a whole register.
+pub(crate) const BYTE: u64 = 8;
+
+pub(crate) const WORD: u64 = 16;
+
+pub(crate) const DOUBLEWORD: u64 = 32;
+
+pub(crate) const QUADWORD: u64 = 64;
+
+pub(crate) const HALF_REGISTER: u64 = 32;
+
+// How many words and doublewords a register holds.
+pub(crate) const WORDS: u64 = 4;
+
+pub(crate) const DOUBLEWORDS: u64 = 2;
+
 // How many numbers lanes of 16 and of 32 bits hold.
 pub(crate) const WORD_RANGE: u64 = 0x1_0000;
 
@@ -15,7 +31,7 @@ pub(crate) fn low(x: u64, w: u64) -> u64
     requires { ⌜ (1 ≤ w) × (w ≤ 64) ⌝ }
     ensures { λ r. ⌜ r ≡ x % 2 ^ w ⌝ }
 {
-    (x << (64 - w)) >> (64 - w)
+    (x << (QUADWORD - w)) >> (QUADWORD - w)
 }
 
 // Lane i of x.

@@ -10,6 +10,11 @@ ghost use mathlib.Core.Path.{_≡_};
 ghost use Rattle.lanes.specs.Operations.{operate, operationOf};
 use compares::equals;
 use compares::exceeds;
+use lane::BYTE;
+use lane::DOUBLEWORD;
+use lane::HALF_REGISTER;
+use lane::QUADWORD;
+use lane::WORD;
 use packs::pack_signed;
 use packs::pack_unsigned;
 use packs::unpacked;
@@ -27,17 +32,6 @@ use sums::subtract;
 use sums::subtract_doublewords;
 use sums::subtract_signed;
 use sums::subtract_unsigned;
-
-// The lanes' widths, and the bits of half a register.
-const BYTE: u64 = 8;
-
-const WORD: u64 = 16;
-
-const DOUBLEWORD: u64 = 32;
-
-const QUADWORD: u64 = 64;
-
-const HALF: u64 = 32;
 
 // The operations' numbers, in the order of the table of opcode bytes.
 const PUNPCKLBW: u8 = 0;
@@ -147,9 +141,9 @@ pub fn operate(operation: u8, destination: u64, source: u64) -> u64
         PCMPGTB => exceeds(destination, source, BYTE),
         PCMPGTW => exceeds(destination, source, WORD),
         PCMPGTD => exceeds(destination, source, DOUBLEWORD),
-        PUNPCKHBW => unpacked(destination, source, BYTE, HALF / BYTE),
-        PUNPCKHWD => unpacked(destination, source, WORD, HALF / WORD),
-        PUNPCKHDQ => unpacked(destination, source, DOUBLEWORD, HALF / DOUBLEWORD),
+        PUNPCKHBW => unpacked(destination, source, BYTE, HALF_REGISTER / BYTE),
+        PUNPCKHWD => unpacked(destination, source, WORD, HALF_REGISTER / WORD),
+        PUNPCKHDQ => unpacked(destination, source, DOUBLEWORD, HALF_REGISTER / DOUBLEWORD),
         MOVE => source,
         PCMPEQB => equals(destination, source, BYTE),
         PCMPEQW => equals(destination, source, WORD),

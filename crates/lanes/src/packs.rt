@@ -6,17 +6,22 @@ ghost use lib.Dec.{ltb};
 ghost use Rattle.lanes.specs.Lane.{lane};
 ghost use Rattle.lanes.specs.Signed.{clampSigned, clampUnsigned};
 ghost use Rattle.lanes.specs.Rules.{packed, pack, unpack};
+use crate::lane::HALF_REGISTER;
+use crate::lane::QUADWORD;
 use crate::lane::clamped;
 use crate::lane::half;
 use crate::lane::lane_of;
 use crate::lane::with_lane;
+
+// An unpack takes a lane of each operand in turn.
+const OPERANDS: u64 = 2;
 
 // The lane that a pack clamps into its lane i.
 fn wide_lane(a: u64, b: u64, w: u64, i: u64) -> u64
     requires { ⌜ (1 ≤ w) × (w ≤ 16) ⌝ }
     ensures { λ r. ⌜ (r ≡ lane (w + w) (i % (32 / w)) (cond (ltb i (32 / w)) a b)) × (r < 2 ^ (w + w)) ⌝ }
 {
-    let n = 32 / w;
+    let n = HALF_REGISTER / w;
     if i < n {
         return lane_of(a, w + w, i % n);
     }
@@ -37,7 +42,7 @@ pub(crate) fn pack_signed(a: u64, b: u64, w: u64) -> u64
     requires { ⌜ (1 ≤ w) × (w ≤ 16) ⌝ }
     ensures { λ r. ⌜ r ≡ packed (pack clampSigned) w a b ⌝ }
 {
-    let n = 64 / w;
+    let n = QUADWORD / w;
     let mut lanes: u64 = 0;
     let mut i: u64 = 0;
     while i < n {
@@ -59,7 +64,7 @@ pub(crate) fn pack_unsigned(a: u64, b: u64, w: u64) -> u64
     requires { ⌜ (1 ≤ w) × (w ≤ 16) ⌝ }
     ensures { λ r. ⌜ r ≡ packed (pack clampUnsigned) w a b ⌝ }
 {
-    let n = 64 / w;
+    let n = QUADWORD / w;
     let mut lanes: u64 = 0;
     let mut i: u64 = 0;
     while i < n {
@@ -73,8 +78,8 @@ fn unpack_lane(a: u64, b: u64, w: u64, first: u64, i: u64) -> u64
     requires { ⌜ (1 ≤ w) × (w ≤ 32) × (first ≤ 32 / w) × (i < 64 / w) ⌝ }
     ensures { λ r. ⌜ r ≡ unpack first w a b i ⌝ }
 {
-    let j = first + i / 2;
-    if i % 2 == 0 {
+    let j = first + i / OPERANDS;
+    if i % OPERANDS == 0 {
         return lane_of(a, w, j);
     }
     lane_of(b, w, j)
@@ -85,7 +90,7 @@ pub(crate) fn unpacked(a: u64, b: u64, w: u64, first: u64) -> u64
     requires { ⌜ (1 ≤ w) × (w ≤ 32) × (first ≤ 32 / w) ⌝ }
     ensures { λ r. ⌜ r ≡ packed (unpack first) w a b ⌝ }
 {
-    let n = 64 / w;
+    let n = QUADWORD / w;
     let mut lanes: u64 = 0;
     let mut i: u64 = 0;
     while i < n {

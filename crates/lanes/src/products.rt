@@ -4,8 +4,12 @@ ghost use Prim.Native.Nat.{_^_, _<_};
 ghost use lib.IntN.{subℕ};
 ghost use Rattle.lanes.specs.Lane.{lane};
 ghost use Rattle.lanes.specs.Rules.{packed, pairwise, product, productLow, productHigh, productSum};
+use crate::lane::DOUBLEWORD;
 use crate::lane::DOUBLEWORD_RANGE;
+use crate::lane::DOUBLEWORDS;
+use crate::lane::WORD;
 use crate::lane::WORD_RANGE;
+use crate::lane::WORDS;
 use crate::lane::lane_of;
 use crate::lane::with_lane;
 
@@ -26,7 +30,7 @@ fn multiply_lane(a: u64, b: u64, i: u64) -> u64
     requires { ⌜ i < 4 ⌝ }
     ensures { λ r. ⌜ (product 16 (lane 16 i a) (lane 16 i b) ≡ subℕ r (2 ^ 32)) × (r < 2 ^ 34) ⌝ }
 {
-    product_of(lane_of(a, 16, i), lane_of(b, 16, i))
+    product_of(lane_of(a, WORD, i), lane_of(b, WORD, i))
 }
 
 fn multiply_low_lane(a: u64, b: u64, i: u64) -> u64
@@ -41,8 +45,8 @@ pub(crate) fn multiply_low(a: u64, b: u64) -> u64
 {
     let mut lanes: u64 = 0;
     let mut i: u64 = 0;
-    while i < 4 {
-        lanes = with_lane(lanes, multiply_low_lane(a, b, i), 16, i);
+    while i < WORDS {
+        lanes = with_lane(lanes, multiply_low_lane(a, b, i), WORD, i);
         i += 1;
     }
     lanes
@@ -60,8 +64,8 @@ pub(crate) fn multiply_high(a: u64, b: u64) -> u64
 {
     let mut lanes: u64 = 0;
     let mut i: u64 = 0;
-    while i < 4 {
-        lanes = with_lane(lanes, multiply_high_lane(a, b, i), 16, i);
+    while i < WORDS {
+        lanes = with_lane(lanes, multiply_high_lane(a, b, i), WORD, i);
         i += 1;
     }
     lanes
@@ -80,8 +84,8 @@ pub(crate) fn multiply_add(a: u64, b: u64) -> u64
 {
     let mut lanes: u64 = 0;
     let mut i: u64 = 0;
-    while i < 2 {
-        lanes = with_lane(lanes, multiply_add_lane(a, b, i), 32, i);
+    while i < DOUBLEWORDS {
+        lanes = with_lane(lanes, multiply_add_lane(a, b, i), DOUBLEWORD, i);
         i += 1;
     }
     lanes

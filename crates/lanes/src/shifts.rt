@@ -4,6 +4,7 @@ ghost use Prim.Native.Nat.{_≤_};
 ghost use Rattle.lanes.specs.Lane.{Within, Fills};
 ghost use Rattle.lanes.specs.Rules.{packed, shift, left, right, rightSigned};
 use crate::compares::exceeds;
+use crate::lane::QUADWORD;
 use crate::lane::lane_of;
 use crate::lane::low;
 use crate::lane::with_lane;
@@ -22,7 +23,7 @@ pub(crate) fn shift_left(a: u64, count: u64, w: u64) -> u64
     requires { ⌜ (1 ≤ w) × (w ≤ 64) ⌝ }
     ensures { λ r. ⌜ r ≡ packed (shift left) w a count ⌝ }
 {
-    let n = 64 / w;
+    let n = QUADWORD / w;
     let mut lanes: u64 = 0;
     let mut i: u64 = 0;
     while i < n {
@@ -46,7 +47,7 @@ pub(crate) fn shift_right(a: u64, count: u64, w: u64) -> u64
     requires { ⌜ (1 ≤ w) × (w ≤ 64) ⌝ }
     ensures { λ r. ⌜ r ≡ packed (shift right) w a count ⌝ }
 {
-    let n = 64 / w;
+    let n = QUADWORD / w;
     let mut lanes: u64 = 0;
     let mut i: u64 = 0;
     while i < n {

@@ -4,6 +4,7 @@ ghost use Prim.Native.Nat.{_≤_};
 ghost use Rattle.lanes.specs.Lane.{Within, Fills};
 ghost use Rattle.lanes.specs.Rules.{packed, pairwise, sum, difference, sumSigned, differenceSigned, sumUnsigned, differenceUnsigned};
 use crate::lane::DOUBLEWORD_RANGE;
+use crate::lane::QUADWORD;
 use crate::lane::clamped;
 use crate::lane::half;
 use crate::lane::lane_of;
@@ -21,7 +22,7 @@ pub(crate) fn add(a: u64, b: u64, w: u64) -> u64
     requires { ⌜ Fills w ⌝ }
     ensures { λ r. ⌜ r ≡ packed (pairwise sum) w a b ⌝ }
 {
-    let n = 64 / w;
+    let n = QUADWORD / w;
     let mut lanes: u64 = 0;
     let mut i: u64 = 0;
     while i < n {
@@ -59,7 +60,7 @@ pub(crate) fn add_signed(a: u64, b: u64, w: u64) -> u64
     requires { ⌜ Fills w ⌝ }
     ensures { λ r. ⌜ r ≡ packed (pairwise sumSigned) w a b ⌝ }
 {
-    let n = 64 / w;
+    let n = QUADWORD / w;
     let mut lanes: u64 = 0;
     let mut i: u64 = 0;
     while i < n {
@@ -80,7 +81,7 @@ pub(crate) fn add_unsigned(a: u64, b: u64, w: u64) -> u64
     requires { ⌜ Fills w ⌝ }
     ensures { λ r. ⌜ r ≡ packed (pairwise sumUnsigned) w a b ⌝ }
 {
-    let n = 64 / w;
+    let n = QUADWORD / w;
     let mut lanes: u64 = 0;
     let mut i: u64 = 0;
     while i < n {
