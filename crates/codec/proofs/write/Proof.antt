@@ -1,4 +1,4 @@
--- `write` meets its contract: 11, 12 or the stores of the instruction's bytes at the start.
+-- `write` meets its contract: it answers 11 or 12, or stores the instruction's bytes at the start.
 use Rattle.codec.proofs.Puts.{puts}
 use Rattle.codec.proofs.write.Statement.{statement}
 use Rattle.codec.proofs.write.Tie as tie

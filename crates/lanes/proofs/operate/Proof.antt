@@ -1,4 +1,4 @@
--- `lanes::operate` meets its contract: each arm calls the function of its operation.
+-- `operate` meets its contract: each arm calls the function of its operation.
 use Rattle.lanes.specs.Rules.{andNot}
 use Rattle.lanes.specs.Operations.{operate}
 use Rattle.lanes.proofs.Naming.{naming, unnamed}

@@ -1,4 +1,4 @@
--- `operations::mixed` is safe and ends: the rounds are counted up to the last.
+-- `mixed` is safe and ends: the rounds are counted up to the last.
 use Prim.Native.Nat.{_≤_, _-_}
 use borrow.Author.Needs.{needs}
 use Rattle.operations.proofs.mixed.Statement.{statement}

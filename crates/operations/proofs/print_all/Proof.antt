@@ -1,4 +1,4 @@
--- `operations::print_all` is safe and ends: the operations are counted up to the last.
+-- `print_all` is safe and ends: the operations are counted up to the last.
 use Prim.Native.Nat.{_≤_, _-_}
 use borrow.Author.Needs.{needs}
 use Rattle.operations.proofs.print_all.Statement.{statement}

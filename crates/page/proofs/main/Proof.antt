@@ -1,4 +1,4 @@
--- `page::main` meets its contract: no more is written than the buffer has.
+-- `main` is safe and ends: no more is written than the buffer has.
 use borrow.Author.Needs.{needs}
 use Rattle.printout.proofs.Rooms.{written-within}
 use Rattle.page.proofs.main.Statement.{statement}

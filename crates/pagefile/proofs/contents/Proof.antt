@@ -1,4 +1,4 @@
--- `pagefile::contents` meets its contract: between the heading and the end of a tag's field lie its contents.
+-- `contents` meets its contract: between the heading and the end of a tag's field lie its contents.
 use Rattle.pagefile.proofs.Parts.{parts}
 use Rattle.pagefile.proofs.contents.Statement.{statement}
 use Rattle.pagefile.proofs.contents.Tie as tie

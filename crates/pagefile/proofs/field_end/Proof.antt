@@ -1,4 +1,4 @@
--- `pagefile::field_end` meets its contract: each return has made the tests that lead to its case.
+-- `field_end` meets its contract: each return has made the tests that lead to its case.
 use Rattle.pagefile.proofs.Places.{ends, wrong-contents}
 use Rattle.pagefile.proofs.field_end.Statement.{statement}
 use Rattle.pagefile.proofs.field_end.Tie as tie

@@ -1,4 +1,4 @@
--- `pagefile::fields_end` meets its contract. The loop's invariant: what is left from the place on is what the tags read so far leave.
+-- `fields_end` meets its contract: what is left from the place on is what the tags read so far leave.
 -- The measure is how many tags are to be read.
 use mathlib.Core.Path.{_≡_}
 use Prim.Native.Nat.{_-_, _≤_}

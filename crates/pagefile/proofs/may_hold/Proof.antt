@@ -1,4 +1,4 @@
--- `pagefile::may_hold` meets its contract: each return has made the tests that lead to its case.
+-- `may_hold` meets its contract: each return has made the tests that lead to its case.
 use borrow.Author.Needs.{needs}
 use borrow.Author.Tests.{eq-eqb, ne-eqb}
 use Rattle.pagefile.specs.Fields.{mayHold}

@@ -1,4 +1,4 @@
--- `pagefile::read` meets its contract: the marks are the first byte of their field.
+-- `read` meets its contract: the marks are the first byte of their field.
 use Rattle.pagefile.proofs.Parts.{parts}
 use Rattle.pagefile.proofs.read.Statement.{statement}
 use Rattle.pagefile.proofs.read.Tie as tie

@@ -1,4 +1,4 @@
--- `pagefile::well_formed` meets its contract: a place at the file's end leaves nothing.
+-- `well_formed` meets its contract: a place at the file's end leaves nothing.
 use Rattle.pagefile.proofs.Parts.{parts}
 use Rattle.pagefile.proofs.well_formed.Statement.{statement}
 use Rattle.pagefile.proofs.well_formed.Tie as tie

@@ -1,4 +1,4 @@
--- `pages::main` ends: each turn plays one argument more.
+-- `main` is safe and ends: each turn plays one argument more.
 use Prim.Native.Nat.{_-_, _≤_}
 use borrow.Author.Needs.{needs}
 use Rattle.pages.proofs.main.Statement.{statement}

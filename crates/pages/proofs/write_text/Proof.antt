@@ -1,4 +1,4 @@
--- `pages::write_text` meets its contract: no more is written than the buffer has.
+-- `write_text` is safe and ends: no more is written than the buffer has.
 use borrow.Author.Needs.{needs}
 use Rattle.printout.proofs.Rooms.{written-within}
 use Rattle.pages.proofs.write_text.Statement.{statement}

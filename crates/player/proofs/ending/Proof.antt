@@ -1,4 +1,4 @@
--- `player::ending` meets its contract: each arm has the end's own case.
+-- `ending` meets its contract: each arm has the end's own case.
 use mathlib.Core.Path.{sym, ap}
 use borrow.Author.Needs.{needs}
 use Rattle.player.specs.Page.{endingOf}

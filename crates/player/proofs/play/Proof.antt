@@ -1,4 +1,4 @@
--- `player::play` meets its contract: each arm has what the reading answered.
+-- `play` meets its contract: each arm has what the reading answered.
 use borrow.Author.Needs.{needs}
 use Rattle.player.proofs.Playing.{playing}
 use Rattle.player.proofs.play.Statement.{statement}

@@ -1,4 +1,4 @@
--- `player::play_well_formed` meets its contract: each test leads to its case.
+-- `play_well_formed` meets its contract: each test leads to its case.
 use borrow.Author.Needs.{needs}
 use Rattle.player.proofs.Playing.{playing}
 use Rattle.player.proofs.play_well_formed.Statement.{statement}

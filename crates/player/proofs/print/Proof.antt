@@ -1,4 +1,4 @@
--- `player::print` meets its contract: the report names the end of the run.
+-- `print` meets its contract: the report names the end of the run.
 use borrow.Author.Needs.{needs}
 use Rattle.player.proofs.Playing.{playing}
 use Rattle.player.proofs.print.Statement.{statement}

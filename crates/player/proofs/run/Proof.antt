@@ -1,4 +1,4 @@
--- `player::run` meets its contract: the run of the page's parts is the page's.
+-- `run` meets its contract: the run of the page's parts is the page's.
 use borrow.Author.Needs.{needs}
 use Rattle.player.proofs.Playing.{run-of-parts}
 use Rattle.player.proofs.run.Statement.{statement}

@@ -1,4 +1,4 @@
--- `player::run_copied` meets its contract: the start of the buffer is the memory.
+-- `run_copied` meets its contract: the start of the buffer is the memory.
 use borrow.Author.Needs.{needs}
 use Rattle.player.proofs.Playing.{run-of-copy}
 use Rattle.player.proofs.run_copied.Statement.{statement}

@@ -1,4 +1,4 @@
--- `printout::put_bottom` meets its contract: its lines, one after the other.
+-- `put_bottom` meets its contract: its lines are put one after the other.
 use Rattle.printout.specs.Lines.{memoryLine}
 use Rattle.printout.proofs.Putting.{chain, fits-third}
 use Rattle.printout.proofs.put_bottom.Statement.{statement}

@@ -1,4 +1,4 @@
--- `printout::put_report` meets its contract: its upper part, then its lower part.
+-- `put_report` meets its contract: its upper part is put, then its lower part.
 use Rattle.printout.specs.Lines.{reportText}
 use Rattle.printout.proofs.Putting.{chain}
 use Rattle.printout.proofs.put_report.Statement.{statement}

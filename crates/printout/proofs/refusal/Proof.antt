@@ -1,4 +1,4 @@
--- `printout::refusal` meets its contract: the test of the room leads to its case.
+-- `refusal` meets its contract: the test of the room leads to its case.
 use Rattle.printout.specs.Lines.{refusalText}
 use Rattle.printout.proofs.Rooms.{rooms}
 use Rattle.printout.proofs.refusal.Statement.{statement}

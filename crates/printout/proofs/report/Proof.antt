@@ -1,4 +1,4 @@
--- `printout::report` meets its contract: the test of the room leads to its case.
+-- `report` meets its contract: the test of the room leads to its case.
 use Rattle.printout.proofs.Rooms.{rooms}
 use Rattle.printout.proofs.report.Statement.{statement}
 use Rattle.printout.proofs.report.Tie as tie

@@ -1,4 +1,4 @@
--- `words::lies_inside` meets its contract: its three tests are the two of `inside`, without the sum.
+-- `lies_inside` meets its contract: its three tests are the two of `inside`, without the sum.
 use Rattle.words.proofs.Placing.{placing}
 use Rattle.words.proofs.lies_inside.Statement.{statement}
 use Rattle.words.proofs.lies_inside.Tie as tie

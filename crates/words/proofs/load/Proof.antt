@@ -1,4 +1,4 @@
--- `words::load` meets its contract: whichever size it goes by, the bytes it gets one by one are the load's.
+-- `load` meets its contract: whichever size it goes by, the bytes it gets one by one are the load's.
 use Rattle.words.proofs.Placing.{placing}
 use Rattle.words.proofs.load.Statement.{statement}
 use Rattle.words.proofs.load.Tie as tie

@@ -1,4 +1,4 @@
--- `words::load_bytes` meets its contract. The loop's invariant: the value is the number of the bytes passed. The measure is how many are left.
+-- `load_bytes` meets its contract: before each turn the value is the number of the bytes passed, and each turn leaves fewer.
 use mathlib.Core.Path.{_≡_}
 use Prim.Native.Nat.{_+_, _-_, _≤_}
 use mir.Facts.{fits-8-64}

@@ -1,4 +1,4 @@
--- `words::store` meets its contract: whichever size it goes by, the bytes it puts one by one are the store's.
+-- `store` meets its contract: whichever size it goes by, the bytes it puts one by one are the store's.
 use Rattle.words.proofs.Placing.{placing}
 use Rattle.words.proofs.store.Statement.{statement}
 use Rattle.words.proofs.store.Tie as tie

@@ -1,4 +1,4 @@
--- `words::store_bytes` meets its contract. The loop's invariant: what is left to put, put, gives the end. The measure is what is left of the size.
+-- `store_bytes` meets its contract: before each turn what is left to put, put, gives the end, and each turn leaves less.
 use mathlib.Core.Path.{_≡_}
 use Prim.Native.Nat.{_+_, _-_, _≤_}
 use lib.ListN.{length}

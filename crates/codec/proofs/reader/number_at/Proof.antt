@@ -1,4 +1,4 @@
--- `reader::number_at` meets its contract: the bytes of a number of one byte and of four.
+-- `reader::number_at` meets its contract: none, one or four bytes are joined, the lowest first.
 use Rattle.codec.proofs.Steps.{reading}
 use Rattle.codec.proofs.reader.number_at.Statement.{statement}
 use Rattle.codec.proofs.reader.number_at.Tie as tie

@@ -1,4 +1,4 @@
--- `starts_with` is safe and ends: its counter goes up to the length of the word, which the text has.
+-- `answers::starts_with` is safe and ends: its counter goes up to the length of the word, which the text has.
 use mathlib.Core.Path.{_≡_}
 use Prim.Native.Nat.{_-_, _≤_}
 use lib.ListN.{length}

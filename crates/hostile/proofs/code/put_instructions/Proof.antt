@@ -1,4 +1,4 @@
--- `put_instructions` meets its contract: its place stays within the file, and what is left of the count falls.
+-- `code::put_instructions` meets its contract: its place stays within the file, and what is left of the count falls.
 use mathlib.Core.Path.{_≡_}
 use Prim.Native.Nat.{_-_, _≤_}
 use lib.ListN.{length}

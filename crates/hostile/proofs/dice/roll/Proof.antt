@@ -1,4 +1,4 @@
--- `roll` meets its contract: a remainder is below its divisor.
+-- `dice::roll` meets its contract: a remainder is below its divisor.
 use native.Mathlib.Nat.{mod-lt}
 use borrow.Author.Needs.{needs}
 use Rattle.hostile.proofs.dice.roll.Statement.{statement}

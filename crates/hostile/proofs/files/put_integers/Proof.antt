@@ -1,4 +1,4 @@
--- `put_integers` meets its contract: its place stays within the file, and what is left of the eight registers falls.
+-- `files::put_integers` meets its contract: its place stays within the file, and what is left of the eight registers falls.
 use mathlib.Core.Path.{_≡_}
 use Prim.Native.Nat.{_-_, _≤_}
 use lib.ListN.{length}

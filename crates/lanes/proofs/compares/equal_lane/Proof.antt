@@ -1,4 +1,4 @@
--- `lanes::compares::equal_lane` meets its contract.
+-- `compares::equal_lane` meets its contract: two lanes are taken out, and the mask says whether they are equal.
 use Rattle.lanes.proofs.Comparing.{comparing}
 use Rattle.lanes.proofs.compares.equal_lane.Statement.{statement}
 use Rattle.lanes.proofs.compares.equal_lane.Tie as tie

@@ -1,4 +1,4 @@
--- `lanes::compares::equals` meets its contract: the loop builds the result, one lane a turn.
+-- `compares::equals` meets its contract: the loop builds the result, one lane a turn.
 use Prim.Native.Nat.{_-_}
 use Rattle.lanes.specs.Rules.{pairwise, equal}
 use Rattle.lanes.proofs.Building.{Built, building}

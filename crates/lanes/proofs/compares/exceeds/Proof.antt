@@ -1,4 +1,4 @@
--- `lanes::compares::exceeds` meets its contract: the loop builds the result, one lane a turn.
+-- `compares::exceeds` meets its contract: the loop builds the result, one lane a turn.
 use Prim.Native.Nat.{_-_}
 use Rattle.lanes.specs.Rules.{pairwise, greater}
 use Rattle.lanes.proofs.Building.{Built, building}

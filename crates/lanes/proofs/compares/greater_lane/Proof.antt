@@ -1,4 +1,4 @@
--- `lanes::compares::greater_lane` meets its contract.
+-- `compares::greater_lane` meets its contract: with their top bits turned over, signed lanes compare as unsigned ones.
 use Rattle.lanes.proofs.Comparing.{comparing}
 use Rattle.lanes.proofs.compares.greater_lane.Statement.{statement}
 use Rattle.lanes.proofs.compares.greater_lane.Tie as tie

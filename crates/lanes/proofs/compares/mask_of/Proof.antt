@@ -1,4 +1,4 @@
--- `lanes::compares::mask_of` meets its contract.
+-- `compares::mask_of` meets its contract: the mask is a lane of ones on yes, and else zero.
 use Rattle.lanes.proofs.Comparing.{comparing}
 use Rattle.lanes.proofs.compares.mask_of.Statement.{statement}
 use Rattle.lanes.proofs.compares.mask_of.Tie as tie

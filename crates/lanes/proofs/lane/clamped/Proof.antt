@@ -1,4 +1,4 @@
--- `lanes::lane::clamped` meets its contract.
+-- `lane::clamped` meets its contract: its returns are the cases of the clamp, below the range, above it and within.
 use Rattle.lanes.proofs.Integers.{clamping}
 use Rattle.lanes.proofs.lane.clamped.Statement.{statement}
 use Rattle.lanes.proofs.lane.clamped.Tie as tie

@@ -1,4 +1,4 @@
--- `lanes::lane::half` meets its contract: the shifted 1 is half of 2 ^ w.
+-- `lane::half` meets its contract: the shifted 1 is half of 2 ^ w.
 use Prim.Native.Nat.{_+_, _-_}
 use mathlib.Core.Path.{ap₂, _∙_}
 use native.Mathlib.Omega.{arith}

@@ -1,4 +1,4 @@
--- `lanes::lane::lane_of` meets its contract.
+-- `lane::lane_of` meets its contract: the low bits of the shifted register are the lane, and a rest is below its divisor.
 use borrow.Author.Needs.{needs}
 use Rattle.lanes.specs.Lane.{lane}
 use Rattle.lanes.proofs.Registers.{lane-lt}

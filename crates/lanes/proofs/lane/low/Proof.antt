@@ -1,4 +1,4 @@
--- `lanes::lane::low` meets its contract: what the two shifts leave is the rest by 2 ^ w.
+-- `lane::low` meets its contract: what the two shifts leave is the rest by 2 ^ w.
 use borrow.Author.Needs.{needs}
 use Rattle.lanes.proofs.Powers.{low-bits}
 use Rattle.lanes.proofs.lane.low.Statement.{statement}

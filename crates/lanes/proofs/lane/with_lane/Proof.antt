@@ -1,4 +1,4 @@
--- `lanes::lane::with_lane` meets its contract: the lane is shifted past the lanes below it.
+-- `lane::with_lane` meets its contract: the lane is shifted past the lanes below it.
 use Prim.Native.Nat.{_*_}
 use borrow.Author.Needs.{needs}
 use Rattle.lanes.proofs.Powers.{placed-is, placed-lt}

@@ -1,4 +1,4 @@
--- `lanes::packs::pack_signed_lane` meets its contract.
+-- `packs::pack_signed_lane` meets its contract: with their top bits turned over, signed lanes clamp as unsigned ones.
 use Rattle.lanes.proofs.Packing.{packing}
 use Rattle.lanes.proofs.packs.pack_signed_lane.Statement.{statement}
 use Rattle.lanes.proofs.packs.pack_signed_lane.Tie as tie

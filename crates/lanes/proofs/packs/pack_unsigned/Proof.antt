@@ -1,4 +1,4 @@
--- `lanes::packs::pack_unsigned` meets its contract: the loop builds the result, one lane a turn.
+-- `packs::pack_unsigned` meets its contract: the loop builds the result, one lane a turn.
 use Prim.Native.Nat.{_-_}
 use Rattle.lanes.specs.Signed.{clampUnsigned}
 use Rattle.lanes.specs.Rules.{pack}

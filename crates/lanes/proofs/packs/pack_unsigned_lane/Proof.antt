@@ -1,4 +1,4 @@
--- `lanes::packs::pack_unsigned_lane` meets its contract.
+-- `packs::pack_unsigned_lane` meets its contract: with its top bit turned over, the wide lane less half the range is its number, which is clamped.
 use Rattle.lanes.proofs.Packing.{packing}
 use Rattle.lanes.proofs.packs.pack_unsigned_lane.Statement.{statement}
 use Rattle.lanes.proofs.packs.pack_unsigned_lane.Tie as tie

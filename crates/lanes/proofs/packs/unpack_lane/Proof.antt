@@ -1,4 +1,4 @@
--- `lanes::packs::unpack_lane` meets its contract.
+-- `packs::unpack_lane` meets its contract: even lanes are of the destination and odd ones of the source, from the first on.
 use Rattle.lanes.proofs.Packing.{unpacking}
 use Rattle.lanes.proofs.packs.unpack_lane.Statement.{statement}
 use Rattle.lanes.proofs.packs.unpack_lane.Tie as tie

@@ -1,4 +1,4 @@
--- `lanes::packs::unpacked` meets its contract: the loop builds the result, one lane a turn.
+-- `packs::unpacked` meets its contract: the loop builds the result, one lane a turn.
 use Prim.Native.Nat.{_-_}
 use Rattle.lanes.specs.Rules.{unpack}
 use Rattle.lanes.proofs.Fitting.{unpack-fits}

@@ -1,4 +1,4 @@
--- `lanes::packs::wide_lane` meets its contract.
+-- `packs::wide_lane` meets its contract: the low half of the lanes is of the destination, the high half of the source.
 use Rattle.lanes.proofs.Packing.{packing}
 use Rattle.lanes.proofs.packs.wide_lane.Statement.{statement}
 use Rattle.lanes.proofs.packs.wide_lane.Tie as tie

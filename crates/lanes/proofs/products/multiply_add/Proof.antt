@@ -1,4 +1,4 @@
--- `lanes::products::multiply_add` meets its contract: the loop builds the result, one lane a turn.
+-- `products::multiply_add` meets its contract: the loop builds the result, one lane a turn.
 use Prim.Native.Nat.{_-_}
 use Rattle.lanes.specs.Rules.{pairwise, productSum}
 use Rattle.lanes.proofs.Building.{Built, building}

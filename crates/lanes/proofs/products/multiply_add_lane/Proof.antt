@@ -1,4 +1,4 @@
--- `lanes::products::multiply_add_lane` meets its contract.
+-- `products::multiply_add_lane` meets its contract: the 2 ^ 32 added to each product leaves the low 32 bits of their sum as they are.
 use Rattle.lanes.proofs.Multiplying.{multiplying}
 use Rattle.lanes.proofs.products.multiply_add_lane.Statement.{statement}
 use Rattle.lanes.proofs.products.multiply_add_lane.Tie as tie

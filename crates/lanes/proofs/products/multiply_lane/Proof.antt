@@ -1,4 +1,4 @@
--- `lanes::products::multiply_lane` meets its contract.
+-- `products::multiply_lane` meets its contract: the two words that are multiplied are the lanes.
 use Rattle.lanes.proofs.Multiplying.{multiplying}
 use Rattle.lanes.proofs.products.multiply_lane.Statement.{statement}
 use Rattle.lanes.proofs.products.multiply_lane.Tie as tie

@@ -1,4 +1,4 @@
--- `lanes::products::multiply_low_lane` meets its contract.
+-- `products::multiply_low_lane` meets its contract: the added 2 ^ 32 leaves the low word of the product as it is.
 use Rattle.lanes.proofs.Multiplying.{multiplying}
 use Rattle.lanes.proofs.products.multiply_low_lane.Statement.{statement}
 use Rattle.lanes.proofs.products.multiply_low_lane.Tie as tie

@@ -1,4 +1,4 @@
--- `lanes::products::product_of` meets its contract: no step of (x - h) (y - h) + 2 ^ 32 leaves the numbers of the code.
+-- `products::product_of` meets its contract: no step of (x - h) (y - h) + 2 ^ 32 leaves the numbers of the code.
 use native.Mathlib.Omega.{arith}
 use Rattle.lanes.proofs.Multiplying.{small, product-is}
 use Rattle.lanes.proofs.products.product_of.Statement.{statement}

@@ -1,4 +1,4 @@
--- `lanes::shifts::left_lane` meets its contract.
+-- `shifts::left_lane` meets its contract: a count from the width on leaves zero, and a lower one the low bits of the shifted lane.
 use Rattle.lanes.proofs.Shifting.{shifting}
 use Rattle.lanes.proofs.shifts.left_lane.Statement.{statement}
 use Rattle.lanes.proofs.shifts.left_lane.Tie as tie

@@ -1,4 +1,4 @@
--- `lanes::shifts::right_lane` meets its contract.
+-- `shifts::right_lane` meets its contract: a count from the width on leaves zero, and a lower one the shifted lane.
 use Rattle.lanes.proofs.Shifting.{shifting}
 use Rattle.lanes.proofs.shifts.right_lane.Statement.{statement}
 use Rattle.lanes.proofs.shifts.right_lane.Tie as tie

@@ -1,4 +1,4 @@
--- `lanes::shifts::shift_left` meets its contract: the loop builds the result, one lane a turn.
+-- `shifts::shift_left` meets its contract: the loop builds the result, one lane a turn.
 use Prim.Native.Nat.{_-_}
 use Rattle.lanes.specs.Rules.{shift, left}
 use Rattle.lanes.proofs.Building.{Built, building}

@@ -1,4 +1,4 @@
--- `lanes::sums::add` meets its contract: the loop builds the result, one lane a turn.
+-- `sums::add` meets its contract: the loop builds the result, one lane a turn.
 use Prim.Native.Nat.{_-_}
 use Rattle.lanes.specs.Rules.{pairwise, sum}
 use Rattle.lanes.proofs.Building.{Built, building}

@@ -1,4 +1,4 @@
--- `lanes::sums::add_lane` meets its contract.
+-- `sums::add_lane` meets its contract: the low bits of the sum are the sum wrapped in its lane.
 use Rattle.lanes.proofs.Adding.{adding}
 use Rattle.lanes.proofs.sums.add_lane.Statement.{statement}
 use Rattle.lanes.proofs.sums.add_lane.Tie as tie

@@ -1,4 +1,4 @@
--- `lanes::sums::add_signed_lane` meets its contract.
+-- `sums::add_signed_lane` meets its contract: with their top bits turned over, signed lanes add and clamp as unsigned ones.
 use Rattle.lanes.proofs.Adding.{adding}
 use Rattle.lanes.proofs.sums.add_signed_lane.Statement.{statement}
 use Rattle.lanes.proofs.sums.add_signed_lane.Tie as tie

@@ -1,4 +1,4 @@
--- `lanes::sums::add_unsigned` meets its contract: the loop builds the result, one lane a turn.
+-- `sums::add_unsigned` meets its contract: the loop builds the result, one lane a turn.
 use Prim.Native.Nat.{_-_}
 use Rattle.lanes.specs.Rules.{pairwise, sumUnsigned}
 use Rattle.lanes.proofs.Building.{Built, building}

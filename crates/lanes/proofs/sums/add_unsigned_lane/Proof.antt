@@ -1,4 +1,4 @@
--- `lanes::sums::add_unsigned_lane` meets its contract.
+-- `sums::add_unsigned_lane` meets its contract: the sum of the lanes is clamped to their greatest number.
 use Rattle.lanes.proofs.Adding.{adding}
 use Rattle.lanes.proofs.sums.add_unsigned_lane.Statement.{statement}
 use Rattle.lanes.proofs.sums.add_unsigned_lane.Tie as tie

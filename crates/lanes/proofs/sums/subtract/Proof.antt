@@ -1,4 +1,4 @@
--- `lanes::sums::subtract` meets its contract.
+-- `sums::subtract` meets its contract: lane by lane, a - b is not (not a + b).
 use Rattle.lanes.proofs.Complementing.{complementing}
 use Rattle.lanes.proofs.sums.subtract.Statement.{statement}
 use Rattle.lanes.proofs.sums.subtract.Tie as tie

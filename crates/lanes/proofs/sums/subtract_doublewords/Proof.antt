@@ -1,4 +1,4 @@
--- `lanes::sums::subtract_doublewords` meets its contract.
+-- `sums::subtract_doublewords` meets its contract: lane by lane, a - b is not (not a + b).
 use Rattle.lanes.proofs.Complementing.{complementing}
 use Rattle.lanes.proofs.sums.subtract_doublewords.Statement.{statement}
 use Rattle.lanes.proofs.sums.subtract_doublewords.Tie as tie

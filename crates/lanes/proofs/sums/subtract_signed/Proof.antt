@@ -1,4 +1,4 @@
--- `lanes::sums::subtract_signed` meets its contract.
+-- `sums::subtract_signed` meets its contract: lane by lane, a - b is not (not a + b), clamped with sign.
 use Rattle.lanes.proofs.Complementing.{complementing}
 use Rattle.lanes.proofs.sums.subtract_signed.Statement.{statement}
 use Rattle.lanes.proofs.sums.subtract_signed.Tie as tie

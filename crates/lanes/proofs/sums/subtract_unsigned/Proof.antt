@@ -1,4 +1,4 @@
--- `lanes::sums::subtract_unsigned` meets its contract.
+-- `sums::subtract_unsigned` meets its contract: lane by lane, a - b is not (not a + b), clamped without sign.
 use Rattle.lanes.proofs.Complementing.{complementing}
 use Rattle.lanes.proofs.sums.subtract_unsigned.Statement.{statement}
 use Rattle.lanes.proofs.sums.subtract_unsigned.Tie as tie

@@ -1,4 +1,4 @@
--- The memory's length, then the reader's refusals, then the instruction.
+-- `Machine::footprint` meets its contract: the memory's length is tested first, then the reader answers, and the instruction has its footprint.
 use Rattle.machine.proofs.PrintTests.{print-positions}
 use Rattle.machine.proofs.Machine.footprint.Statement.{statement}
 use Rattle.machine.proofs.Machine.footprint.Tie as tie

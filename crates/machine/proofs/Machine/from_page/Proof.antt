@@ -1,4 +1,4 @@
--- `machine::Machine::from_page` meets its contract.
+-- `Machine::from_page` meets its contract: both lists of registers are their loads, and each mark is its bit.
 use mathlib.Core.Path.{ap₂}
 use mathlib.Core.List.{List}
 use Prim.Native.Nat.{ℕ}

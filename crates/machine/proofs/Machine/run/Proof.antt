@@ -1,4 +1,4 @@
--- The run: before each turn, what is left of the run from here is the whole run.
+-- `Machine::run` meets its contract: before each turn, what is left of the run from here is the whole run.
 use mathlib.Core.Path.{_≡_}
 use Prim.Native.Nat.{_-_, _≤_}
 use borrow.Author.Needs.{needs}

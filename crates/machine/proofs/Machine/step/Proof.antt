@@ -1,4 +1,4 @@
--- The step of a machine by value.
+-- `Machine::step` meets its contract: it refuses what is too long, and else answers as the step over its registers ended.
 use Rattle.machine.proofs.Answering.{answering}
 use Rattle.machine.proofs.Machine.step.Statement.{statement}
 use Rattle.machine.proofs.Machine.step.Tie as tie

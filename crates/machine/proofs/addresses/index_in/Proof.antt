@@ -1,4 +1,4 @@
--- The index: 100 is none.
+-- `addresses::index_in` meets its contract: its test is that of the definition, where 100 is none.
 use Rattle.machine.proofs.Addressing.{addressing}
 use Rattle.machine.proofs.addresses.index_in.Statement.{statement}
 use Rattle.machine.proofs.addresses.index_in.Tie as tie

@@ -1,4 +1,4 @@
--- The scale: each turn doubles once.
+-- `addresses::scaled` meets its contract: each turn doubles once, and what is left of the scale falls.
 use mathlib.Core.Path.{_≡_}
 use Prim.Native.Nat.{_*_, _-_, _^_, _%_, _≤_}
 use Rattle.machine.proofs.Addressing.{addressing}

@@ -1,4 +1,4 @@
--- A computation reads both.
+-- `footprints::computed` meets its contract: its reads and writes are a computation's, which reads both.
 use Rattle.machine.proofs.PrintShaping.{print-shapes}
 use Rattle.machine.proofs.footprints.computed.Statement.{statement}
 use Rattle.machine.proofs.footprints.computed.Tie as tie

@@ -1,4 +1,4 @@
--- An entry: our table has every row.
+-- `footprints::entry_for` meets its contract: our table has the row of every second byte.
 use Rattle.machine.proofs.Listing.{looking-up}
 use Rattle.machine.proofs.footprints.entry_for.Statement.{statement}
 use Rattle.machine.proofs.footprints.entry_for.Tie as tie

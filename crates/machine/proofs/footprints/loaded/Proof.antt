@@ -1,4 +1,4 @@
--- A load does not read its register.
+-- `footprints::loaded` meets its contract: its reads and writes are a load's, which does not read its register.
 use Rattle.machine.proofs.PrintShaping.{print-shapes}
 use Rattle.machine.proofs.footprints.loaded.Statement.{statement}
 use Rattle.machine.proofs.footprints.loaded.Tie as tie

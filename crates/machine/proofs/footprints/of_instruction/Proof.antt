@@ -1,4 +1,4 @@
--- The control marks, then the instruction.
+-- `footprints::of_instruction` meets its contract: the control marks are tested first, and then the instruction has its footprint.
 use Rattle.machine.proofs.PrintTests.{print-marks}
 use Rattle.machine.proofs.footprints.of_instruction.Statement.{statement}
 use Rattle.machine.proofs.footprints.of_instruction.Tie as tie

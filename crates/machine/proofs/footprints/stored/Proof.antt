@@ -1,4 +1,4 @@
--- A store reads the register that it stores.
+-- `footprints::stored` meets its contract: its reads and writes are a store's, which does not read its operand.
 use Rattle.machine.proofs.PrintShaping.{print-shapes}
 use Rattle.machine.proofs.footprints.stored.Statement.{statement}
 use Rattle.machine.proofs.footprints.stored.Tie as tie

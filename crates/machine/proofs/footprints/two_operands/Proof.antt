@@ -1,4 +1,4 @@
--- Two operands: by the form, where r/m is inside the memory.
+-- `footprints::two_operands` meets its contract: each form with two operands has its shape, unless its operand is refused.
 use Rattle.machine.proofs.PrintForms.{print-forms}
 use Rattle.machine.proofs.footprints.two_operands.Statement.{statement}
 use Rattle.machine.proofs.footprints.two_operands.Tie as tie

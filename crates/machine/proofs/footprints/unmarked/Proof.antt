@@ -1,4 +1,4 @@
--- The forms with two operands, with none, and with one.
+-- `footprints::unmarked` meets its contract: the forms with two operands, with none and with one each have their shape.
 use Rattle.machine.proofs.PrintForms.{print-forms}
 use Rattle.machine.proofs.footprints.unmarked.Statement.{statement}
 use Rattle.machine.proofs.footprints.unmarked.Tie as tie

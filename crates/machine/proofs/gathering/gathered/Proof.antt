@@ -1,4 +1,4 @@
--- The instruction at a position: the tests in their order, then its work.
+-- `gathering::gathered` meets its contract: its tests are those of a step, in their order, and then comes the work of the instruction.
 use Rattle.machine.proofs.Fetching.{fetching}
 use Rattle.machine.proofs.gathering.gathered.Statement.{statement}
 use Rattle.machine.proofs.gathering.gathered.Tie as tie

@@ -1,4 +1,4 @@
--- An operand in memory: its address is tested before it is loaded or stored.
+-- `gathering::in_memory` meets its contract: the address is tested before anything is loaded or stored, and each form has its work.
 use Rattle.machine.proofs.Sorting.{placing}
 use Rattle.machine.proofs.gathering.in_memory.Statement.{statement}
 use Rattle.machine.proofs.gathering.in_memory.Tie as tie

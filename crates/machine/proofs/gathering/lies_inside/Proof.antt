@@ -1,4 +1,4 @@
--- The operand test, in a sum that does not wrap.
+-- `gathering::lies_inside` meets its contract: its two tests come to that of the sum, which is not formed.
 use Rattle.machine.proofs.Testing.{testing}
 use Rattle.machine.proofs.gathering.lies_inside.Statement.{statement}
 use Rattle.machine.proofs.gathering.lies_inside.Tie as tie

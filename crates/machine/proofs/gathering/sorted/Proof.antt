@@ -1,4 +1,4 @@
--- The work of an instruction, by its form.
+-- `gathering::sorted` meets its contract: each form has its work, for an operand in memory and for one in a register.
 use Rattle.machine.proofs.Sorting.{sorting}
 use Rattle.machine.proofs.gathering.sorted.Statement.{statement}
 use Rattle.machine.proofs.gathering.sorted.Tie as tie

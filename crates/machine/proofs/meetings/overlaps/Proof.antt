@@ -1,4 +1,4 @@
--- Two ranges overlap: by the one that starts first.
+-- `meetings::overlaps` meets its contract: two ranges that are not empty overlap where the one that starts later starts inside the other.
 use Rattle.machine.proofs.MeetRules.{meet-rules}
 use Rattle.machine.proofs.meetings.overlaps.Statement.{statement}
 use Rattle.machine.proofs.meetings.overlaps.Tie as tie

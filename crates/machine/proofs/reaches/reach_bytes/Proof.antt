@@ -1,4 +1,4 @@
--- An operand in memory: its test, its address registers and its range.
+-- `reaches::reach_bytes` meets its contract: the operand is tested, its address registers are a mask and its bytes one range.
 use Rattle.machine.proofs.PrintReaching.{print-bytes}
 use Rattle.machine.proofs.reaches.reach_bytes.Statement.{statement}
 use Rattle.machine.proofs.reaches.reach_bytes.Tie as tie

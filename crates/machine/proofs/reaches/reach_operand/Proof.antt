@@ -1,4 +1,4 @@
--- The operand of r/m: in memory or in a register.
+-- `reaches::reach_operand` meets its contract: an operand in memory is a range, and one in a register is a mask.
 use Rattle.machine.proofs.PrintReaching.{print-reaching}
 use Rattle.machine.proofs.reaches.reach_operand.Statement.{statement}
 use Rattle.machine.proofs.reaches.reach_operand.Tie as tie

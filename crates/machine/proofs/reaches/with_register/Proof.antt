@@ -1,4 +1,4 @@
--- A register beside other places.
+-- `reaches::with_register` meets its contract: the register's bit joins the mask of the other places.
 use Rattle.machine.proofs.PrintMasks.{print-masks}
 use Rattle.machine.proofs.reaches.with_register.Statement.{statement}
 use Rattle.machine.proofs.reaches.with_register.Tie as tie

@@ -1,4 +1,4 @@
--- The mask of an address: its base's, and with an SIB byte its index's.
+-- `register_masks::address_mask` meets its contract: it is the mask of the base, joined with that of the index where an SIB byte follows.
 use Rattle.machine.proofs.PrintMasks.{print-masks}
 use Rattle.machine.proofs.register_masks.address_mask.Statement.{statement}
 use Rattle.machine.proofs.register_masks.address_mask.Tie as tie

@@ -1,4 +1,4 @@
--- The mask of a base: 101 is none at mod 00.
+-- `register_masks::base_mask` meets its contract: its tests are those of the definition, where 101 is none at mod 00.
 use Rattle.machine.proofs.PrintMasks.{print-masks}
 use Rattle.machine.proofs.register_masks.base_mask.Statement.{statement}
 use Rattle.machine.proofs.register_masks.base_mask.Tie as tie

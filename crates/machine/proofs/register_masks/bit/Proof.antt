@@ -1,4 +1,4 @@
--- The mask of one register.
+-- `register_masks::bit` meets its contract: 1 shifted by a register's number is its power of two.
 use Rattle.machine.proofs.PrintMasks.{print-masks}
 use Rattle.machine.proofs.register_masks.bit.Statement.{statement}
 use Rattle.machine.proofs.register_masks.bit.Tie as tie

@@ -1,4 +1,4 @@
--- The mask of an index: 100 is none.
+-- `register_masks::index_mask` meets its contract: its test is that of the definition, where 100 is none.
 use Rattle.machine.proofs.PrintMasks.{print-masks}
 use Rattle.machine.proofs.register_masks.index_mask.Statement.{statement}
 use Rattle.machine.proofs.register_masks.index_mask.Tie as tie

@@ -1,4 +1,4 @@
--- The operation for a width.
+-- `shifts::of_width` meets its contract: its tests are those of the definition, one width after the other.
 use Rattle.machine.proofs.Shifting.{shifting}
 use Rattle.machine.proofs.shifts.of_width.Statement.{statement}
 use Rattle.machine.proofs.shifts.of_width.Tie as tie

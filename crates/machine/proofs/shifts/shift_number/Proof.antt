@@ -1,4 +1,4 @@
--- The operation of a digit and a width.
+-- `shifts::shift_number` meets its contract: its tests are those of the definition, and each number names its operation.
 use Rattle.machine.proofs.Shifting.{shifting}
 use Rattle.machine.proofs.shifts.shift_number.Statement.{statement}
 use Rattle.machine.proofs.shifts.shift_number.Tie as tie

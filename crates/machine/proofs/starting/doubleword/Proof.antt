@@ -1,4 +1,4 @@
--- `machine::starting::doubleword` meets its contract: four bytes fit 32 bits.
+-- `starting::doubleword` meets its contract: four bytes fit 32 bits.
 use native.Mathlib.Omega.{arith}
 use Prim.Native.Nat.{_*_}
 use borrow.Author.Needs.{needs}

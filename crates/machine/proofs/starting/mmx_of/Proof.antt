@@ -1,4 +1,4 @@
--- `machine::starting::mmx_of` meets its contract: each of the eight is its own load.
+-- `starting::mmx_of` meets its contract: each of the eight is its own load.
 use borrow.Author.Needs.{needs}
 use Rattle.machine.proofs.starting.mmx_of.Statement.{statement}
 use Rattle.machine.proofs.starting.mmx_of.Tie as tie

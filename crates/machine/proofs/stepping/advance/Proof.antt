@@ -1,4 +1,4 @@
--- The work is done: one store into what is lent, and none on a refusal.
+-- `stepping::advance` meets its contract: what is left in the lent registers and memory is what the work performs, and that is the step.
 use borrow.Author.Needs.{needs}
 use Rattle.machine.proofs.Advancing.{operating, storing, putting, ending}
 use Rattle.machine.proofs.stepping.advance.Statement.{statement}

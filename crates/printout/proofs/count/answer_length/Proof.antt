@@ -1,4 +1,4 @@
--- `printout::count::answer_length` meets its contract: each case is a word, or a word and a number.
+-- `count::answer_length` meets its contract: each case is a word, or a word and a number.
 use Rattle.printout.proofs.Rooms.{counting}
 use Rattle.printout.proofs.count.answer_length.Statement.{statement}
 use Rattle.printout.proofs.count.answer_length.Tie as tie

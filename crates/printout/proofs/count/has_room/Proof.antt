@@ -1,4 +1,4 @@
--- `printout::count::has_room` meets its contract: the headings' characters are counted, and then 3 for each byte.
+-- `count::has_room` meets its contract: the headings' characters are counted, and then 3 for each byte.
 use Rattle.printout.proofs.Rooms.{counting}
 use Rattle.printout.proofs.count.has_room.Statement.{statement}
 use Rattle.printout.proofs.count.has_room.Tie as tie

@@ -1,4 +1,4 @@
--- `printout::line::gap_after` meets its contract: the tests lead to its case.
+-- `line::gap_after` meets its contract: the tests lead to its case.
 use borrow.Author.Needs.{needs}
 use borrow.Author.Tests.{eq-eqb, ne-eqb}
 use Rattle.printout.proofs.line.gap_after.Statement.{statement}

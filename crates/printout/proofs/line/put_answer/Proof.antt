@@ -1,4 +1,4 @@
--- `printout::line::put_answer` meets its contract: each case is a word, or a word and a number.
+-- `line::put_answer` meets its contract: each case is a word, or a word and a number.
 use Rattle.printout.proofs.Pieces.{naming}
 use Rattle.printout.proofs.line.put_answer.Statement.{statement}
 use Rattle.printout.proofs.line.put_answer.Tie as tie

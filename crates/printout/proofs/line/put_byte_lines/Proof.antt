@@ -1,4 +1,4 @@
--- `printout::line::put_byte_lines` meets its contract. The loop's invariant: the bytes that are left, put, give all. The measure is how many are left.
+-- `line::put_byte_lines` meets its contract: before each turn the bytes that are left, put, give all, and each turn leaves fewer.
 use Prim.Native.Nat.{_-_, _≤_}
 use lib.ListN.{length, drop}
 use mir.Facts.{fits-8-64}

@@ -1,4 +1,4 @@
--- `printout::line::put_first_line` meets its contract: its pieces, one after the other.
+-- `line::put_first_line` meets its contract: its pieces are put one after the other.
 use Rattle.printout.specs.Lines.{firstLine}
 use Rattle.printout.proofs.Putting.{chain, fits-third}
 use Rattle.printout.proofs.line.put_first_line.Statement.{statement}

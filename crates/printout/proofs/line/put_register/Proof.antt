@@ -1,4 +1,4 @@
--- `printout::line::put_register` meets its contract: its pieces, one after the other.
+-- `line::put_register` meets its contract: its pieces are put one after the other.
 use Rattle.printout.proofs.Putting.{chain}
 use Rattle.printout.proofs.line.put_register.Statement.{statement}
 use Rattle.printout.proofs.line.put_register.Tie as tie

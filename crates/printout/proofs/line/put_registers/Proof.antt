@@ -1,4 +1,4 @@
--- `printout::line::put_registers` meets its contract. The loop's invariant: the lines that are left, put, give all. The measure is how many are left.
+-- `line::put_registers` meets its contract: before each turn the lines that are left, put, give all, and each turn leaves fewer.
 use Prim.Native.Nat.{_-_, _*_, _≤_}
 use lib.ListN.{length, drop}
 use Rattle.printout.specs.Lines.{registerLines}

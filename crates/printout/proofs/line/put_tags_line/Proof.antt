@@ -1,4 +1,4 @@
--- `printout::line::put_tags_line` meets its contract: each case is a word.
+-- `line::put_tags_line` meets its contract: each case is a word.
 use Rattle.printout.proofs.Pieces.{naming}
 use Rattle.printout.proofs.line.put_tags_line.Statement.{statement}
 use Rattle.printout.proofs.line.put_tags_line.Tie as tie

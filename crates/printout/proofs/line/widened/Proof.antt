@@ -1,4 +1,4 @@
--- `printout::line::widened` meets its contract. The loop's invariant: the numbers passed are the same. The measure is how many are left.
+-- `line::widened` meets its contract: before each turn the numbers passed are the same, and each turn leaves fewer.
 use mathlib.Core.Path.{_≡_, sym, _∙_}
 use mathlib.Core.List.{List}
 use Prim.Native.Nat.{ℕ, _+_, _-_, _≤_, _<_}

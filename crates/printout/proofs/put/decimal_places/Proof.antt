@@ -1,4 +1,4 @@
--- `printout::put::decimal_places` meets its contract. The loop's invariant: the digits counted and those of the rest are all, and the rest has fallen
+-- `put::decimal_places` meets its contract: the digits counted and those of the rest are all, and the rest has fallen
 -- as often as was counted. The measure is the rest.
 use mathlib.Core.Path.{_≡_}
 use Prim.Native.Nat.{_+_, _-_, _≤_}

@@ -1,4 +1,4 @@
--- `printout::put::digit` meets its contract: the test leads to its case.
+-- `put::digit` meets its contract: the test leads to its case.
 use Rattle.printout.proofs.Numbers.{numbers}
 use Rattle.printout.proofs.put.digit.Statement.{statement}
 use Rattle.printout.proofs.put.digit.Tie as tie

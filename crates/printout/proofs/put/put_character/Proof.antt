@@ -1,4 +1,4 @@
--- `printout::put::put_character` meets its contract.
+-- `put::put_character` meets its contract: one store puts it, and the next place is after it.
 use Rattle.printout.proofs.Putting.{chain}
 use Rattle.printout.proofs.put.put_character.Statement.{statement}
 use Rattle.printout.proofs.put.put_character.Tie as tie

@@ -1,4 +1,4 @@
--- `printout::put::put_digits` meets its contract. The loop's invariant: the digits that are left, put, give all. The measure is how many are left.
+-- `put::put_digits` meets its contract: before each turn the digits that are left, put, give all, and each turn leaves fewer.
 use mathlib.Core.Path.{_≡_}
 use Prim.Native.Nat.{_≤_}
 use lib.ListN.{length}

@@ -1,4 +1,4 @@
--- `printout::put::put_hex` meets its contract: the digits, then the character.
+-- `put::put_hex` meets its contract: the digits are put, then the character.
 use Rattle.printout.proofs.Pieces.{naming}
 use Rattle.printout.proofs.put.put_hex.Statement.{statement}
 use Rattle.printout.proofs.put.put_hex.Tie as tie

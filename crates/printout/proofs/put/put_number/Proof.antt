@@ -1,4 +1,4 @@
--- `printout::put::put_number` meets its contract: the word, then the digits.
+-- `put::put_number` meets its contract: the word is put, then the digits.
 use Rattle.printout.proofs.Pieces.{naming}
 use Rattle.printout.proofs.put.put_number.Statement.{statement}
 use Rattle.printout.proofs.put.put_number.Tie as tie

@@ -1,4 +1,4 @@
--- `printout::put::put_number_line` meets its contract: the number, then the line end.
+-- `put::put_number_line` meets its contract: the number is put, then the line end.
 use Rattle.printout.proofs.Putting.{chain}
 use Rattle.printout.proofs.put.put_number_line.Statement.{statement}
 use Rattle.printout.proofs.put.put_number_line.Tie as tie

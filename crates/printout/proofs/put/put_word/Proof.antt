@@ -1,4 +1,4 @@
--- `printout::put::put_word` meets its contract. The loop's invariant: what is left of the word, put, gives the whole. The measure is how much is left.
+-- `put::put_word` meets its contract: before each turn what is left of the word, put, gives the whole, and each turn leaves less.
 use Prim.Native.Nat.{_-_, _≤_}
 use lib.ListN.{length, drop}
 use Rattle.printout.proofs.Putting.{Left}
