@@ -3,6 +3,7 @@ use codec::Instruction;
 use codec::Operand;
 use codec::Reading;
 use codec::Writing;
+use codec::numbers::LONGEST_CODE;
 use codec::numbers::REGISTER;
 use codec::numbers::SIB;
 use libc::STDOUT_FILENO;
@@ -36,7 +37,7 @@ struct Tally {
 }
 
 // Whether a buffer starts with the first n bytes of a code and is as it was behind them.
-fn agrees(code: &[u8; 12], buffer: &[u8; 12], n: usize) -> bool {
+fn agrees(code: &[u8; ROOM], buffer: &[u8; ROOM], n: usize) -> bool {
     for k in 0..ROOM {
         if k < n {
             if buffer[k] != code[k] {
@@ -52,8 +53,8 @@ fn agrees(code: &[u8; 12], buffer: &[u8; 12], n: usize) -> bool {
 }
 
 // Whether the instruction of n bytes that a code starts with is written as it stands there.
-fn writes_back(code: &[u8; 12], instruction: Instruction, n: usize) -> bool {
-    let mut buffer = [FILL; 12];
+fn writes_back(code: &[u8; ROOM], instruction: Instruction, n: usize) -> bool {
+    let mut buffer = [FILL; ROOM];
     match codec::write(instruction, &mut buffer) {
         Writing::Wrote(m) => {
             if m == n {
@@ -67,7 +68,7 @@ fn writes_back(code: &[u8; 12], instruction: Instruction, n: usize) -> bool {
 }
 
 // Reads a code and writes it back, if it is an encoding.
-fn try_code(tally: Tally, code: &[u8; 12]) -> Tally {
+fn try_code(tally: Tally, code: &[u8; ROOM]) -> Tally {
     match codec::read(code, 0) {
         Reading::Read(instruction, n) => {
             let mut differences = tally.differences;
@@ -189,11 +190,11 @@ fn print_opcodes() {
 
 fn print_lengths() {
     print_reading(b"no byte is", &[]);
-    print_reading(b"4097 bytes is", &[ESCAPE; 4097]);
+    print_reading(b"4097 bytes is", &[ESCAPE; LONGEST_CODE + 1]);
 }
 
 fn print_writings() {
-    let mut buffer = [FILL; 12];
+    let mut buffer = [FILL; ROOM];
     print_writing(b"register 8 is", 8, &mut buffer);
     print_writing(b"a buffer of 2 bytes is", 7, &mut buffer[0..2]);
 }

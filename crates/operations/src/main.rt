@@ -16,6 +16,13 @@ const COUNTS: u64 = 72;
 
 const ONE_BYTE: u64 = 0xff_0000_0000;
 
+// The digits of a sum; the bytes of an input, and how many values each has.
+const DIGITS: usize = 16;
+
+const INPUT: usize = 3;
+
+const BASE: u64 = 256;
+
 // The generator's number after x.
 fn next(x: u64) -> u64 {
     let y = x ^ (x << 13);
@@ -53,7 +60,7 @@ fn mixed(operation: u8, rounds: u64) -> u64 {
 fn print(operation: u8, rounds: u64) {
     io::print_decimal(STDOUT_FILENO, operation as u64);
     io::write_all(STDOUT_FILENO, b" ");
-    io::print_hex(STDOUT_FILENO, mixed(operation, rounds), 16);
+    io::print_hex(STDOUT_FILENO, mixed(operation, rounds), DIGITS);
     io::write_all(STDOUT_FILENO, b"\n");
 }
 
@@ -72,9 +79,9 @@ fn wide(x: u8) -> u64
 }
 
 fn main() {
-    let mut input = [0u8; 3];
-    if io::read_full(STDIN_FILENO, &mut input) == 3 {
-        print(input[0], wide(input[1]) + 256 * wide(input[2]));
+    let mut input = [0u8; INPUT];
+    if io::read_full(STDIN_FILENO, &mut input) == INPUT {
+        print(input[0], wide(input[1]) + BASE * wide(input[2]));
     } else {
         print_all();
     }
