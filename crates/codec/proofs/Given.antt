@@ -1,5 +1,5 @@
 -- What every reading gives, whatever the table and the bytes: registers below 8, a form that is there, the refusals 3 to 6. Part by part.
-use Prim.Native.Nat.{ℕ, _≤_, _<_}
+use Prim.Native.Nat.{ℕ, _≤_}
 use mathlib.Core.Path.{_≡_, refl, ap, _∙_}
 use mathlib.Core.Bool.{Bool, true, false, cond}
 use mathlib.Core.List.{List}
@@ -8,19 +8,13 @@ use lib.Dec.{eqb}
 use Rattle.codec.specs.Refusals.{prefixed, notListed}
 use Rattle.codec.specs.Forms.{Form, isAmong, isAbsent, hasOperand, allows}
 use Rattle.codec.specs.Opcodes.{Entry, escape, prefixes}
-use Rattle.codec.specs.Operands.{upper, middle, lower, hasSib, operandOf, noOperand}
+use Rattle.codec.specs.Operands.{upper, middle, lower, hasSib, operandOf, noOperand, Registers}
 use Rattle.codec.specs.Reader.{Reader, refuse, reads}
 use Rattle.codec.specs.Reads.{immediateReader, displacementReader, sibReader, modrmReader, formReader, secondReader, instructionReader, refusalOf}
 use Rattle.codec.specs.declared.Operand.{Operand}
 use Rattle.codec.specs.declared.Instruction.{Instruction}
 use Rattle.codec.proofs.Joined.{middle-lt, lower-lt}
 use Rattle.codec.proofs.Readers.{Every, Holds, every, every-cond, every-map}
-
-pub record Registers (w : Operand) : Type 0 where
-  pub reg : w .reg < 8
-  pub rm : w .rm < 8
-  pub index : w .index < 8
-  pub base : w .base < 8
 
 pub no-registers : Registers noOperand
 no-registers = record { reg = omega arith; rm = omega arith; index = omega arith; base = omega arith }

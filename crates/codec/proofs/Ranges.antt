@@ -5,12 +5,12 @@ use mathlib.Core.Bool.{Bool, true, false}
 use native.Mathlib.Omega.{arith}
 use Rattle.codec.specs.Forms.{Form, hasOperand, allows, immediateSize}
 use Rattle.codec.specs.Opcodes.{entryOf, escape}
-use Rattle.codec.specs.Operands.{hasSib, displacementSize, Fields}
+use Rattle.codec.specs.Operands.{hasSib, displacementSize, Fields, Registers}
 use Rattle.codec.specs.Fits.{operandFits, hasBytes}
 use Rattle.codec.specs.declared.Operand.{Operand}
 use Rattle.codec.specs.declared.Instruction.{Instruction}
 use Rattle.words.proofs.Laws.{and-both}
-use Rattle.codec.proofs.Given.{Registers, no-registers}
+use Rattle.codec.proofs.Given.{no-registers}
 use Rattle.codec.proofs.Facts.{Fit, fit, sib-there, sib-absent, zero-is, Parts, bytewise}
 
 pub record OperandInRange (w : Operand) : Type 0 where

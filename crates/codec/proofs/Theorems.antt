@@ -10,6 +10,7 @@ use lib.Dec.{eqb, ltb, leb}
 use lib.ListN.{length, take, drop}
 use Rattle.codec.specs.Refusals.{codeTooLong, noBytes, bufferEnds}
 use Rattle.codec.specs.Opcodes.{entryOf, escape}
+use Rattle.codec.specs.Operands.{Registers}
 use Rattle.codec.specs.Packed.{entryIn}
 use Rattle.codec.specs.Reader.{reads, refuse}
 use Rattle.codec.specs.Reads.{secondReader, instructionReader, refusalOf, longestCode, readPart, readAt}
@@ -20,7 +21,7 @@ use Rattle.codec.specs.declared.Instruction.{Instruction}
 use Rattle.codec.specs.Answers.{Answer, good, refused, wrote, refusedWith}
 use Rattle.words.proofs.Numbers.{AllBytes, all-drop}
 use Rattle.codec.proofs.Readers.{Holds, own, takes-one}
-use Rattle.codec.proofs.Given.{Registers, no-registers, Known, Refusal, reads-known}
+use Rattle.codec.proofs.Given.{no-registers, Known, Refusal, reads-known}
 use Rattle.codec.proofs.Spelling.{read-spells}
 use Rattle.codec.proofs.ReadingBack.{bytes-read, bytes-are-bytes}
 use Rattle.codec.proofs.Ranges.{InRange, has-in-range}

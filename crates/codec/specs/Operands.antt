@@ -53,6 +53,13 @@ pub record Fields (high mid low : ℕ) : Type 0 where
   pub middle-fits : mid < 8
   pub lower-fits : low < 8
 
+-- register fields that name registers
+pub record Registers (w : Operand) : Type 0 where
+  pub reg : w .reg < 8
+  pub rm : w .rm < 8
+  pub index : w .index < 8
+  pub base : w .base < 8
+
 -- the sizes that a displacement or an immediate has: 0, 1 or 4 bytes
 pub record Sized (k : ℕ) : Type 0 where
   pub most : k ≤ 4

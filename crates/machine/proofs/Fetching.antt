@@ -8,22 +8,23 @@ use borrow.Author.Tests.{le-ltb}
 use lib.ListN.{length, drop}
 use Rattle.reorder.specs.Result.{caseOf}
 use Rattle.codec.specs.Opcodes.{Entry, entryOf}
+use Rattle.codec.specs.Operands.{Registers}
 use Rattle.codec.specs.Packed.{packedRows, unpacked}
 use Rattle.codec.specs.Reads.{longestCode, readPart}
 use Rattle.codec.specs.Lent.{foundIn, findWith}
 use Rattle.codec.specs.declared.Found.{Found}
 use Rattle.codec.specs.Answers.{Answer, good, refused}
 use Rattle.codec.proofs.Readers.{Holds, moved}
-use Rattle.codec.proofs.Given.{Registers, Known, Refusal, reads-known}
+use Rattle.codec.proofs.Given.{Known, Refusal, reads-known}
 use Rattle.codec.proofs.OurTable.{find-ours}
 use Rattle.codec.proofs.Theorems.{found-registers}
 use Rattle.manual.specs.State.{State, longestMemory}
-use Rattle.manual.specs.Effects.{unlessMarked}
+use Rattle.manual.specs.Effects.{unlessMarked, directly}
 use Rattle.manual.specs.Instructions.{effectBy, effectAt, execute}
 use Rattle.manual.specs.Steps.{concluded, refusedWith, resultOf, stepAt}
 use Rattle.manual.specs.Runs.{read}
 use Rattle.manual.proofs.Turns.{instruction-here}
-use Rattle.manual.proofs.Direct.{directly, marks-first}
+use Rattle.manual.proofs.Direct.{marks-first}
 use Rattle.machine.specs.declared.gathering.Marks.{Marks}
 use Rattle.machine.specs.declared.gathering.Work.{Work}
 use Rattle.machine.specs.State.{stateOf}

@@ -13,6 +13,7 @@ use Rattle.lanes.specs.Operations.{Operation, operationOf, numbered, MOVE}
 use Rattle.codec.specs.Answers.{Answer, good, refused, paperOfReading}
 use Rattle.codec.specs.Forms.{Form, absent, emms, shiftWD, shiftQ, storeD, loadD, storeQ, loadQ, usual, isAbsent}
 use Rattle.codec.specs.Opcodes.{Entry, Row, row, rows, find, entryOf}
+use Rattle.codec.specs.Operands.{Registers}
 use Rattle.codec.specs.Packed.{packedRows, unpacked, entryIn}
 use Rattle.codec.specs.Reads.{readPart, longestCode, readAt}
 use Rattle.codec.specs.Refusals.{codeTooLong}
@@ -21,7 +22,7 @@ use Rattle.codec.specs.declared.Reading.{Reading}
 use Rattle.codec.specs.declared.Reading.the-variants.{Read}
 use Rattle.words.proofs.Laws.{and-both}
 use Rattle.codec.proofs.Readers.{Holds}
-use Rattle.codec.proofs.Given.{Registers, Known, Refusal, reads-known}
+use Rattle.codec.proofs.Given.{Known, Refusal, reads-known}
 use Rattle.codec.proofs.Entries.{entry-is}
 use Rattle.machine.specs.Works.{Listed}
 

@@ -15,10 +15,10 @@ use Rattle.words.proofs.Laws.{loaded-bytewise, stored-bytewise}
 use Rattle.reorder.specs.Result.{Result, done, refused, andThen}
 use Rattle.codec.specs.Forms.{Form, emms, shiftWD, shiftQ, storeD, loadD, storeQ, loadQ, usual}
 use Rattle.codec.specs.Opcodes.{Entry}
+use Rattle.codec.specs.Operands.{Registers}
 use Rattle.codec.specs.Packed.{formOf, unpacked}
 use Rattle.codec.specs.declared.Operand.{Operand}
 use Rattle.codec.specs.declared.Instruction.{Instruction}
-use Rattle.codec.proofs.Given.{Registers}
 use Rattle.manual.specs.declared.Kind.the-variants.{Ordinary, Emms}
 use Rattle.manual.specs.Refusals.{outsideMemory}
 use Rattle.manual.specs.State.{State, withMemory}
@@ -26,9 +26,10 @@ use Rattle.manual.specs.Places.{mmx}
 use Rattle.manual.specs.Kinds.{marked}
 use Rattle.manual.specs.Addresses.{address, addressOf}
 use Rattle.manual.specs.Locations.{Location, mmxRegister, integerRegister, memory, rmOf, regOf, registerOf}
+use Rattle.manual.specs.Effects.{directly}
 use Rattle.manual.specs.Instructions.{whole, lowHalf, shiftOf, effectBy}
 use Rattle.manual.specs.Steps.{concluded}
-use Rattle.manual.proofs.Direct.{directly, valueAt, putAt, move-direct, both-direct}
+use Rattle.manual.proofs.Direct.{valueAt, putAt, move-direct, both-direct}
 use Rattle.machine.specs.declared.gathering.Marks.{Marks}
 use Rattle.machine.specs.declared.gathering.Work.{Work}
 use Rattle.machine.specs.State.{stateOf}

@@ -16,10 +16,9 @@ use Rattle.manual.specs.Refusals.{invalidOpcode, notAvailable, isPending}
 use Rattle.manual.specs.State.{State, withMemory}
 use Rattle.manual.specs.Places.{mmx, integer, look, put}
 use Rattle.manual.specs.Kinds.{marked}
-use Rattle.manual.specs.Effects.{Effect}
+use Rattle.manual.specs.Effects.{Effect, directly}
 use Rattle.manual.specs.Instructions.{effectBy}
 use Rattle.manual.specs.Steps.{concluded, Outcome, completed, refusedWith, stepAt}
-use Rattle.manual.proofs.Direct.{directly}
 use Rattle.machine.specs.declared.Machine.{Machine}
 use Rattle.machine.specs.declared.gathering.Marks.{Marks}
 use Rattle.machine.specs.declared.gathering.Work.{Work}

@@ -20,7 +20,7 @@ use manual::Kind;
 ghost use mathlib.Core.Path.{_≡_};
 ghost use Prim.Native.Nat.{_/_, _^_, _≤_, _<_};
 ghost use Rattle.reorder.specs.Result.{mapResult};
-ghost use Rattle.codec.proofs.Given.{Registers};
+ghost use Rattle.codec.specs.Operands.{Registers};
 ghost use Rattle.codec.specs.Opcodes.{entryOf};
 ghost use Rattle.codec.specs.Packed.{unpacked};
 ghost use Rattle.manual.specs.Instructions.{footprint};

@@ -13,7 +13,7 @@ use codec::numbers::REGISTER;
 use codec::numbers::SIZE;
 ghost use mathlib.Core.Path.{_≡_};
 ghost use Prim.Native.Nat.{_/_, _^_, _≤_, _<_};
-ghost use Rattle.codec.proofs.Given.{Registers};
+ghost use Rattle.codec.specs.Operands.{Registers};
 ghost use Rattle.codec.specs.Packed.{unpacked};
 ghost use Rattle.manual.specs.Addresses.{addressOf, address};
 ghost use Rattle.manual.specs.Locations.{memory, rmOf, tested, placesOf};

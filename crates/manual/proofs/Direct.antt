@@ -19,12 +19,8 @@ use Rattle.manual.specs.Places.{Place, mmx, integer, byte, look, put}
 use Rattle.manual.specs.Kinds.{marked}
 use Rattle.manual.specs.Addresses.{Address, address}
 use Rattle.manual.specs.Locations.{Location, mmxRegister, integerRegister, memory, bytesFrom, fits, placesOf}
-use Rattle.manual.specs.Effects.{Effect, width, valueIn, contentsOf, unlessMarked, planOn, placed, perform as performs}
+use Rattle.manual.specs.Effects.{Effect, width, valueIn, contentsOf, unlessMarked, planOn, placed, directly, perform as performs}
 use Rattle.manual.specs.Instructions.{both, move}
-
--- an effect whose control marks are passed
-abbrev pub directly : Effect → State → Result State
-directly e s = perform look put marked s (placed e s)
 
 -- the places of a list of one operand
 abbrev pub one : Result (List Place) → Result (List Place)

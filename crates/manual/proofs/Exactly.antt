@@ -21,7 +21,7 @@ use Rattle.manual.specs.Places.{Place, look, put}
 use Rattle.manual.specs.Kinds.{marked}
 use Rattle.manual.specs.Addresses.{address}
 use Rattle.manual.specs.Locations.{Location, mmxRegister, integerRegister, memory, fits, bytesFrom, placesOf}
-use Rattle.manual.specs.Effects.{placesOfAll, valuesIn, planOn, plan, unlessMarked}
+use Rattle.manual.specs.Effects.{placesOfAll, valuesIn, planOn, directly, plan, unlessMarked}
 use Rattle.manual.specs.Instructions.{effectBy, effectAt, effectOf, execute}
 use Rattle.manual.specs.Steps.{refusedWith, resultOf, concluded, instructionAt, stepAt}
 use Rattle.manual.specs.Reasons.{Stands, Outside, Reason, one, reading, seven, eight, nine, ten}
@@ -101,10 +101,6 @@ module _ (i : Instruction) (s : State) where
   abbrev target : Result (List Place)
   target = placesOfAll s (effectOf i .gives)
 
-  -- its step, where no control mark is set
-  abbrev unmarked : Result State
-  unmarked = perform look put marked s (andThen source (λ from. mapResult (planOn (effectOf i) from) target))
-
   -- one of its operands is outside
   record OperandOutside (n : ℕ) : Type 0 where
     number : n ≡ outsideMemory
@@ -112,7 +108,7 @@ module _ (i : Instruction) (s : State) where
     either : In operand (effectOf i .takes) ⊎ In operand (effectOf i .gives)
     outside : Outside s operand
 
-  refused-unmarked : (n : ℕ) → unmarked ≡ refused n → OperandOutside n
+  refused-unmarked : (n : ℕ) → directly (effectOf i) s ≡ refused n → OperandOutside n
   unfolding effectAt
   refused-unmarked n h = by source target refl refl h
     where
@@ -134,7 +130,7 @@ module _ (i : Instruction) (s : State) where
           record { number = o .number; operand = o .operand; either = inr (o .among); outside = o .outside }
       by (done from) (done to) ea eb h = absurd (made from to h)
 
-  outside-unmarked : (x : Location) → In x (effectOf i .takes) ⊎ In x (effectOf i .gives) → Outside s x → unmarked ≡ refused outsideMemory
+  outside-unmarked : (x : Location) → In x (effectOf i .takes) ⊎ In x (effectOf i .gives) → Outside s x → directly (effectOf i) s ≡ refused outsideMemory
   outside-unmarked x (inl m) o =
       ap (λ a. perform look put marked s (andThen a (λ from. mapResult (planOn (effectOf i) from) target))) (all-refused s (effectOf i .takes) x m o)
   outside-unmarked x (inr m) o =
