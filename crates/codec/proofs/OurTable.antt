@@ -1,6 +1,6 @@
 -- Reading with our table: what is found at a position, less that position, is the defined reading. Rules for `read`.
 use Prim.Native.Nat.{ℕ, _+_, _-_, _≤_, _<_}
-use mathlib.Core.Path.{_≡_, sym, ap, _∙_}
+use mathlib.Core.Path.{_≡_, refl, sym, ap, _∙_}
 use mathlib.Core.Bool.{Bool, cond}
 use mathlib.Core.List.{List}
 use native.Mathlib.Omega.{arith}
@@ -22,7 +22,7 @@ use Rattle.codec.proofs.Entries.{same-reader}
 
 module _ (code : List ℕ) (at : ℕ) where
   -- With our table, what is found is the defined reading, as far on as the position.
-  pub find-ours : findWith packedRows code at ≡ foundIn packedRows (moved at (readPart (drop at code)))
+  find-ours : findWith packedRows code at ≡ foundIn packedRows (moved at (readPart (drop at code)))
   unfolding findWith
   find-ours =
       ap (λ (r : Reader). foundIn packedRows (reads r at (drop at code))) same-reader
@@ -56,16 +56,16 @@ module _ (code : List ℕ) (at : ℕ) where
     found-refused (refused n) e r = ap (λ (y : Found). refused (y .refusal)) e
 
     module _ (table : List ℕ) (t : table ≡ packedRows) (e : x ≡ findWith table code at) where
-      found-ours : x ≡ foundIn packedRows (moved at (readPart (drop at code)))
-      found-ours = e ∙ ap (λ (l : List ℕ). findWith l code at) t ∙ find-ours
+      pub found-ours : (z : Answer) → readPart (drop at code) ≡ z → x ≡ foundIn packedRows (moved at z)
+      found-ours z r = e ∙ ap (λ (l : List ℕ). findWith l code at) t ∙ find-ours ∙ ap (λ (y : Answer). foundIn packedRows (moved at y)) r
 
       pub read-next : x .refusal ≡ 0 → at ≤ x .next
-      read-next r = found-good (readPart (drop at code)) found-ours (reads-known entryOf 0 (drop at code)) r .0
+      read-next r = found-good (readPart (drop at code)) (found-ours _ refl) (reads-known entryOf 0 (drop at code)) r .0
 
       pub read-on : length code ≤ longestCode → x .refusal ≡ 0 → good (x .instruction) (x .next - at) ≡ readAt code at
-      read-on h r = found-good (readPart (drop at code)) found-ours (reads-known entryOf 0 (drop at code)) r .1 ∙ read-fits h
+      read-on h r = found-good (readPart (drop at code)) (found-ours _ refl) (reads-known entryOf 0 (drop at code)) r .1 ∙ read-fits h
 
       pub read-stop : length code ≤ longestCode → (x .refusal ≡ 0 → ⊥) → refused (x .refusal) ≡ readAt code at
-      read-stop h r = found-refused (readPart (drop at code)) found-ours r ∙ read-fits h
+      read-stop h r = found-refused (readPart (drop at code)) (found-ours _ refl) r ∙ read-fits h
 
 pub ruleset our-table = (needs, read-long, read-next, read-on, read-stop)

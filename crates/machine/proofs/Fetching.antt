@@ -16,7 +16,7 @@ use Rattle.codec.specs.declared.Found.{Found}
 use Rattle.codec.specs.Answers.{Answer, good, refused}
 use Rattle.codec.proofs.Readers.{Holds, moved}
 use Rattle.codec.proofs.Given.{Known, Refusal, reads-known}
-use Rattle.codec.proofs.OurTable.{find-ours}
+use Rattle.codec.proofs.OurTable.{found-ours}
 use Rattle.codec.proofs.Theorems.{found-registers}
 use Rattle.manual.specs.State.{State, longestMemory}
 use Rattle.manual.specs.Effects.{unlessMarked, directly}
@@ -33,10 +33,10 @@ use Rattle.machine.proofs.Listing.{row-found, row-listed}
 use Rattle.machine.proofs.Soundness.{sound-refusal}
 use Rattle.machine.proofs.Testing.{unbarred-by, barred-by}
 
--- what is found is the defined reading, as far on as the position
 module _ (table code : List ℕ) (at : ℕ) (x : Found) (ours : table ≡ packedRows) (e : x ≡ findWith table code at) where
-  found-is : x ≡ foundIn packedRows (moved at (readPart (drop at code)))
-  found-is = e ∙ ap (λ (l : List ℕ). findWith l code at) ours ∙ find-ours code at
+  -- what is found is the defined reading, as far on as the position
+  found-is : (z : Answer) → readPart (drop at code) ≡ z → x ≡ foundIn packedRows (moved at z)
+  found-is = found-ours code at x table ours e
 
   pub names-registers : Registers (x .instruction .operand)
   names-registers = subst (λ (y : Found). Registers (y .instruction .operand)) (sym e) (found-registers table code at)
@@ -46,10 +46,9 @@ module _ (table code : List ℕ) (at : ℕ) (x : Found) (ours : table ≡ packed
     where
       by : (z : Answer) → readPart (drop at code) ≡ z → Holds (Known entryOf) Refusal z → Listed (unpacked (x .entry))
       by (good i n) r g =
-          let f : x ≡ foundIn packedRows (moved at (good i n)) = found-is ∙ ap (λ (y : Answer). foundIn packedRows (moved at y)) r in
-          subst (λ (y : Found). Listed (unpacked (y .entry))) (sym f) (row-listed (drop at code) i n r)
+          subst (λ (y : Found). Listed (unpacked (y .entry))) (sym (found-is (good i n) r)) (row-listed (drop at code) i n r)
       by (refused n) r g =
-          let f : x .refusal ≡ n = ap (λ (y : Found). y .refusal) (found-is ∙ ap (λ (y : Answer). foundIn packedRows (moved at y)) r) in
+          let f : x .refusal ≡ n = ap (λ (y : Found). y .refusal) (found-is (refused n) r) in
           absurd (let z : ⊥ = omega (arith, g .0) in z)
 
   -- within the limits
@@ -70,9 +69,9 @@ module _ (table code : List ℕ) (at : ℕ) (x : Found) (ours : table ≡ packed
       where
         by : (z : Answer) → readPart (drop at code) ≡ z → Gathered (refusedWork (x .refusal)) registers integers marks code at m
         by (good i n) r =
-            absurd (h (ap (λ (y : Found). y .refusal) (found-is ∙ ap (λ (y : Answer). foundIn packedRows (moved at y)) r)))
+            absurd (h (ap (λ (y : Found). y .refusal) (found-is (good i n) r)))
         by (refused n) r =
-            let f : x .refusal ≡ n = ap (λ (y : Found). y .refusal) (found-is ∙ ap (λ (y : Answer). foundIn packedRows (moved at y)) r) in
+            let f : x .refusal ≡ n = ap (λ (y : Found). y .refusal) (found-is (refused n) r) in
             record { sound = sound-refusal (x .refusal) h; steps = ap (λ (k : ℕ). refusedWith k at s) f ∙ sym (step-reads (refused n) r) }
 
     -- an instruction was found
@@ -84,16 +83,15 @@ module _ (table code : List ℕ) (at : ℕ) (x : Found) (ours : table ≡ packed
           by : (z : Answer) → readPart (drop at code) ≡ z → Holds (Known entryOf) Refusal z
               → stepAt code at s ≡ concluded at (x .next) s (unlessMarked (marks .em) (marks .ts) (marks .pending) (directly (effectIn (x .entry) (x .instruction)) s))
           by (good i n) r g =
-              let f : x ≡ foundIn packedRows (moved at (good i n)) = found-is ∙ ap (λ (y : Answer). foundIn packedRows (moved at y)) r in
               step-reads (good i n) r
               ∙ ap (concluded at (at + n) s)
               (marks-first s (effectBy (entryOf (i .second) .form) (entryOf (i .second)) (i .operand) (i .immediate)))
               ∙ ap (λ (y : Entry). concluded at (at + n) s (unlessMarked (marks .em) (marks .ts) (marks .pending) (directly (effectBy (y .form) y (i .operand) (i .immediate)) s)))
               (sym (row-found (drop at code) i n r))
               ∙ ap (λ (y : Found). concluded at (y .next) s (unlessMarked (marks .em) (marks .ts) (marks .pending) (directly (effectIn (y .entry) (y .instruction)) s)))
-              (sym f)
+              (sym (found-is (good i n) r))
           by (refused n) r g =
-              let f : x .refusal ≡ n = ap (λ (y : Found). y .refusal) (found-is ∙ ap (λ (y : Answer). foundIn packedRows (moved at y)) r) in
+              let f : x .refusal ≡ n = ap (λ (y : Found). y .refusal) (found-is (refused n) r) in
               absurd (let z : ⊥ = omega (arith, g .0) in z)
 
       pub gathered-barred : (work : Work) → marks .bar ≡ barredBy (marks .em) (marks .ts) (marks .pending) → (marks .bar ≡ 0 → ⊥) → work ≡ refusedWork (marks .bar) → Gathered work registers integers marks code at m
