@@ -1,6 +1,5 @@
 -- The tests before the footprint, in the order of a step's: the memory's length, the reader's, the control marks. Rules for their answers.
 use mathlib.Core.Path.{_≡_, refl, sym, ap, subst, _∙_}
-use mathlib.Core.Bool.{Bool, true, false}
 use mathlib.Core.List.{List}
 use Prim.Native.Nat.{ℕ, _≤_, _<_}
 use borrow.Author.Needs.{needs}
@@ -24,6 +23,7 @@ use Rattle.manual.specs.Effects.{unlessMarked, via}
 use Rattle.manual.specs.Instructions.{effectBy, effectAt, effectOf, footprint}
 use Rattle.manual.specs.Steps.{instructionAt}
 use Rattle.manual.specs.Footprints.{footprintAt}
+use Rattle.manual.proofs.Direct.{past-marks}
 use Rattle.machine.specs.declared.Machine.{Machine}
 use Rattle.machine.specs.declared.Printed.{Printed}
 use Rattle.machine.specs.State.{stateOf}
@@ -38,16 +38,11 @@ module _ (machine : Machine) (memory : List ℕ) (i : Instruction) where
   abbrev here : State
   here = stateOf machine memory
 
-  marks : (em ts pending : Bool) (vs : List Place) (o : Result (Plan Place Kind))
-      → mapResult print (footprintIn look vs here (unlessMarked em ts pending o)) ≡ unlessMarked em ts pending (mapResult print (footprintIn look vs here o))
-  marks true ts pending vs o = refl
-  marks false true pending vs o = refl
-  marks false false true vs o = refl
-  marks false false false vs o = refl
-
   by-marks : mapResult print (footprint i here) ≡ unlessMarked (machine .em) (machine .ts) (machine .pending) (unmarkedPrint (effectOf i) here)
   unfolding footprint unmarkedPrint
-  by-marks = marks (machine .em) (machine .ts) (machine .pending) (via (effectOf i)) _
+  by-marks =
+      past-marks (λ (o : Result (Plan Place Kind)). mapResult print (footprintIn look (via (effectOf i)) here o)) (λ n. refl)
+      (machine .em) (machine .ts) (machine .pending) _
 
   -- the number of the marks, or 0
   module _ (bar : ℕ) (found : bar ≡ barredBy (machine .em) (machine .ts) (machine .pending)) where

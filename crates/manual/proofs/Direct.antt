@@ -10,10 +10,9 @@ use Rattle.words.specs.Number.{number, bytes}
 use Rattle.words.specs.Bytewise.{gets, puts}
 use Rattle.words.proofs.Laws.{length-gets}
 use Rattle.reorder.specs.Result.{Result, done, refused, andThen, mapResult}
-use Rattle.reorder.specs.Plan.{Plan, looks, puts as putsAt, perform}
-use Rattle.manual.specs.declared.Kind.{Kind}
+use Rattle.reorder.specs.Plan.{looks, puts as putsAt, perform}
 use Rattle.manual.specs.declared.Kind.the-variants.{Ordinary}
-use Rattle.manual.specs.Refusals.{outsideMemory}
+use Rattle.manual.specs.Refusals.{invalidOpcode, notAvailable, isPending, outsideMemory}
 use Rattle.manual.specs.State.{State, withMemory}
 use Rattle.manual.specs.Places.{Place, mmx, integer, byte, look, put}
 use Rattle.manual.specs.Kinds.{marked}
@@ -21,6 +20,14 @@ use Rattle.manual.specs.Addresses.{Address, address}
 use Rattle.manual.specs.Locations.{Location, mmxRegister, integerRegister, memory, bytesFrom, fits, placesOf}
 use Rattle.manual.specs.Effects.{Effect, width, valueIn, contentsOf, unlessMarked, planOn, placed, directly, perform as performs}
 use Rattle.manual.specs.Instructions.{both, move}
+
+-- what keeps every refusal keeps those of the control marks
+pub past-marks : {A B : Type 0} (f : Result A → Result B) → ((n : ℕ) → f (refused n) ≡ refused n) → (em ts pending : Bool) (o : Result A)
+    → f (unlessMarked em ts pending o) ≡ unlessMarked em ts pending (f o)
+past-marks f kept true ts pending o = kept invalidOpcode
+past-marks f kept false true pending o = kept notAvailable
+past-marks f kept false false true o = kept isPending
+past-marks f kept false false false o = refl
 
 -- the places of a list of one operand
 abbrev pub one : Result (List Place) → Result (List Place)
@@ -127,11 +134,4 @@ module _ (s : State) where
 
   -- the control marks go first
   pub marks-first : (e : Effect) → performs e s ≡ unlessMarked (s .em) (s .ts) (s .pending) (directly e s)
-  marks-first e = by (s .em) (s .ts) (s .pending) (placed e s)
-    where
-      by : (em ts pending : Bool) (o : Result (Plan Place Kind))
-          → perform look put marked s (unlessMarked em ts pending o) ≡ unlessMarked em ts pending (perform look put marked s o)
-      by true ts pending o = refl
-      by false true pending o = refl
-      by false false true o = refl
-      by false false false o = refl
+  marks-first e = past-marks (perform look put marked s) (λ n. refl) (s .em) (s .ts) (s .pending) (placed e s)
