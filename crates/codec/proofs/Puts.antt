@@ -5,7 +5,6 @@ use mathlib.Core.Bool.{Bool, true, false}
 use mathlib.Core.List.{List, [], _∷_, _++_}
 use native.Mathlib.Numerals.{towards-suc}
 use native.Mathlib.Omega.{arith}
-use native.Mathlib.Nat.{add-zero, add-suc, suc-add}
 use borrow.Author.Needs.{needs}
 use borrow.Author.Tests.{le-leb, lt-leb}
 use lib.ListN.{length, set, drop, length-append, length-set}
@@ -22,16 +21,10 @@ use Rattle.codec.specs.Writes.{sibBytes, displacementBytes, operandBytes
 use Rattle.codec.specs.declared.Operand.{Operand}
 use Rattle.codec.specs.declared.Instruction.{Instruction}
 use Rattle.words.proofs.Numbers.{length-bytes}
+use Rattle.words.proofs.Laws.{sets-append}
 use Rattle.codec.proofs.Sizes.{byte-there}
 use Rattle.codec.proofs.FormNumbers.{not-emms}
 use Rattle.codec.proofs.Facts.{modrm-fields, sib-fields, bytes-operand}
-
--- a run of stores, and then another
-sets-append : (xs ys l : List ℕ) (i : ℕ) → sets l i (xs ++ ys) ≡ sets (sets l i xs) (i + length xs) ys
-sets-append [] ys l i = ap (λ (k : ℕ). sets l k ys) (sym (add-zero i))
-sets-append (x ∷ xs) ys l i =
-    sets-append xs ys (set l i x) (suc i)
-    ∙ ap (λ (k : ℕ). sets (sets (set l i x) (suc i) xs) k ys) (suc-add i (length xs) ∙ sym (add-suc i (length xs)))
 
 -- stores at the start of a buffer that has room for them
 sets-start : (l vs : List ℕ) → length vs ≤ length l → sets l 0 vs ≡ vs ++ drop (length vs) l

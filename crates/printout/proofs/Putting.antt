@@ -7,16 +7,12 @@ use native.Mathlib.Omega.{arith}
 use borrow.Author.Needs.{needs}
 use lib.ListN.{length, set, length-append}
 use lib.Seq.{sets, length-sets, set-comm}
+use Rattle.words.proofs.Laws.{sets-append}
 use Rattle.printout.specs.Lent.{put, Fits, Puts}
-
-sets-append : (l xs ys : List ℕ) (at p : ℕ) → p ≡ at + length xs → sets l at (xs ++ ys) ≡ sets (sets l at xs) p ys
-sets-append l [] ys at p e = ap (λ (q : ℕ). sets l q ys) (sym (e ∙ add-zero at))
-sets-append l (x ∷ xs) ys at p e =
-    sets-append (set l at x) xs ys (suc at) p (e ∙ add-suc at (length xs) ∙ sym (suc-add at (length xs)))
 
 put-append : (l xs ys : List ℕ) (at p : ℕ) → p ≡ at + length xs → put l at (xs ++ ys) ≡ put (put l at xs) p ys
 unfolding put
-put-append l xs ys at p e = sets-append l xs ys at p e
+put-append l xs ys at p e = sets-append xs ys l at ∙ ap (λ (q : ℕ). sets (sets l at xs) q ys) (sym e)
 
 length-put : (l : List ℕ) (at : ℕ) (xs : List ℕ) → length (put l at xs) ≡ length l
 unfolding put

@@ -3,7 +3,7 @@ use mathlib.Core.Path.{_≡_, refl, sym, ap, _∙_}
 use mathlib.Core.Bool.{Bool, true, false, cond, _&&_, false≢true}
 use mathlib.Core.List.{List, [], _∷_, _++_}
 use Prim.Native.Nat.{ℕ, zero, suc, _+_, _≤_, _<_, _^_}
-use native.Mathlib.Nat.{one-le-pow}
+use native.Mathlib.Nat.{add-zero, add-suc, suc-add, one-le-pow}
 use native.Mathlib.Numerals.{add-one}
 use native.Mathlib.Omega.{arith}
 use borrow.Author.Tests.{le-leb, leb-true}
@@ -46,6 +46,13 @@ all-gets (suc n) buffer at h (suc i) = all-gets n buffer (at + 1) h i
 
 pub gets-below : (n : ℕ) (buffer : List ℕ) (at : ℕ) → AllBytes buffer → number (gets n buffer at) < 256 ^ n
 gets-below n buffer at h = rw length-gets at (number-below (gets n buffer at) (all-gets n buffer at h))
+
+-- a run of stores, and then another
+pub sets-append : (xs ys l : List ℕ) (i : ℕ) → sets l i (xs ++ ys) ≡ sets (sets l i xs) (i + length xs) ys
+sets-append [] ys l i = ap (λ (k : ℕ). sets l k ys) (sym (add-zero i))
+sets-append (x ∷ xs) ys l i =
+    sets-append xs ys (set l i x) (suc i)
+    ∙ ap (λ (k : ℕ). sets (sets (set l i x) (suc i) xs) k ys) (suc-add i (length xs) ∙ sym (add-suc i (length xs)))
 
 -- bytes put from a place on, one by one
 puts-sets : (buffer : List ℕ) (at : ℕ) (bs : List ℕ) → puts buffer at bs ≡ sets buffer at bs
