@@ -3,14 +3,15 @@ use mathlib.Core.Path.{_≡_, refl, sym, ap, ap₂, _∙_}
 use mathlib.Core.Bool.{Bool, true, false, cond}
 use mathlib.Core.List.{List, [], _∷_, _++_, append-nil}
 use Prim.Native.Nat.{ℕ, zero, suc, _+_, _/_, _%_}
+use native.Mathlib.Numerals.{add-one}
 use native.Mathlib.Omega.{arith}
 use lib.ListN.{length, getD, take}
-use lib.Seq.{take-all}
+use lib.Seq.{sets, take-all}
 use Rattle.words.specs.Number.{number, bytes}
-use Rattle.words.specs.Bytewise.{gets, puts}
+use Rattle.words.specs.Bytewise.{gets}
 use Rattle.words.proofs.Laws.{length-gets}
 use Rattle.reorder.specs.Result.{Result, done, refused, andThen, mapResult}
-use Rattle.reorder.specs.Plan.{looks, puts as putsAt, perform}
+use Rattle.reorder.specs.Plan.{looks, puts, perform}
 use Rattle.manual.specs.declared.Kind.the-variants.{Ordinary}
 use Rattle.manual.specs.Refusals.{invalidOpcode, notAvailable, isPending, outsideMemory}
 use Rattle.manual.specs.State.{State, withMemory}
@@ -48,7 +49,7 @@ module _ (s : State) where
   putAt (mmxRegister r) value = done (marked Ordinary (put s (mmx r) value))
   putAt (integerRegister r) value = done (marked Ordinary (put s (integer r) value))
   putAt (memory a size) value =
-      cond (inside a size) (done (marked Ordinary (withMemory s (puts (s .memory) (address (s .integers) a) (bytes size value))))) (refused outsideMemory)
+      cond (inside a size) (done (marked Ordinary (withMemory s (sets (s .memory) (address (s .integers) a) (bytes size value))))) (refused outsideMemory)
 
   -- the bytes of an operand in memory, looked at
   looks-bytes : (size a : ℕ) → looks look s (bytesFrom a size) ≡ gets size (s .memory) a
@@ -78,13 +79,13 @@ module _ (s : State) where
 
   -- an operand that is given
   abbrev Given : Location → ℕ → Result State → Result (List Place) → Type 0
-  Given x v o (done ps) = o ≡ done (marked Ordinary (putsAt put s (ps ++ []) (contentsOf x v ++ [])))
+  Given x v o (done ps) = o ≡ done (marked Ordinary (puts put s (ps ++ []) (contentsOf x v ++ [])))
   Given x v o (refused n) = o ≡ refused n
 
 -- bytes put one by one
-put-bytes : (size v : ℕ) (s : State) (a : ℕ) → putsAt put s (bytesFrom a size) (bytes size v) ≡ withMemory s (puts (s .memory) a (bytes size v))
+put-bytes : (size v : ℕ) (s : State) (a : ℕ) → puts put s (bytesFrom a size) (bytes size v) ≡ withMemory s (sets (s .memory) a (bytes size v))
 put-bytes zero v s a = refl
-put-bytes (suc size) v s a = put-bytes size (v / 256) (put s (byte a) (v % 256)) (a + 1)
+put-bytes (suc size) v s a = put-bytes size (v / 256) (put s (byte a) (v % 256)) (a + 1) ∙ rw add-one
 
 module _ (s : State) where
   given : (x : Location) (v : ℕ) → Given s x v (putAt s x v) (placesOf s x)
@@ -93,10 +94,10 @@ module _ (s : State) where
   given (memory a size) v = by (inside s a size) (address (s .integers) a)
     where
       by : (t : Bool) (p : ℕ)
-          → Given s (memory a size) v (cond t (done (marked Ordinary (withMemory s (puts (s .memory) p (bytes size v))))) (refused outsideMemory)) (cond t (done (bytesFrom p size)) (refused outsideMemory))
+          → Given s (memory a size) v (cond t (done (marked Ordinary (withMemory s (sets (s .memory) p (bytes size v))))) (refused outsideMemory)) (cond t (done (bytesFrom p size)) (refused outsideMemory))
       by true p =
           ap (λ (u : State). done (marked Ordinary u)) (sym (put-bytes size v s p))
-          ∙ ap₂ (λ (ps : List Place) (vs : List ℕ). done (marked Ordinary (putsAt put s ps vs))) (sym (append-nil (bytesFrom p size))) (sym (append-nil (bytes size v)))
+          ∙ ap₂ (λ (ps : List Place) (vs : List ℕ). done (marked Ordinary (puts put s ps vs))) (sym (append-nil (bytesFrom p size))) (sym (append-nil (bytes size v)))
       by false p = refl
 
   -- what an effect comes to once its operands' places are known
@@ -107,7 +108,7 @@ module _ (s : State) where
       → opened (move f d x) (one ps) (one qs) ≡ andThen u (λ v. putAt s d (f v))
   unfolding opened
   moves f d x (done v) (done ps) (done qs) t g =
-      ap (λ (y : ℕ). done (marked Ordinary (putsAt put s (qs ++ []) (contentsOf d (f y) ++ [])))) t ∙ sym (g (f v))
+      ap (λ (y : ℕ). done (marked Ordinary (puts put s (qs ++ []) (contentsOf d (f y) ++ [])))) t ∙ sym (g (f v))
   moves f d x (done v) (done ps) (refused n) t g = sym (g (f v))
   moves f d x (refused n) (refused n′) qs t g = ap refused (sym t)
   moves f d x (done v) (refused n) qs t g = absurd t

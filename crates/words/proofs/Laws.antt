@@ -12,7 +12,7 @@ use lib.ListN.{length, getD, set, take, drop}
 use lib.Seq.{sets, sets-eq, drop-cons}
 use Rattle.words.specs.Number.{number, bytes}
 use Rattle.words.specs.Buffer.{inside, loaded, stored}
-use Rattle.words.specs.Bytewise.{gets, puts}
+use Rattle.words.specs.Bytewise.{gets}
 use Rattle.words.proofs.Numbers.{AllBytes, length-bytes, number-below}
 
 -- two tests in one, and what is so where a test holds
@@ -54,15 +54,6 @@ sets-append (x ∷ xs) ys l i =
     sets-append xs ys (set l i x) (suc i)
     ∙ ap (λ (k : ℕ). sets (sets (set l i x) (suc i) xs) k ys) (suc-add i (length xs) ∙ sym (add-suc i (length xs)))
 
--- bytes put from a place on, one by one
-puts-sets : (buffer : List ℕ) (at : ℕ) (bs : List ℕ) → puts buffer at bs ≡ sets buffer at bs
-puts-sets buffer at [] = refl
-puts-sets buffer at (b ∷ bs) = puts-sets (set buffer at b) (at + 1) bs ∙ rw add-one
-
-puts-pasted : (buffer : List ℕ) (at : ℕ) (bs : List ℕ) → at + length bs ≤ length buffer
-    → puts buffer at bs ≡ take at buffer ++ bs ++ drop (at + length bs) buffer
-puts-pasted buffer at bs h = puts-sets buffer at bs ∙ sets-eq bs buffer at h
-
 -- a load is the number of the bytes that are got one by one; a store puts the number's bytes one by one
 module _ (buffer : List ℕ) (at size : ℕ) where
   pub loaded-bytewise : loaded buffer at size ≡ cond (inside (length buffer) at size) (number (gets size buffer at)) 0
@@ -71,14 +62,14 @@ module _ (buffer : List ℕ) (at size : ℕ) where
       where-true (inside (length buffer) at size) _ _ _
       (λ e. ap number (sym (gets-taken size buffer at (inside-true (length buffer) at size e .1))))
 
-  pub stored-bytewise : (value : ℕ) → stored buffer at size value ≡ cond (inside (length buffer) at size) (puts buffer at (bytes size value)) buffer
+  pub stored-bytewise : (value : ℕ) → stored buffer at size value ≡ cond (inside (length buffer) at size) (sets buffer at (bytes size value)) buffer
   unfolding stored
   stored-bytewise value = where-true (inside (length buffer) at size) _ _ _ (λ e. sym (pasted e))
     where
-      pasted : inside (length buffer) at size ≡ true → puts buffer at (bytes size value) ≡ take at buffer ++ bytes size value ++ drop (at + size) buffer
+      pasted : inside (length buffer) at size ≡ true → sets buffer at (bytes size value) ≡ take at buffer ++ bytes size value ++ drop (at + size) buffer
       pasted e =
           rw length-bytes at
-          (puts-pasted buffer at (bytes size value) (omega (arith, inside-true (length buffer) at size e, length-bytes size value)))
+          (sets-eq (bytes size value) buffer at (omega (arith, inside-true (length buffer) at size e, length-bytes size value)))
 
   -- a load that fits, and one from bytes
   pub loaded-inside : size ≤ 8 → at + size ≤ length buffer → loaded buffer at size ≡ number (take size (drop at buffer))

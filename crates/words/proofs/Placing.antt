@@ -10,11 +10,12 @@ use borrow.Author.Needs.{needs}
 use borrow.Author.Tests.{le-leb, lt-leb, not-true, not-false}
 use lib.Dec.{leb}
 use lib.ListN.{length, getD, set}
+use lib.Seq.{sets}
 use mir.Syntax.{w8}
 use mir.Val.{Fits}
 use Rattle.words.specs.Number.{number, bytes}
 use Rattle.words.specs.Buffer.{inside, loaded, stored}
-use Rattle.words.specs.Bytewise.{gets, puts}
+use Rattle.words.specs.Bytewise.{gets}
 use Rattle.words.proofs.Laws.{inside-true, gets-below, loaded-bytewise, stored-bytewise}
 
 -- the test of a place, without the sum
@@ -54,7 +55,7 @@ module _ (buffer : List ℕ) (at size : ℕ) (r : Bool) (tested : r ≡ inside (
     pub is-loaded : (value : ℕ) → value ≡ number (gets k buffer at) → value ≡ loaded buffer at size
     is-loaded value got = rw (loaded-bytewise, ← tested, not-false r passed, same) got
 
-    pub is-stored : (value : ℕ) (after : List ℕ) → after ≡ puts buffer at (bytes k value) → after ≡ stored buffer at size value
+    pub is-stored : (value : ℕ) (after : List ℕ) → after ≡ sets buffer at (bytes k value) → after ≡ stored buffer at size value
     is-stored value after put = rw (stored-bytewise, ← tested, not-false r passed, same) put
 
 -- the bytes from the last one down: the value is the number of those that are passed
@@ -86,13 +87,13 @@ module _ (buffer : List ℕ) (at size left value : ℕ) (passed : value ≡ numb
     more-fits i = omega (arith, room, byte i)
 
 -- the bytes from the first one up: what is left of them, put, gives the end
-pub all-left : (buffer : List ℕ) (at size value : ℕ) → puts buffer (at + 0) (bytes (size - 0) value) ≡ puts buffer at (bytes size value)
+pub all-left : (buffer : List ℕ) (at size value : ℕ) → sets buffer (at + 0) (bytes (size - 0) value) ≡ sets buffer at (bytes size value)
 all-left buffer at size value = rw (add-zero, sub-zero)
 
-module _ (buffer end : List ℕ) (at size i rest : ℕ) (left : puts buffer (at + i) (bytes (size - i) rest) ≡ end) where
-  pub one-put : i < size → puts (set buffer (at + i) (rest % 256)) (at + (i + 1)) (bytes (size - (i + 1)) (rest / 256)) ≡ end
+module _ (buffer end : List ℕ) (at size i rest : ℕ) (left : sets buffer (at + i) (bytes (size - i) rest) ≡ end) where
+  pub one-put : i < size → sets (set buffer (at + i) (rest % 256)) (at + (i + 1)) (bytes (size - (i + 1)) (rest / 256)) ≡ end
   one-put more =
-      let next : at + (i + 1) ≡ at + i + 1 = omega arith in
+      let next : at + (i + 1) ≡ suc (at + i) = omega arith in
       let fewer : size - i ≡ suc (size - (i + 1)) = omega arith in
       rw next (rw fewer at left)
 

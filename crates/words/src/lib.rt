@@ -3,9 +3,10 @@
 ghost use mathlib.Core.Path.{_≡_};
 ghost use Prim.Native.Nat.{_+_, _≤_};
 ghost use lib.ListN.{length};
+ghost use lib.Seq.{sets};
 ghost use Rattle.words.specs.Number.{number, bytes};
 ghost use Rattle.words.specs.Buffer.{inside, loaded, stored};
-ghost use Rattle.words.specs.Bytewise.{gets, puts};
+ghost use Rattle.words.specs.Bytewise.{gets};
 
 // The bytes of a quadword, the most that a number has.
 const QUADWORD: usize = 8;
@@ -46,7 +47,7 @@ fn load_bytes(buffer: &[u8], at: usize, size: usize) -> u64
 // Any size, from the least significant byte up.
 fn store_bytes(buffer: &mut [u8], at: usize, size: usize, value: u64)
     requires { ⌜ at + size ≤ length (now buffer) ⌝ }
-    ensures { λ _. ⌜ now (buffer .exit) ≡ puts (now (buffer .entry)) at (bytes size value) ⌝ }
+    ensures { λ _. ⌜ now (buffer .exit) ≡ sets (now (buffer .entry)) at (bytes size value) ⌝ }
 {
     let mut rest = value;
     let mut i: usize = 0;

@@ -2,15 +2,15 @@
 use mathlib.Core.Path.{_≡_}
 use Prim.Native.Nat.{_+_, _-_, _≤_}
 use lib.ListN.{length}
+use lib.Seq.{sets}
 use Rattle.words.specs.Number.{bytes}
-use Rattle.words.specs.Bytewise.{puts}
 use Rattle.words.proofs.Placing.{passing}
 use Rattle.words.proofs.store_bytes.Statement.{statement}
 use Rattle.words.proofs.store_bytes.Tie as tie
 
 abbrev Inv-loop : tie.InvT-loop
 Inv-loop buffer₀ at size value rest₀ i₀ buffer rest i =
-    (i ≤ size) × (length buffer ≡ length buffer₀) × (puts buffer (at + i) (bytes (size - i) rest) ≡ puts buffer₀ at (bytes size value))
+    (i ≤ size) × (length buffer ≡ length buffer₀) × (sets buffer (at + i) (bytes (size - i) rest) ≡ sets buffer₀ at (bytes size value))
 
 abbrev μ-loop : tie.MeasureT-loop
 μ-loop buffer₀ at size value rest₀ i₀ buffer rest i = size - i
