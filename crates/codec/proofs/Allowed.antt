@@ -1,7 +1,6 @@
 -- Any two answers that a public contract allows at one input are equal, and so is what they leave in a lent buffer: each contract is one equation,
 -- and the paper's answers of different cases differ.
 use mathlib.Core.Path.{_≡_, sym, _∙_}
-use mathlib.Core.Bool.{false≢true}
 use mathlib.Core.List.{List}
 use Prim.Native.Nat.{ℕ}
 use contract.Lifetimes.{Lfts}
@@ -24,14 +23,14 @@ use Rattle.codec.proofs.write.Kinds as write-kinds
 
 answer-one : (x y : Reading) → paperOfReading x ≡ paperOfReading y → x ≡ y
 answer-one (reading.Read i m) (reading.Read j n) e = cc
-answer-one (reading.Read i m) (reading.Refused n) e = absurd (false≢true (cc))
-answer-one (reading.Refused m) (reading.Read j n) e = absurd (false≢true (cc))
+answer-one (reading.Read i m) (reading.Refused n) e = cc
+answer-one (reading.Refused m) (reading.Read j n) e = cc
 answer-one (reading.Refused m) (reading.Refused n) e = cc
 
 written-one : (x y : Writing) (a b : List ℕ) → paperOfWriting x a ≡ paperOfWriting y b → (x ≡ y) × (a ≡ b)
 written-one (writing.Wrote m) (writing.Wrote n) a b e = (cc, cc)
-written-one (writing.Wrote m) (writing.Refused n) a b e = absurd (false≢true (cc))
-written-one (writing.Refused m) (writing.Wrote n) a b e = absurd (false≢true (cc))
+written-one (writing.Wrote m) (writing.Refused n) a b e = (cc, cc)
+written-one (writing.Refused m) (writing.Wrote n) a b e = (cc, cc)
 written-one (writing.Refused m) (writing.Refused n) a b e = (cc, cc)
 
 pub table-one : (κs : Lfts 0) (a : Dens κs table-kinds.ps) (r₁ r₂ : resT table-kinds.r κs .Denot)

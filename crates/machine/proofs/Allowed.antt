@@ -24,8 +24,6 @@ use Rattle.machine.proofs.Machine.step.Reads as step-reads
 use Rattle.machine.proofs.Machine.step.Kinds as step-kinds
 use Rattle.machine.proofs.Machine.run.Reads as run-reads
 use Rattle.machine.proofs.Machine.run.Kinds as run-kinds
-use Rattle.reorder.specs.Result.{Result, done, refused}
-use Rattle.machine.specs.declared.Footprint.{Footprint}
 use Rattle.machine.specs.declared.Printed.{Printed}
 use Rattle.machine.specs.declared.Printed.the-variants as printed
 use Rattle.machine.specs.Prints.{paperOfFootprint}
@@ -84,19 +82,16 @@ run-one κs a r₁ r₂ s₁ s₂ p q =
     let b = sym (run-back (r₁ .end) (r₁ .at) (r₁ .count) (r₁ .machine) m₁) ∙ ap runBack e ∙ run-back (r₂ .end) (r₂ .at) (r₂ .count) (r₂ .machine) m₂ in
     (ap (λ (x : After Ran). x .answer) b, ap (λ (x : After Ran). x .memory) b)
 
--- the program's answer back from the paper's
-abbrev printedAs : Result Footprint → Printed
-printedAs (done f) = printed.Of f
-printedAs (refused n) = printed.Refused n
-
-back : (r : Printed) → printedAs (paperOfFootprint r) ≡ r
-back (printed.Of f) = refl
-back (printed.Refused n) = refl
+printed-one : (x y : Printed) → paperOfFootprint x ≡ paperOfFootprint y → x ≡ y
+printed-one (printed.Of f) (printed.Of g) e = cc
+printed-one (printed.Of f) (printed.Refused n) e = cc
+printed-one (printed.Refused m) (printed.Of g) e = cc
+printed-one (printed.Refused m) (printed.Refused n) e = cc
 
 pub footprint-one : (κs : Lfts 2) (a : Dens κs footprint-kinds.ps) (r₁ r₂ : resT footprint-kinds.r κs .Denot)
     (s₁ s₂ : AtExit (endedOf 2 footprint-kinds.ps footprint-kinds.r) κs)
     → footprint-reads.Post κs a r₁ s₁ → footprint-reads.Post κs a r₂ s₂ → r₁ ≡ r₂
-footprint-one κs a r₁ r₂ s₁ s₂ p q = sym (back r₁) ∙ ap printedAs (p ∙ sym q) ∙ back r₂
+footprint-one κs a r₁ r₂ s₁ s₂ p q = printed-one r₁ r₂ (p ∙ sym q)
 
 pub meets-one : (κs : Lfts 0) (a : Dens κs meets-kinds.ps) (r₁ r₂ : resT meets-kinds.r κs .Denot)
     (s₁ s₂ : AtExit (endedOf 0 meets-kinds.ps meets-kinds.r) κs)

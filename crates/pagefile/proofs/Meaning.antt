@@ -1,7 +1,7 @@
 -- A file is well formed exactly if it is made of fields as a page file is, and its parts are what these fields hold: tag by tag, what is left
 -- of the file is the bytes of the fields that are left.
 use mathlib.Core.Path.{_≡_, refl, sym, ap, subst, _∙_}
-use mathlib.Core.Bool.{Bool, true, false, cond}
+use mathlib.Core.Bool.{Bool, true, false, cond, false≢true}
 use mathlib.Core.List.{List, [], _∷_, _++_}
 use mathlib.Core.Logic.{_⊎_, inl, inr, _↔_}
 use Prim.Native.Nat.{ℕ, zero, suc, _+_, _-_, _≤_, _<_}
@@ -154,10 +154,10 @@ thirteen-exactly file all = (λ e. by (wellFormed file) refl e, λ none. back (w
   where
     by : (t : Bool) → wellFormed file ≡ t → cond t (wellFormedWith (getD (marksOf file) 0 0)) (refusedWith malformed) ≡ refusedWith malformed
         → (fields : List Field) → MadeOf fields file → ⊥
-    by true t e fields made = let z : _≡_ {A = ℕ} 0 1 = cc in omega arith
+    by true t e fields made = false≢true (cc)
     by false t e fields made =
         let yes : wellFormed file ≡ true = made-well-formed fields file made in
-        let z : _≡_ {A = ℕ} 0 1 = cc in omega arith
+        false≢true (cc)
 
     back : (t : Bool) → wellFormed file ≡ t → ((fields : List Field) → MadeOf fields file → ⊥)
         → cond t (wellFormedWith (getD (marksOf file) 0 0)) (refusedWith malformed) ≡ refusedWith malformed
