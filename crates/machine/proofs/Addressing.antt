@@ -2,6 +2,7 @@
 use mathlib.Core.Path.{_≡_, ap, ap₂, _∙_}
 use mathlib.Core.Bool.{and-false}
 use mathlib.Core.List.{List}
+use mathlib.Core.Option.{Option, none, some}
 use Prim.Native.Nat.{ℕ, suc, _+_, _*_, _-_, _^_, _%_, _≤_, _<_}
 use native.Mathlib.Nat.{mul-one, add-zero, mul-add, add-mod, mod-add-mod, add-mod-mod, two-pow-succ}
 use native.Mathlib.Omega.{arith}
@@ -28,39 +29,47 @@ module _ (mode displacement : ℕ) where
   extended-high r byte h e = simp (eq-eqb mode 1 byte, le-leb 128 displacement h) e
 
 -- the registers
-module _ (integers : List ℕ) (register : ℕ) where
-  pub base-named : (mode : ℕ) → (register ≡ 5 → ⊥) → getD integers register 0 ≡ registerPart integers (baseOf mode register)
+module _ (register : ℕ) where
+  pub base-is : (mode : ℕ) → (register ≡ 5 → ⊥) → baseOf mode register ≡ some register
   unfolding baseOf
-  base-named mode other = simp (ne-eqb register 5 other, and-false (eqb mode 0))
+  base-is mode other = simp (ne-eqb register 5 other, and-false (eqb mode 0))
 
-  pub base-none : (mode : ℕ) → register ≡ 5 → mode ≡ 0 → 0 ≡ registerPart integers (baseOf mode register)
+  pub base-is-five : (mode : ℕ) → (mode ≡ 0 → ⊥) → baseOf mode register ≡ some register
   unfolding baseOf
-  base-none mode five none = simp (eq-eqb register 5 five, eq-eqb mode 0 none)
+  base-is-five mode other = simp (ne-eqb mode 0 other)
 
-  pub base-five : (mode : ℕ) → (mode ≡ 0 → ⊥) → getD integers register 0 ≡ registerPart integers (baseOf mode register)
+  pub no-base : (mode : ℕ) → register ≡ 5 → mode ≡ 0 → baseOf mode register ≡ none
   unfolding baseOf
-  base-five mode some = simp (ne-eqb mode 0 some)
+  no-base mode five zero = simp (eq-eqb register 5 five, eq-eqb mode 0 zero)
 
-  pub index-named : (register ≡ 4 → ⊥) → getD integers register 0 ≡ registerPart integers (indexOf register)
+  pub index-is : (register ≡ 4 → ⊥) → indexOf register ≡ some register
   unfolding indexOf
-  index-named other = simp (ne-eqb register 4 other)
+  index-is other = simp (ne-eqb register 4 other)
 
-  pub index-none : register ≡ 4 → 0 ≡ registerPart integers (indexOf register)
+  pub no-index : register ≡ 4 → indexOf register ≡ none
   unfolding indexOf
-  index-none four = simp (eq-eqb register 4 four)
+  no-index four = simp (eq-eqb register 4 four)
+
+-- what a register adds
+module _ (integers : List ℕ) (maybe : Option ℕ) where
+  pub part-named : (register : ℕ) → maybe ≡ some register → getD integers register 0 ≡ registerPart integers maybe
+  part-named register named = rw named
+
+  pub part-none : maybe ≡ none → 0 ≡ registerPart integers maybe
+  part-none unnamed = rw unnamed
 
 -- the scale: what has been doubled as often as is not left of it
 pub scale-starts : (x scale : ℕ) → x < 2 ^ 32 → x ≡ x * 2 ^ (scale - scale) % 2 ^ 32
-scale-starts x scale h = let none : scale - scale ≡ 0 = omega arith in rw none (rw mul-one (omega arith))
+scale-starts x scale h = let nothing : scale - scale ≡ 0 = omega arith in rw nothing (rw mul-one (omega arith))
 
 pub scale-doubles : (x scale left d r : ℕ) → d ≡ x * 2 ^ (scale - left) % 2 ^ 32 → r ≡ (d + d) % 2 ^ 32 → 0 < left → left ≤ scale
     → r ≡ x * 2 ^ (scale - (left - 1)) % 2 ^ 32
-scale-doubles x scale left d r e f some h =
+scale-doubles x scale left d r e f more h =
     let once-more : scale - (left - 1) ≡ suc (scale - left) = omega arith in
     rw (once-more, two-pow-succ (scale - left), mul-add, add-mod, ← e) f
 
 pub scale-ends : (x scale left d : ℕ) → d ≡ x * 2 ^ (scale - left) % 2 ^ 32 → left ≤ 0 → d ≡ x * 2 ^ scale % 2 ^ 32
-scale-ends x scale left d e none = e ∙ ap (λ (n : ℕ). x * 2 ^ n % 2 ^ 32) (omega arith)
+scale-ends x scale left d e ended = e ∙ ap (λ (n : ℕ). x * 2 ^ n % 2 ^ 32) (omega arith)
 
 -- the sums
 module _ (integers : List ℕ) (w : Operand) (d : ℕ) (displaced : d ≡ displacementOf (w .mode) (w .displacement) % 2 ^ 32) where
@@ -81,4 +90,4 @@ module _ (integers : List ℕ) (w : Operand) (d : ℕ) (displaced : d ≡ displa
       ∙ ap₂ (λ (m n : ℕ). (m + n) % 2 ^ 32) (summed ∙ ap (λ (n : ℕ). (start + n) % 2 ^ 32) scaled-by ∙ add-mod-mod start _ _) displaced
       ∙ add-mod-mod _ _ _ ∙ mod-add-mod _ _ _)
 
-pub ruleset addressing = (needs, extended-none, extended-low, extended-high, base-named, base-none, base-five, index-named, index-none, scale-starts, scale-doubles, scale-ends, sum-plain, sum-sib)
+pub ruleset addressing = (needs, extended-none, extended-low, extended-high, base-is, base-is-five, no-base, index-is, no-index, part-named, part-none, scale-starts, scale-doubles, scale-ends, sum-plain, sum-sib)

@@ -2,12 +2,12 @@
 use mathlib.Core.Path.{_≡_}
 use mathlib.Core.Bool.{and-false}
 use mathlib.Core.List.{append-nil}
+use mathlib.Core.Option.{Option, none, some}
 use Prim.Native.Nat.{ℕ, _*_, _^_, _%_, _<_}
 use native.Mathlib.Omega.{arith}
 use borrow.Author.Needs.{needs}
 use borrow.Author.Tests.{eq-eqb, ne-eqb}
 use lib.Bits.{bitOr, or-zero-r}
-use lib.Dec.{eqb}
 use lib.Pow.{pow-lt}
 use Rattle.codec.specs.Operands.{hasSib}
 use Rattle.codec.specs.declared.Operand.{Operand}
@@ -15,33 +15,20 @@ use Rattle.manual.specs.Addresses.{baseOf, indexOf, addressOf, registersOf, add
 use Rattle.machine.specs.declared.Places.{Places}
 use Rattle.machine.specs.Prints.{mask}
 use Rattle.machine.specs.PrintShapes.{beside}
+use Rattle.machine.proofs.Addressing.{base-is, base-is-five, no-base, index-is, no-index}
 use Rattle.machine.proofs.Masks.{mask-append}
 
 -- a register's bit fits a byte
 pub one-bit : (register : ℕ) → register < 8 → 1 * 2 ^ register % 256 ≡ 2 ^ register
 one-bit register h = omega (arith, pow-lt {i = register} {j = 8} h)
 
--- the masks of a base and of an index
-module _ (register r : ℕ) where
-  pub base-named : (mode : ℕ) → r ≡ 2 ^ register → (register ≡ 5 → ⊥) → r ≡ mask (registersOf (baseOf mode register))
-  unfolding baseOf
-  base-named mode e other = simp (ne-eqb register 5 other, and-false (eqb mode 0), or-zero-r) e
+-- the mask of a base or an index
+module _ (maybe : Option ℕ) where
+  pub mask-named : (register r : ℕ) → r ≡ 2 ^ register → maybe ≡ some register → r ≡ mask (registersOf maybe)
+  mask-named register r e named = simp (named, or-zero-r) e
 
-  pub base-five : (mode : ℕ) → r ≡ 2 ^ register → (mode ≡ 0 → ⊥) → r ≡ mask (registersOf (baseOf mode register))
-  unfolding baseOf
-  base-five mode e other = simp (ne-eqb mode 0 other, or-zero-r) e
-
-  pub index-named : r ≡ 2 ^ register → (register ≡ 4 → ⊥) → r ≡ mask (registersOf (indexOf register))
-  unfolding indexOf
-  index-named e other = simp (ne-eqb register 4 other, or-zero-r) e
-
-pub base-none : (mode register : ℕ) → register ≡ 5 → mode ≡ 0 → 0 ≡ mask (registersOf (baseOf mode register))
-unfolding baseOf
-base-none mode register five none = simp (eq-eqb register 5 five, eq-eqb mode 0 none)
-
-pub index-none : (register : ℕ) → register ≡ 4 → 0 ≡ mask (registersOf (indexOf register))
-unfolding indexOf
-index-none register none = simp (eq-eqb register 4 none)
+  pub mask-none : maybe ≡ none → 0 ≡ mask (registersOf maybe)
+  mask-none unnamed = rw unnamed
 
 -- the mask of an address
 module _ (w : Operand) (r : ℕ) where
@@ -59,4 +46,4 @@ pub made-beside : (register b : ℕ) (p : Places) → b ≡ 2 ^ register
     → record { mmx = bitOr b (p .mmx); integers = p .integers; start = p .start; length = p .length } ≡ beside register p
 made-beside register b p e = simp e
 
-pub ruleset print-masks = (needs, one-bit, base-named, base-five, base-none, index-named, index-none, address-plain, address-sib, made-beside)
+pub ruleset print-masks = (needs, one-bit, base-is, base-is-five, no-base, index-is, no-index, mask-named, mask-none, address-plain, address-sib, made-beside)
