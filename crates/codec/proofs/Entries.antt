@@ -90,7 +90,7 @@ find-fits second (row r operation lane size form ∷ rest) h =
     (λ e.
     record {
       unpacks = unpack _ (ltb-true lane 256 (c .0)) (ltb-true size 256 (d .0)) (ltb-true _ 256 (d .1));
-      beyond = λ p. absurd (let z : ⊥ = omega (arith, eqb-true second r e, ltb-true r 256 (b .0), p) in z);
+      beyond = λ p. absurd (omega (arith, eqb-true second r e, ltb-true r 256 (b .0), p));
     })
     (find-fits second rest (a .1))
 
@@ -100,7 +100,7 @@ entry-fits second = find-fits second rows refl
 
 -- the table at a byte
 getD-listed : (f : ℕ → ℕ) (from count k : ℕ) → k < count → getD (listed f from count) k 0 ≡ f (from + k)
-getD-listed f from zero k h = absurd (let z : ⊥ = omega arith in z)
+getD-listed f from zero k h = absurd (omega arith)
 getD-listed f from (suc count) zero h = ap f (sym (add-zero from))
 getD-listed f from (suc count) (suc k) h =
     getD-listed f (suc from) count k (omega arith) ∙ ap f (let z : suc from + k ≡ from + suc k = omega arith in z)

@@ -120,7 +120,7 @@ is-inside s x = by (readPart s) refl
         let same : readPart (s ++ x .more) ≡ good i n =
         ap readPart (ap (λ (u : List ℕ). u ++ x .more) (sym (take-append-drop n s)) ∙ append-assoc (take n s) (drop n s) (x .more)) ∙ l .again (drop n s ++ x .more) in
         let end : n ≡ x .size = cc (x .found) in
-        absurd (let no : ⊥ = omega (arith, l .within, x .longer) in no)
+        absurd (omega (arith, l .within, x .longer))
     by (refused n) e = at-end (eqb n codeEnds) refl
       where
         at-end : (t : Bool) → eqb n codeEnds ≡ t → refused n ≡ refused codeEnds

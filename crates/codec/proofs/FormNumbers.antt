@@ -31,11 +31,11 @@ past n h = subst (λ (k : ℕ). Plain (formOf k)) (let z : suc (suc (suc (suc (n
 
 -- a shift's number is 2 or 3
 shifts : (P : ℕ → Type 0) (n : ℕ) → n ≤ 3 → 2 ≤ n → P 2 → P 3 → P n
-shifts P zero p q a b = absurd (let z : ⊥ = omega arith in z)
-shifts P (suc zero) p q a b = absurd (let z : ⊥ = omega arith in z)
+shifts P zero p q a b = absurd (omega arith)
+shifts P (suc zero) p q a b = absurd (omega arith)
 shifts P (suc (suc zero)) p q a b = a
 shifts P (suc (suc (suc zero))) p q a b = b
-shifts P (suc (suc (suc (suc k)))) p q a b = absurd (let z : ⊥ = omega arith in z)
+shifts P (suc (suc (suc (suc k)))) p q a b = absurd (omega arith)
 
 -- the second byte is in the table, and an operand follows it
 pub with-operand : (n : ℕ) → (n ≡ 0 → ⊥) → (n ≡ 1 → ⊥) → (isAbsent (formOf n) ≡ false) × (hasOperand (formOf n) ≡ true)
@@ -60,7 +60,7 @@ module _ (n mode reg rm : ℕ) where
       before : (k : ℕ) → k < 2 → true ≡ allows (formOf k) mode reg rm
       before zero p = refl
       before (suc zero) p = refl
-      before (suc (suc k)) p = absurd (let z : ⊥ = omega arith in z)
+      before (suc (suc k)) p = absurd (omega arith)
 
   module _ (p : n ≤ 3) (q : 2 ≤ n) where
     pub allowed-memory : (mode ≡ 3 → ⊥) → false ≡ allows (formOf n) mode reg rm
@@ -94,7 +94,7 @@ immediate-past n h = past n h .bare
 pub immediate-before : (n : ℕ) → n < 2 → 0 ≡ immediateSize (formOf n)
 immediate-before zero h = refl
 immediate-before (suc zero) h = refl
-immediate-before (suc (suc k)) h = absurd (let z : ⊥ = omega arith in z)
+immediate-before (suc (suc k)) h = absurd (omega arith)
 
 pub immediate-shift : (n : ℕ) → n ≤ 3 → 2 ≤ n → 1 ≡ immediateSize (formOf n)
 immediate-shift n p q = shifts (λ k. 1 ≡ immediateSize (formOf k)) n p q refl refl

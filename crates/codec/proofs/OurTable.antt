@@ -49,7 +49,7 @@ module _ (code : List ℕ) (at : ℕ) where
         (omega arith, cc)
     found-good (refused n) e h r =
         let p : x .refusal ≡ n = ap (λ (y : Found). y .refusal) e in
-        absurd (let z : ⊥ = omega (arith, h .0) in z)
+        absurd (omega (arith, h .0))
 
     found-refused : (z : Answer) → x ≡ foundIn packedRows (moved at z) → (x .refusal ≡ 0 → ⊥) → refused (x .refusal) ≡ z
     found-refused (good i n) e r = absurd (r (ap (λ (y : Found). y .refusal) e))

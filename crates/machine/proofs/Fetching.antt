@@ -49,7 +49,7 @@ module _ (table code : List ℕ) (at : ℕ) (x : Found) (ours : table ≡ packed
           subst (λ (y : Found). Listed (unpacked (y .entry))) (sym (found-is (good i n) r)) (row-listed (drop at code) i n r)
       by (refused n) r g =
           let f : x .refusal ≡ n = ap (λ (y : Found). y .refusal) (found-is (refused n) r) in
-          absurd (let z : ⊥ = omega (arith, g .0) in z)
+          absurd (omega (arith, g .0))
 
   -- within the limits
   module _ (registers integers m : List ℕ) (marks : Marks) (code-fits : length code ≤ longestCode) (memory-fits : length m ≤ longestMemory) where
@@ -92,7 +92,7 @@ module _ (table code : List ℕ) (at : ℕ) (x : Found) (ours : table ≡ packed
               (sym (found-is (good i n) r))
           by (refused n) r g =
               let f : x .refusal ≡ n = ap (λ (y : Found). y .refusal) (found-is (refused n) r) in
-              absurd (let z : ⊥ = omega (arith, g .0) in z)
+              absurd (omega (arith, g .0))
 
       pub gathered-barred : (work : Work) → marks .bar ≡ barredBy (marks .em) (marks .ts) (marks .pending) → (marks .bar ≡ 0 → ⊥) → work ≡ refusedWork (marks .bar) → Gathered work registers integers marks code at m
       unfolding performed

@@ -52,16 +52,16 @@ integer-form n k h l = by (formOf n) (two-operands n h)
     by : (form : Form) → TwoOperands n form → registerOf form k ≡ integerRegister k
     by storeD (is-storeD e) = refl
     by loadD (is-loadD e) = refl
-    by storeQ (is-storeQ e) = absurd (let z : ⊥ = omega arith in z)
-    by loadQ (is-loadQ e) = absurd (let z : ⊥ = omega arith in z)
-    by usual (is-usual g) = absurd (let z : ⊥ = omega arith in z)
+    by storeQ (is-storeQ e) = absurd (omega arith)
+    by loadQ (is-loadQ e) = absurd (omega arith)
+    by usual (is-usual g) = absurd (omega arith)
 
 pub mmx-form : (n k : ℕ) → 5 < n → registerOf (formOf n) k ≡ mmxRegister k
 mmx-form n k h = by (formOf n) (two-operands n (omega arith))
   where
     by : (form : Form) → TwoOperands n form → registerOf form k ≡ mmxRegister k
-    by storeD (is-storeD e) = absurd (let z : ⊥ = omega arith in z)
-    by loadD (is-loadD e) = absurd (let z : ⊥ = omega arith in z)
+    by storeD (is-storeD e) = absurd (omega arith)
+    by loadD (is-loadD e) = absurd (omega arith)
     by storeQ (is-storeQ e) = refl
     by loadQ (is-loadQ e) = refl
     by usual (is-usual g) = refl

@@ -34,7 +34,7 @@ abbrev range : ℕ → ℕ → Places
 range a size = record { mmx = 0; integers = 0; start = a; length = size }
 
 set-bytes : (size a : ℕ) → 0 < size → setOf (bytesFrom a size) ≡ range a size
-set-bytes zero a h = absurd (let z : ⊥ = omega arith in z)
+set-bytes zero a h = absurd (omega arith)
 set-bytes (suc size) a h =
     λ i. record { mmx = mask (no-mmx (suc size) a i); integers = mask (no-integer (suc size) a i); start = a; length = count-bytes (suc size) a i }
 
