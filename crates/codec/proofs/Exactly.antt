@@ -14,7 +14,6 @@ use Rattle.words.specs.Number.{number}
 use Rattle.codec.specs.Refusals.{codeTooLong, codeEnds, prefixed, notListed, notAllowed, noBytes, bufferEnds}
 use Rattle.codec.specs.Forms.{Form, absent, emms, shiftWD, shiftQ, storeD, loadD, storeQ, loadQ, usual, isAmong, isAbsent, hasOperand, allows}
 use Rattle.codec.specs.Opcodes.{entryOf, escape, prefixes}
-use Rattle.codec.specs.Packed.{formNumber}
 use Rattle.codec.specs.Operands.{upper, middle, lower, hasSib, noOperand}
 use Rattle.codec.specs.Reader.{Reader, whole, refuse, byte, field, reads}
 use Rattle.codec.specs.Reads.{immediateReader, displacementReader, sibReader, modrmReader, formReader, secondReader, instructionReader, refusalOf, readPart, longestCode, readAt}
