@@ -10,6 +10,7 @@ pub mod Adding
 pub mod Complementing
 pub mod Comparing
 pub mod Multiplying
+pub mod Wrapping
 pub mod Packing
 pub mod Shifting
 pub mod Naming
