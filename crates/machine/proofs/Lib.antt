@@ -4,6 +4,7 @@ pub mod Masks
 pub mod Ranges
 pub mod Printing
 pub mod Meeting
+pub mod Positions
 pub mod Tested
 pub mod Pairs
 pub mod Allowed

@@ -1,31 +1,18 @@
 -- Demand 3 with the test that the program computes: the order need keep the pairs that it finds to meet, and no other.
 use mathlib.Core.Path.{_≡_}
 use mathlib.Core.Bool.{true}
-use mathlib.Core.List.{List, []}
+use mathlib.Core.List.{List}
 use Prim.Native.Nat.{ℕ}
-use lib.ListN.{getD}
-use Rattle.reorder.specs.Result.{Result, done, refused, andThen}
 use Rattle.reorder.specs.Order.{NewOrder, Keeps}
-use Rattle.reorder.specs.Row.{before}
-use Rattle.reorder.specs.Run.{Reading, finished}
-use Rattle.reorder.specs.Block.{piecesOf, rearranged, onBytes}
-use Rattle.codec.specs.declared.Instruction.{Instruction}
+use Rattle.reorder.specs.Run.{finished}
+use Rattle.reorder.specs.Block.{rearranged}
 use Rattle.manual.specs.State.{State}
-use Rattle.manual.specs.Instructions.{execute, footprint}
 use Rattle.manual.specs.Runs.{read, runOf}
 use Rattle.manual.specs.Footprints.{footprintInRun}
 use Rattle.manual.proofs.Demand3.{demand-3}
 use Rattle.machine.specs.Prints.{meetTest}
-use Rattle.machine.proofs.Ranges.{RangedPrint, ranged}
 use Rattle.machine.proofs.Meeting.{meet-test-exactly}
-
-ranged-reading : (o : Result (Reading Instruction)) (s : State) → RangedPrint (andThen o (λ r. footprint (r .instruction) s))
-ranged-reading (done r) s = ranged s (r .instruction)
-ranged-reading (refused n) s = tt
-
-ranged-block : (code : List ℕ) (start : State) (k : ℕ) → RangedPrint (footprintInRun code start k)
-ranged-block code start k =
-    ranged-reading (read (getD (piecesOf read code) k [])) (before (onBytes read execute) (piecesOf read code) k start)
+use Rattle.machine.proofs.Positions.{ranged-run}
 
 pub demand-3-tested : (code order : List ℕ) (budget end total : ℕ) (start final : State)
     → runOf code budget start ≡ finished end total final
@@ -36,4 +23,4 @@ demand-3-tested code order budget end total start final h new keeps =
     demand-3 code order budget end total start final h new
     (λ i j p q earlier j-in p-in q-in at-p at-q meets.
     keeps i j p q earlier j-in p-in q-in at-p at-q
-    (meet-test-exactly (footprintInRun code start i) (footprintInRun code start j) (ranged-block code start i) (ranged-block code start j) .1 meets))
+    (meet-test-exactly (footprintInRun code start i) (footprintInRun code start j) (ranged-run code start i) (ranged-run code start j) .1 meets))

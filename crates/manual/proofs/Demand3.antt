@@ -1,32 +1,37 @@
 -- Demand 3, from the reordering theorem: the machine obeys the laws of places, and reading is local.
-use mathlib.Core.Path.{_≡_, refl, ap, _∙_}
+use mathlib.Core.Path.{_≡_, refl, sym, ap, subst, subst₂, _∙_}
 use mathlib.Core.Bool.{Bool, true, false, cond, false≢true}
 use mathlib.Core.List.{List}
-use Prim.Native.Nat.{ℕ}
+use Prim.Native.Nat.{ℕ, _<_}
+use native.Mathlib.Omega.{arith}
 use lib.Dec.{ltb}
 use lib.ListN.{length}
-use Rattle.reorder.specs.Result.{Result}
+use Rattle.reorder.specs.Result.{Result, andThen}
 use Rattle.reorder.specs.Order.{NewOrder, Keeps}
 use Rattle.reorder.specs.Footprint.{Footprint}
-use Rattle.reorder.specs.Run.{Answer, finished, stopped}
+use Rattle.reorder.specs.Run.{Answer, finished, spent, stopped, reached, run}
 use Rattle.reorder.specs.Block.{rearranged}
 use Rattle.reorder.proofs.Reordering.{Swap}
 use Rattle.reorder.proofs.Swapping.{swap}
+use Rattle.reorder.proofs.Rows.{footprintInCode}
 use Rattle.reorder.proofs.Rearranging.{reordered-block}
+use Rattle.reorder.proofs.Along.{Comes, comes-to}
 use Rattle.codec.specs.Reads.{longestCode}
 use Rattle.codec.specs.Refusals.{codeTooLong}
 use Rattle.codec.specs.declared.Instruction.{Instruction}
 use Rattle.manual.specs.declared.Kind.{Kind}
 use Rattle.manual.specs.Refusals.{memoryTooLong}
-use Rattle.manual.specs.State.{State, frozen, isTooLong}
+use Rattle.manual.specs.State.{State, Frozen, frozen, longestMemory, isTooLong}
 use Rattle.manual.specs.Places.{Place, look, put}
 use Rattle.manual.specs.Kinds.{marked, KindsMeet}
 use Rattle.manual.specs.Effects.{via, plan}
 use Rattle.manual.specs.Instructions.{effectOf, execute, footprint}
 use Rattle.manual.specs.Runs.{read, runOf}
-use Rattle.manual.specs.Footprints.{footprintInRun, Meets}
+use Rattle.manual.specs.Footprints.{footprintAt, footprintInRun, Meets}
 use Rattle.manual.proofs.Laws.{laws, local}
 use Rattle.manual.proofs.Locality.{local-reader}
+use Rattle.manual.proofs.Turns.{instruction-here}
+use Rattle.manual.proofs.Bounds.{Bounds, Bounded, run-bounded}
 
 -- two instructions that don't meet change places
 execute-swap : Swap State Instruction (Result (Footprint Place Kind)) execute footprint Meets
@@ -39,6 +44,37 @@ passed : (t : Bool) (n : ℕ) (s : State) (rest : Answer State) (end total : ℕ
 passed true n s rest end total final h = absurd (false≢true (cc))
 passed false n s rest end total final h = (refl, h)
 
+-- Of a run that finishes
+
+module _ (code : List ℕ) (budget end total : ℕ) (start final : State) (h : runOf code budget start ≡ finished end total final) where
+  -- the tests of its start are passed
+  pub fitting : (isTooLong (start .memory) ≡ false) × (ltb longestCode (length code) ≡ false) × (run read execute budget code start ≡ finished end total final)
+  unfolding runOf
+  fitting =
+      let (memory-fits, h₁) = passed (isTooLong (start .memory)) memoryTooLong start _ end total final h in
+      let (code-fits, h₂) = passed (ltb longestCode (length code)) codeTooLong start _ end total final h₁ in
+      (memory-fits, code-fits, h₂)
+
+  -- what a run of k instructions comes to, k below the count
+  pub comes : (k : ℕ) → k < total → Comes read execute footprint code start k
+  comes k b = let (memory-fits, code-fits, ran) = fitting in comes-to read execute footprint local-reader code budget end total start final ran k b
+
+  pub ran-to : (k : ℕ) (b : k < total) → runOf code k start ≡ spent (comes k b .at) k (comes k b .state)
+  unfolding runOf
+  ran-to k b = let (memory-fits, code-fits, ran) = fitting in simp (memory-fits, code-fits) (comes k b .ran)
+
+  -- its footprint is that of piece k of the code
+  print-along : (k : ℕ) → k < total → footprintInRun code start k ≡ footprintInCode read execute footprint code start k
+  unfolding footprintAt
+  print-along k b =
+      let (memory-fits, code-fits, ran) = fitting in
+      let c = comes k b in
+      let bounds : Bounds code k start (c .at) k (c .state) = subst (Bounded code k start) (ran-to k b) (run-bounded code k start) in
+      let still-fits : isTooLong (c .state .memory) ≡ false = ap (λ (f : Frozen). ltb longestMemory (f .memory)) (bounds .kept) ∙ memory-fits in
+      ap (reached (footprintAt code)) (ran-to k b)
+      ∙ ap (λ o. andThen o (λ r. footprint (r .instruction) (c .state))) (instruction-here code (c .at) (c .state) still-fits code-fits ∙ c .stands)
+      ∙ sym (c .print)
+
 -- "Take a straight block that runs to its end from some starting state and memory. Put its instructions in any other order that keeps, for each
 -- pair whose footprints meet in that run, the earlier one earlier. From the same state and memory, with the same budget, the new block also runs
 -- to its end, in as many instructions, and leaves exactly the registers, tag mark and memory that the manual's rules give for the original."
@@ -49,8 +85,11 @@ pub demand-3 : (code order : List ℕ) (budget end total : ℕ) (start final : S
     → runOf (rearranged read code order) budget start ≡ finished end total final
 unfolding runOf
 demand-3 code order budget end total start final h new keeps =
-    let (memory-fits, h₁) = passed (isTooLong (start .memory)) memoryTooLong start _ end total final h in
-    let (code-fits, h₂) = passed (ltb longestCode (length code)) codeTooLong start _ end total final h₁ in
-    let (as-long, runs) = reordered-block read local-reader execute footprint Meets execute-swap code order budget end total start final h₂ new keeps in
+    let (memory-fits, code-fits, ran) = fitting code budget end total start final h in
+    let print = print-along code budget end total start final h in
+    let kept : Keeps total order (λ i j. Meets (footprintInCode read execute footprint code start i) (footprintInCode read execute footprint code start j)) =
+    λ i j p q earlier j-in p-in q-in at-p at-q meets.
+    keeps i j p q earlier j-in p-in q-in at-p at-q (subst₂ Meets (sym (print i (omega arith))) (sym (print j j-in)) meets) in
+    let (as-long, runs) = reordered-block read local-reader execute footprint Meets execute-swap code order budget end total start final ran new kept in
     let new-fits : ltb longestCode (length (rearranged read code order)) ≡ false = ap (ltb longestCode) as-long ∙ code-fits in
     rw (memory-fits, new-fits) runs

@@ -3,11 +3,11 @@
 pub mod Lists
 pub mod Laws
 pub mod Locality
-pub mod Demand3
 pub mod Turns
 pub mod Refusals
 pub mod Exactly
 pub mod Bounds
+pub mod Demand3
 pub mod Uses
 pub mod Meeting
 pub mod Direct

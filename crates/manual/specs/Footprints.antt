@@ -3,22 +3,23 @@ use mathlib.Core.List.{List}
 use Prim.Native.Nat.{ℕ}
 use Rattle.reorder.specs.Result.{Result, andThen}
 use Rattle.reorder.specs.Footprint as places
-use Rattle.reorder.specs.Block.{footprintInCode}
+use Rattle.reorder.specs.Run.{reached}
 use Rattle.manual.specs.declared.Kind.{Kind}
 use Rattle.manual.specs.State.{State}
 use Rattle.manual.specs.Places.{Place}
 use Rattle.manual.specs.Kinds.{KindsMeet}
-use Rattle.manual.specs.Instructions.{execute, footprint}
+use Rattle.manual.specs.Instructions.{footprint}
 use Rattle.manual.specs.Steps.{instructionAt}
-use Rattle.manual.specs.Runs.{read}
+use Rattle.manual.specs.Runs.{runOf}
 
 -- what the step reads and writes, or the step's refusal
 unfoldable pub footprintAt : List ℕ → ℕ → State → Result (places.Footprint Place Kind)
 footprintAt code at s = andThen (instructionAt code at s) (λ read. footprint (read .instruction) s)
 
--- the footprint of instruction k of a block, in the state where it runs in the original order
+-- the footprint of instruction k of a block, in the state where it runs in the original order: that of the step which a run of k instructions
+-- has come to
 abbrev pub footprintInRun : List ℕ → State → ℕ → Result (places.Footprint Place Kind)
-footprintInRun code start k = footprintInCode read execute footprint code start k
+footprintInRun code start k = reached (footprintAt code) (runOf code k start)
 
 -- one writes a place that the other reads or writes, or either is EMMS
 abbrev pub Meets : Result (places.Footprint Place Kind) → Result (places.Footprint Place Kind) → Type 0

@@ -10,9 +10,8 @@ use borrow.Author.Tests.{eq-eqb, ne-eqb}
 use lib.ListN.{length, take, drop, length-append, length-drop, take-append-drop}
 use lib.Seq.{drop-drop, drop-length, drop-at, length-take-le, take-length}
 use Rattle.reorder.specs.Result.{Result, done, refused, andThen, caseOf}
-use Rattle.reorder.specs.Row.{execAll}
 use Rattle.reorder.specs.Run.{Reading, Answer, finished, spent, stopped, runFrom}
-use Rattle.reorder.specs.Block.{onBytes}
+use Rattle.reorder.proofs.Rows.{execAll, before, onBytes}
 use Rattle.reorder.proofs.Reordering.{first}
 
 -- a reader that goes by the instruction's own bytes, of which there is at least one
@@ -124,6 +123,39 @@ module _ {S I : Type 0} (read : List ℕ → Result (Reading I)) (exec : I → S
           cut-step left code position count s end total t l rest
           (step-apart left code position count s end total t (simp (ne-eqb _ _ e) at h))
 
+  -- a run over whole pieces whose row completes goes past the first of them
+  pub record Past (piece : List ℕ) (pieces : List (List ℕ)) (code : List ℕ) (position count : ℕ) (s t : S) : Type 0 where
+    pub state : S
+    pub not-end : position ≡ length code → ⊥
+    pub inside : position + length piece ≤ length code
+    pub left : drop (position + length piece) code ≡ flatten pieces
+    pub ran : onBytes read exec piece s ≡ done state
+    pub rest : execAll (onBytes read exec) pieces state ≡ done t
+    pub turn : (budget : ℕ) → runFrom read exec (suc budget) code position count s ≡ runFrom read exec budget code (position + length piece) (suc count) state
+
+  pub past : (piece : List ℕ) (pieces : List (List ℕ)) (code : List ℕ) (position count : ℕ) (s t : S) → position ≤ length code
+      → drop position code ≡ flatten (piece ∷ pieces) → Whole read piece → execAll (onBytes read exec) (piece ∷ pieces) s ≡ done t
+      → Past piece pieces code position count s t
+  unfolding flatten
+  past piece pieces code position count s t l e (r, er, z) h =
+      let (s₁, ran, rest) = first (onBytes read exec) piece pieces s t h in
+      let size : length code - position ≡ length piece + length (flatten pieces) = simp (length-drop, length-append) at (ap length e) in
+      let some : 0 < r .size = reader .some-bytes piece r er .0 in
+      let more : position ≡ length code → ⊥ = λ q. omega arith in
+      let here : read (drop position code) ≡ done r = ap read e ∙ read-front read reader piece (flatten pieces) r er z in
+      let does : exec (r .instruction) s ≡ done s₁ = sym (ap (λ (o : Result (Reading I)). andThen o (λ q. exec (q .instruction) s)) er) ∙ ran in
+      record {
+        state = s₁;
+        not-end = more;
+        inside = omega arith;
+        left = sym (drop-drop (length piece) position code) ∙ ap (drop (length piece)) e ∙ drop-at piece (flatten pieces) (length piece) refl;
+        ran = ran;
+        rest = rest;
+        turn = λ budget. simp (ne-eqb _ _ more)
+            (stepped budget code position count s s₁ r here does
+            ∙ ap (λ (n : ℕ). runFrom read exec budget code (position + n) (suc count) s₁) z);
+      }
+
   -- the way back: whole pieces whose row completes are run to their end
   pub joined : (pieces : List (List ℕ)) (left : ℕ) (code : List ℕ) (position count : ℕ) (s t : S) → position ≤ length code
       → drop position code ≡ flatten pieces → AllWhole read pieces → execAll (onBytes read exec) pieces s ≡ done t → length pieces ≤ left
@@ -136,16 +168,26 @@ module _ {S I : Type 0} (read : List ℕ → Result (Reading I)) (exec : I → S
       let z : position ≡ length code = omega (arith, simp length-drop at (ap length e)) in
       simp (eq-eqb _ _ z) (cc (z, add-zero count))
   joined (piece ∷ pieces) zero code position count s t l e w h b = absurd (omega arith)
-  joined (piece ∷ pieces) (suc left) code position count s t l e ((r, er, z), w) h b =
-      let (s₁, ep, rest) = first (onBytes read exec) piece pieces s t h in
-      let size : length code - position ≡ length piece + length (flatten pieces) = simp (length-drop, length-append) at (ap length e) in
-      let some : 0 < r .size = reader .some-bytes piece r er .0 in
-      let here : read (drop position code) ≡ done r = ap read e ∙ read-front read reader piece (flatten pieces) r er z in
-      let there : drop (position + r .size) code ≡ flatten pieces =
-      sym (drop-drop (r .size) position code) ∙ ap (drop (r .size)) e ∙ drop-at piece (flatten pieces) (r .size) (sym z) in
-      let ran : exec (r .instruction) s ≡ done s₁ = sym (ap (λ (o : Result (Reading I)). andThen o (λ q. exec (q .instruction) s)) er) ∙ ep in
-      let more : position ≡ length code → ⊥ = λ q. omega arith in
-      simp (ne-eqb _ _ more)
-      (stepped left code position count s s₁ r here ran
-      ∙ joined pieces left code (position + r .size) (suc count) s₁ t (omega arith) there w rest (omega arith)
-      ∙ ap (λ (n : ℕ). finished (length code) n t) (omega arith))
+  joined (piece ∷ pieces) (suc left) code position count s t l e (whole, w) h b =
+      let p = past piece pieces code position count s t l e whole h in
+      p .turn left
+      ∙ joined pieces left code (position + length piece) (suc count) (p .state) t (p .inside) (p .left) w (p .rest) (omega arith)
+      ∙ ap (λ (n : ℕ). finished (length code) n t) (omega arith)
+
+  -- a run of fewer instructions is spent at the piece that it has come to, in the state before it
+  pub spent-at : (pieces : List (List ℕ)) (k : ℕ) (code : List ℕ) (position count : ℕ) (s t : S) → position ≤ length code
+      → drop position code ≡ flatten pieces → AllWhole read pieces → execAll (onBytes read exec) pieces s ≡ done t → k < length pieces
+      → let at = position + length (flatten (take k pieces)) in
+      (runFrom read exec k code position count s ≡ spent at (count + k) (before (onBytes read exec) pieces k s)) × (drop at code ≡ flatten (drop k pieces))
+  unfolding flatten
+  spent-at [] k code position count s t l e w h b = absurd (omega arith)
+  spent-at (piece ∷ pieces) zero code position count s t l e (whole, w) h b =
+      let p = past piece pieces code position count s t l e whole h in
+      (simp (ne-eqb _ _ (p .not-end), add-zero), simp add-zero e)
+  spent-at (piece ∷ pieces) (suc k) code position count s t l e (whole, w) h b =
+      let p = past piece pieces code position count s t l e whole h in
+      let (runs, stands) = spent-at pieces k code (position + length piece) (suc count) (p .state) t (p .inside) (p .left) w (p .rest) (omega arith) in
+      let same : position + length piece + length (flatten (take k pieces)) ≡ position + length (piece ++ flatten (take k pieces)) =
+      omega (arith, length-append piece (flatten (take k pieces))) in
+      let count-on : suc count + k ≡ count + suc k = omega arith in
+      (p .turn k ∙ runs ∙ simp (p .ran) (cc (same, count-on)), ap (λ (n : ℕ). drop n code) (sym same) ∙ stands)

@@ -1,5 +1,6 @@
 -- The laws: of lists and permutations, of a reordered row, of plans and footprints, of runs and blocks.
 pub mod Membership
+pub mod Rows
 pub mod Permutation
 pub mod Reordering
 pub mod Places
@@ -8,3 +9,6 @@ pub mod Honest
 pub mod Meeting
 pub mod Cutting
 pub mod Rearranging
+pub mod Along
+pub mod Endings
+pub mod Turning

@@ -1,12 +1,13 @@
--- A new order of n things is a permutation of the numbers below n: as many entries, and each of the ascending numbers among them.
+-- A new order of n things is a permutation of the numbers below n, and every such permutation is a new order.
 use mathlib.Core.Path.{_≡_, refl, sym, ap, _∙_, subst}
 use mathlib.Core.Logic.{⊎-elim}
 use mathlib.Core.List.{List, [], _∷_, _++_, List·Memᴰ as In, List·Memᴰ·head as here, List·Memᴰ·tail as later, Memᴰ·append-right}
 use Prim.Native.Nat.{ℕ, zero, suc, _+_, _<_, _≤_}
+use native.Mathlib.Nat.{zero-add}
 use native.Mathlib.Omega.{arith}
-use lib.ListN.{length, length-append}
-use Rattle.reorder.specs.Order.{NewOrder}
-use Rattle.reorder.proofs.Membership.{in-seam, in-wider, split, in-at}
+use lib.ListN.{length, getD, length-append}
+use Rattle.reorder.specs.Order.{NewOrder, Keeps}
+use Rattle.reorder.proofs.Membership.{in-seam, in-wider, split, in-at, at-in}
 
 -- strictly ascending
 abbrev pub Ascending : List ℕ → Type 0
@@ -37,6 +38,11 @@ ascending-from m (suc n) = (λ y h. in-from (suc m) n y h .0, ascending-from (su
 length-from : (m n : ℕ) → length (from m n) ≡ n
 length-from m zero = refl
 length-from m (suc n) = ap suc (length-from (suc m) n)
+
+from-at : (m n p : ℕ) → p < n → getD (from m n) p 0 ≡ m + p
+from-at m zero p b = absurd (omega arith)
+from-at m (suc n) zero b = omega arith
+from-at m (suc n) (suc p) b = let rest = from-at (suc m) n p (omega arith) in omega arith
 
 -- the same elements: the first of the new list stands somewhere in the old one, and so on with what is left
 abbrev pub Permutation : List ℕ → List ℕ → Type 0
@@ -70,6 +76,7 @@ permutation-of (x ∷ old) new a e sub =
     λ y m. ⊎-elim (λ same. absurd (omega (arith, a .0 y m, same))) (λ n. n) (in-seam y p x q (subst (In y) cut (sub y (later m)))) in
     subst (Permutation (x ∷ old)) (sym cut) (permutation-insert x old p q (permutation-of old (p ++ q) (a .1) size among))
 
+-- a new order has as many entries, and each of the ascending numbers among them
 pub order-permutation : (n : ℕ) (order : List ℕ) → NewOrder n order → Permutation (from 0 n) order
 order-permutation n order new =
     permutation-of (from 0 n) order (ascending-from 0 n) (new .size ∙ sym (length-from 0 n))
@@ -79,3 +86,33 @@ order-permutation n order new =
 pub order-below : (n : ℕ) (order : List ℕ) → NewOrder n order → (k : ℕ) → In k order → k < n
 order-below n order new k m =
     omega (arith, in-from 0 n k (permutation-back (from 0 n) order (order-permutation n order new) k m))
+
+-- and the other way: every permutation of the numbers below n is a new order
+permutation-length : (old new : List ℕ) → Permutation old new → length new ≡ length old
+permutation-length old [] h = sym (ap length h)
+permutation-length old (k ∷ new) (p, q, e, r) =
+    omega (arith, permutation-length (p ++ q) new r, length-append p q, length-append p (k ∷ q), ap length e)
+
+pub permutation-order : (n : ℕ) (order : List ℕ) → Permutation (from 0 n) order → NewOrder n order
+permutation-order n order h =
+    let size : length order ≡ n = permutation-length (from 0 n) order h ∙ length-from 0 n in
+    record {
+      size = size;
+      every = λ k l.
+          let old : In (getD (from 0 n) k 0) (from 0 n) = in-at (from 0 n) k (omega (arith, length-from 0 n)) in
+          let same : getD (from 0 n) k 0 ≡ k = from-at 0 n k l ∙ zero-add k in
+          let (p, b, e) = at-in k order (permutation-in (from 0 n) order h k (subst (λ (x : ℕ). In x (from 0 n)) same old)) in
+          (p, omega arith, e);
+    }
+
+-- the order as it is: a new order too, which keeps every pair
+permutation-same : (l : List ℕ) → Permutation l l
+permutation-same [] = refl
+permutation-same (x ∷ l) = ([], l, refl, permutation-same l)
+
+pub own-order : (n : ℕ) → NewOrder n (from 0 n)
+own-order n = permutation-order n (from 0 n) (permutation-same (from 0 n))
+
+pub own-order-keeps : (n : ℕ) (Meets : ℕ → ℕ → Type 0) → Keeps n (from 0 n) Meets
+own-order-keeps n Meets i j p q earlier j-in p-in q-in at-p at-q m =
+    omega (arith, from-at 0 n p p-in, from-at 0 n q q-in)

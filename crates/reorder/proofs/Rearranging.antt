@@ -9,9 +9,9 @@ use lib.ListN.{length, getD, length-append, length-map}
 use lib.Seq.{take-at, drop-at}
 use Rattle.reorder.specs.Result.{Result, done, refused, andThen}
 use Rattle.reorder.specs.Order.{NewOrder, Keeps}
-use Rattle.reorder.specs.Row.{execAll, footprintAt}
 use Rattle.reorder.specs.Run.{Reading, finished, run}
-use Rattle.reorder.specs.Block.{piecesUpTo, piecesOf, inOrder, rearranged, onBytes, footprintInCode}
+use Rattle.reorder.specs.Block.{piecesUpTo, piecesOf, inOrder, rearranged}
+use Rattle.reorder.proofs.Rows.{execAll, footprintAt, onBytes, footprintInCode}
 use Rattle.reorder.proofs.Permutation.{Permutation, from, order-permutation, order-below}
 use Rattle.reorder.proofs.Reordering.{Swap, reordered}
 use Rattle.reorder.proofs.Cutting.{LocalReader, Whole, AllWhole, read-front, cut, joined}
@@ -38,7 +38,7 @@ map-from f (x ∷ l) m h =
     (map-from f l (suc m) (λ k b. ap f (suc-add m k ∙ sym (add-suc m k)) ∙ h (suc k) (omega arith)))
 
 module _ {I : Type 0} (read : List ℕ → Result (Reading I)) where
-  whole-at : (pieces : List (List ℕ)) → AllWhole read pieces → (k : ℕ) → k < length pieces → Whole read (getD pieces k [])
+  pub whole-at : (pieces : List (List ℕ)) → AllWhole read pieces → (k : ℕ) → k < length pieces → Whole read (getD pieces k [])
   whole-at [] w k l = absurd (omega arith)
   whole-at (piece ∷ pieces) w zero l = w .0
   whole-at (piece ∷ pieces) w (suc k) l = whole-at pieces (w .1) k (omega arith)
@@ -70,8 +70,19 @@ module _ {I : Type 0} (read : List ℕ → Result (Reading I)) where
     no-more (piece ∷ pieces) ((r, er, z), w) =
         simp length-append (omega (arith, reader .some-bytes piece r er, no-more pieces w))
 
-    pieces-found : (pieces : List (List ℕ)) → AllWhole read pieces → piecesOf read (flatten pieces) ≡ pieces
+    pub pieces-found : (pieces : List (List ℕ)) → AllWhole read pieces → piecesOf read (flatten pieces) ≡ pieces
     pieces-found pieces w = found-up-to pieces (length (flatten pieces)) w (no-more pieces w)
+
+    -- the order as it is gives the block back
+    pub own-order-same : {S : Type 0} (exec : I → S → Result S) (code : List ℕ) (budget end total : ℕ) (s t : S) → run read exec budget code s ≡ finished end total t
+        → rearranged read code (from 0 total) ≡ code
+    own-order-same exec code budget end total s t h =
+        let (pieces, e, w, x, c, b, p) = cut read exec reader budget code 0 0 s end total t (omega arith) h in
+        let cuts : piecesOf read code ≡ pieces = ap (piecesOf read) e ∙ pieces-found pieces w in
+        let count : total ≡ length pieces = c ∙ zero-add (length pieces) in
+        ap₂ (λ (ps : List (List ℕ)) (n : ℕ). inOrder ps (from 0 n)) cuts count
+        ∙ ap flatten (map-from (λ k. getD pieces k []) pieces 0 (λ k l. ap (λ (n : ℕ). getD pieces n []) (zero-add k)))
+        ∙ sym e
 
     module _ {S F : Type 0} (exec : I → S → Result S) (footprint : I → S → Result F) (Meets : Result F → Result F → Type 0)
         (swap : Swap S I (Result F) exec footprint Meets) where

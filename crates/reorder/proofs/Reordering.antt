@@ -9,7 +9,7 @@ use native.Mathlib.Omega.{arith}
 use lib.ListN.{length, getD}
 use Rattle.reorder.specs.Result.{Result, done, refused, andThen, caseOf}
 use Rattle.reorder.specs.Order.{NewOrder, Keeps}
-use Rattle.reorder.specs.Row.{execAll, before, footprintAt}
+use Rattle.reorder.proofs.Rows.{execAll, before, footprintAt}
 use Rattle.reorder.proofs.Membership.{in-at, at-in}
 use Rattle.reorder.proofs.Permutation.{Ascending, Permutation, from, ascending-before, ascending-without, ascending-from, permutation-in, order-permutation, order-below}
 

@@ -2,8 +2,7 @@
 use mathlib.Core.List.{List, [], _∷_, map, flatten}
 use Prim.Native.Nat.{ℕ, zero, suc}
 use lib.ListN.{length, getD, take, drop}
-use Rattle.reorder.specs.Result.{Result, andThen, caseOf}
-use Rattle.reorder.specs.Row.{footprintAt}
+use Rattle.reorder.specs.Result.{Result, caseOf}
 use Rattle.reorder.specs.Run.{Reading}
 
 -- the pieces with these numbers, one after the other
@@ -24,12 +23,3 @@ module _ {I : Type 0} (read : List ℕ → Result (Reading I)) where
   -- the block whose instructions stand in the new order
   abbrev pub rearranged : List ℕ → List ℕ → List ℕ
   rearranged code order = inOrder (piecesOf code) order
-
-  -- what is done with an instruction, done with its bytes
-  abbrev pub onBytes : {S A : Type 0} → (I → S → Result A) → List ℕ → S → Result A
-  onBytes act bytes s = andThen (read bytes) (λ found. act (found .instruction) s)
-
-  -- the footprint of instruction k of the code, in the state before it
-  abbrev pub footprintInCode : {S F : Type 0} → (I → S → Result S) → (I → S → Result F) → List ℕ → S → ℕ → Result F
-  footprintInCode exec footprint code s k =
-      footprintAt (onBytes exec) (onBytes footprint) (piecesOf code) s [] k

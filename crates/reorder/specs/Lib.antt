@@ -1,7 +1,6 @@
--- The definitions: a result, an order, a row of instructions, a plan, a footprint, a run over code bytes, a block.
+-- The definitions: a result, an order, a plan, a footprint, a run over code bytes, a block.
 pub mod Result
 pub mod Order
-pub mod Row
 pub mod Plan
 pub mod Footprint
 pub mod Run

@@ -1,8 +1,10 @@
--- A row of instructions, executed one after the other, over any state.
+-- A row of instructions, executed one after the other, over any state; and a row of the instructions' own bytes.
 use mathlib.Core.List.{List, [], _∷_}
 use Prim.Native.Nat.{ℕ, zero, suc}
 use lib.ListN.{getD}
 use Rattle.reorder.specs.Result.{Result, done, andThen, caseOf}
+use Rattle.reorder.specs.Run.{Reading}
+use Rattle.reorder.specs.Block.{piecesOf}
 
 module _ {S I : Type 0} (exec : I → S → Result S) where
   -- up to the first that is refused
@@ -23,3 +25,13 @@ module _ {S I : Type 0} (exec : I → S → Result S) where
   -- the footprint of instruction k of the row, in the state before it (`past` stands for those past the row's end)
   abbrev pub footprintAt : {F : Type 0} → (I → S → F) → List I → S → I → ℕ → F
   footprintAt footprint row s past k = footprint (getD row k past) (before row k s)
+
+module _ {I : Type 0} (read : List ℕ → Result (Reading I)) where
+  -- what is done with an instruction, done with its bytes
+  abbrev pub onBytes : {S A : Type 0} → (I → S → Result A) → List ℕ → S → Result A
+  onBytes act bytes s = andThen (read bytes) (λ found. act (found .instruction) s)
+
+  -- the footprint of piece k of the code, in the state before it
+  abbrev pub footprintInCode : {S F : Type 0} → (I → S → Result S) → (I → S → Result F) → List ℕ → S → ℕ → Result F
+  footprintInCode exec footprint code s k =
+      footprintAt (onBytes exec) (onBytes footprint) (piecesOf read code) s [] k

@@ -1,0 +1,60 @@
+-- The footprint of the step at a position, with nothing assumed of it: its ranges say which bytes it reads and writes, and the program's test of
+-- two is true exactly where they meet.
+use mathlib.Core.Path.{_≡_, subst}
+use mathlib.Core.Logic.{_↔_}
+use mathlib.Core.Bool.{true}
+use mathlib.Core.List.{List, List·Memᴰ as In}
+use Prim.Native.Nat.{ℕ, _+_, _≤_, _<_}
+use Rattle.reorder.specs.Result.{Result, done, refused, andThen}
+use Rattle.reorder.specs.Footprint as places
+use Rattle.reorder.specs.Run.{Reading, Answer, finished, spent, stopped, reached}
+use Rattle.codec.specs.declared.Instruction.{Instruction}
+use Rattle.manual.specs.declared.Kind.{Kind}
+use Rattle.manual.specs.State.{State}
+use Rattle.manual.specs.Places.{Place, byte}
+use Rattle.manual.specs.Instructions.{footprint}
+use Rattle.manual.specs.Steps.{instructionAt}
+use Rattle.manual.specs.Runs.{runOf}
+use Rattle.manual.specs.Footprints.{footprintAt, footprintInRun, Meets}
+use Rattle.machine.specs.declared.Places.{Places}
+use Rattle.machine.specs.Prints.{setOf, print, meet}
+use Rattle.machine.proofs.Ranges.{OneRange, RangedPrint, ranged}
+use Rattle.machine.proofs.Printing.{byte-printed}
+use Rattle.machine.proofs.Meeting.{meet-exactly}
+
+ranged-reading : (o : Result (Reading Instruction)) (s : State) → RangedPrint (andThen o (λ r. footprint (r .instruction) s))
+ranged-reading (done r) s = ranged s (r .instruction)
+ranged-reading (refused n) s = tt
+
+ranged-at : (code : List ℕ) (at : ℕ) (s : State) → RangedPrint (footprintAt code at s)
+unfolding footprintAt
+ranged-at code at s = ranged-reading (instructionAt code at s) s
+
+-- a byte lies in the range of these places
+abbrev pub Covers : Places → ℕ → Type 0
+Covers p a = (p .start ≤ a) × (a < p .start + p .length)
+
+module _ (code : List ℕ) (at : ℕ) (s : State) (f : places.Footprint Place Kind) (e : footprintAt code at s ≡ done f) where
+  one-range : OneRange f
+  one-range = subst RangedPrint e (ranged-at code at s)
+
+  -- the ranges of what is read and of what is written cover the bytes that are, and no other
+  pub reads-bytes : (a : ℕ) → Covers (print f .reads) a ↔ In (byte a) (f .reads)
+  reads-bytes a = byte-printed a (f .reads) (one-range .reads)
+
+  pub writes-bytes : (a : ℕ) → Covers (print f .writes) a ↔ In (byte a) (f .writes)
+  writes-bytes a = byte-printed a (f .writes) (one-range .writes)
+
+-- the footprints of two steps, wherever they stand
+pub meet-at : (code code′ : List ℕ) (at at′ : ℕ) (s s′ : State) (f g : places.Footprint Place Kind)
+    → footprintAt code at s ≡ done f → footprintAt code′ at′ s′ ≡ done g → (meet (print f) (print g) ≡ true) ↔ Meets (done f) (done g)
+meet-at code code′ at at′ s s′ f g ef eg = meet-exactly f g (one-range code at s f ef) (one-range code′ at′ s′ g eg)
+
+-- and of the step that a run has come to
+pub ranged-run : (code : List ℕ) (start : State) (k : ℕ) → RangedPrint (footprintInRun code start k)
+ranged-run code start k = go (runOf code k start)
+  where
+    go : (a : Answer State) → RangedPrint (reached (footprintAt code) a)
+    go (finished at count t) = ranged-at code at t
+    go (spent at count t) = ranged-at code at t
+    go (stopped n at count t) = ranged-at code at t

@@ -1,0 +1,104 @@
+-- How a run ends: done at the code's end, spent with its whole budget before it; and a larger budget changes no run that was not spent. By
+-- induction over a run's turns, said once.
+use mathlib.Core.Path.{_≡_, refl, sym, ap, subst}
+use mathlib.Core.List.{List}
+use Prim.Native.Nat.{ℕ, zero, suc, _+_, _≤_}
+use native.Mathlib.Nat.{add-zero}
+use native.Mathlib.Decide.{ℕ-discrete}
+use native.Mathlib.Omega.{arith}
+use borrow.Author.Tests.{eq-eqb, ne-eqb}
+use lib.ListN.{length, drop}
+use Rattle.reorder.specs.Result.{Result, done, refused}
+use Rattle.reorder.specs.Run.{Reading, Answer, finished, spent, stopped, runFrom}
+
+module _ {S I : Type 0} (read : List ℕ → Result (Reading I)) (exec : I → S → Result S) (code : List ℕ) where
+  -- a property of runs (what is left of the budget, the position, the count, the state, the answer) that each way to end has, and that a turn
+  -- hands back from the run after it
+  pub record ByTurns (P : ℕ → ℕ → ℕ → S → Answer S → Type 0) : Type 0 where
+    pub ends : (left at count : ℕ) (s : S) → at ≡ length code → P left at count s (finished at count s)
+    pub spends : (at count : ℕ) (s : S) → ¬ (at ≡ length code) → P zero at count s (spent at count s)
+    pub unread : (left at count n : ℕ) (s : S) → ¬ (at ≡ length code) → read (drop at code) ≡ refused n → P (suc left) at count s (stopped n at count s)
+    pub unexecuted : (left at count n : ℕ) (s : S) (r : Reading I) → ¬ (at ≡ length code) → read (drop at code) ≡ done r → exec (r .instruction) s ≡ refused n
+        → P (suc left) at count s (stopped n at count s)
+    pub turns : (left at count : ℕ) (s t : S) (r : Reading I) (a : Answer S) → ¬ (at ≡ length code) → read (drop at code) ≡ done r → exec (r .instruction) s ≡ done t
+        → P left (at + r .size) (suc count) t a → P (suc left) at count s a
+
+  pub by-turns : (P : ℕ → ℕ → ℕ → S → Answer S → Type 0) → ByTurns P → (left at count : ℕ) (s : S) → P left at count s (runFrom read exec left code at count s)
+  by-turns P h zero at count s = go (ℕ-discrete at (length code))
+    where
+      go : Dec (at ≡ length code) → P zero at count s (runFrom read exec zero code at count s)
+      go (yes e) = simp (eq-eqb _ _ e) (h .ends zero at count s e)
+      go (no e) = simp (ne-eqb _ _ e) (h .spends at count s e)
+  by-turns P h (suc left) at count s = go (ℕ-discrete at (length code)) (by-turns P h left)
+    where
+      Further : Type 0
+      Further = (at count : ℕ) (s : S) → P left at count s (runFrom read exec left code at count s)
+
+      executing : ¬ (at ≡ length code) → Further → (r : Reading I) → read (drop at code) ≡ done r → (o : Result S) → exec (r .instruction) s ≡ o
+          → P (suc left) at count s (runFrom read exec (suc left) code at count s)
+      executing e further r er (refused n) eo = simp (ne-eqb _ _ e, er, eo) (h .unexecuted left at count n s r e er eo)
+      executing e further r er (done t) eo = simp (ne-eqb _ _ e, er, eo) (h .turns left at count s t r _ e er eo (further (at + r .size) (suc count) t))
+
+      reading : ¬ (at ≡ length code) → Further → (o : Result (Reading I)) → read (drop at code) ≡ o → P (suc left) at count s (runFrom read exec (suc left) code at count s)
+      reading e further (refused n) eo = simp (ne-eqb _ _ e, eo) (h .unread left at count n s e eo)
+      reading e further (done r) eo = executing e further r eo (exec (r .instruction) s) refl
+
+      go : Dec (at ≡ length code) → Further → P (suc left) at count s (runFrom read exec (suc left) code at count s)
+      go (yes e) further = simp (eq-eqb _ _ e) (h .ends (suc left) at count s e)
+      go (no e) further = reading e further (read (drop at code)) refl
+
+  -- what an answer says of its position and count, where a run may count so far
+  abbrev pub EndsWell : ℕ → Answer S → Type 0
+  EndsWell most (finished at count t) = at ≡ length code
+  EndsWell most (spent at count t) = (count ≡ most) × ¬ (at ≡ length code)
+  EndsWell most (stopped n at count t) = Unit {0}
+
+  pub ends-well : (left at count : ℕ) (s : S) → EndsWell (count + left) (runFrom read exec left code at count s)
+  ends-well =
+      by-turns (λ left at count s a. EndsWell (count + left) a)
+      (record {
+        ends = λ left at count s e. e;
+        spends = λ at count s e. (sym (add-zero count), e);
+        unread = λ left at count n s e er. tt;
+        unexecuted = λ left at count n s r e er eo. tt;
+        turns = λ left at count s t r a e er eo rest. subst (λ (most : ℕ). EndsWell most a) (omega arith) rest;
+      })
+
+  -- it was not spent
+  abbrev pub Ended : Answer S → Type 0
+  Ended (finished at count t) = Unit {0}
+  Ended (spent at count t) = ⊥
+  Ended (stopped n at count t) = Unit {0}
+
+  -- with more left of the budget the answer is the same
+  abbrev Stays : ℕ → ℕ → ℕ → S → Answer S → Type 0
+  Stays left at count s a = (more : ℕ) → left ≤ more → Ended a → runFrom read exec more code at count s ≡ a
+
+  pub ended-stays : (left at count : ℕ) (s : S) → Stays left at count s (runFrom read exec left code at count s)
+  ended-stays =
+      by-turns Stays
+      (record {
+        ends = at-end;
+        spends = λ at count s e more b ended. absurd ended;
+        unread = not-read;
+        unexecuted = not-executed;
+        turns = further;
+      })
+    where
+      at-end : (left at count : ℕ) (s : S) → at ≡ length code → Stays left at count s (finished at count s)
+      at-end left at count s e zero b ended = simp (eq-eqb _ _ e)
+      at-end left at count s e (suc more) b ended = simp (eq-eqb _ _ e)
+
+      not-read : (left at count n : ℕ) (s : S) → ¬ (at ≡ length code) → read (drop at code) ≡ refused n → Stays (suc left) at count s (stopped n at count s)
+      not-read left at count n s e er zero b ended = absurd (omega arith)
+      not-read left at count n s e er (suc more) b ended = simp (ne-eqb _ _ e, er)
+
+      not-executed : (left at count n : ℕ) (s : S) (r : Reading I) → ¬ (at ≡ length code) → read (drop at code) ≡ done r → exec (r .instruction) s ≡ refused n
+          → Stays (suc left) at count s (stopped n at count s)
+      not-executed left at count n s r e er eo zero b ended = absurd (omega arith)
+      not-executed left at count n s r e er eo (suc more) b ended = simp (ne-eqb _ _ e, er, eo)
+
+      further : (left at count : ℕ) (s t : S) (r : Reading I) (a : Answer S) → ¬ (at ≡ length code) → read (drop at code) ≡ done r → exec (r .instruction) s ≡ done t
+          → Stays left (at + r .size) (suc count) t a → Stays (suc left) at count s a
+      further left at count s t r a e er eo rest zero b ended = absurd (omega arith)
+      further left at count s t r a e er eo rest (suc more) b ended = simp (ne-eqb _ _ e, er, eo) (rest more (omega arith) ended)
