@@ -73,14 +73,15 @@ run-back end.Done at count k m = refl
 run-back end.Spent at count k m = refl
 run-back (end.Refused n) at count k m = refl
 
-pub run-one : (κs : Lfts 2) (a : Dens κs run-kinds.ps) (r₁ r₂ : resT run-kinds.r κs .Denot) (s₁ s₂ : AtExit (endedOf 2 run-kinds.ps run-kinds.r) κs)
-    → run-reads.Post κs a r₁ s₁ → run-reads.Post κs a r₂ s₂ → (r₁ ≡ r₂) × (now (s₁ .1 .1 .0) ≡ now (s₂ .1 .1 .0))
-run-one κs a r₁ r₂ s₁ s₂ p q =
-    let m₁ = now (s₁ .1 .1 .0) in
-    let m₂ = now (s₂ .1 .1 .0) in
-    let e : paperOfRun r₁ m₁ ≡ paperOfRun r₂ m₂ = p ∙ sym q in
+-- the paper's answer of a run gives back what the run handed back, and the memory
+pub run-given : (r₁ r₂ : Ran) (m₁ m₂ : List ℕ) → paperOfRun r₁ m₁ ≡ paperOfRun r₂ m₂ → (r₁ ≡ r₂) × (m₁ ≡ m₂)
+run-given r₁ r₂ m₁ m₂ e =
     let b = sym (run-back (r₁ .end) (r₁ .at) (r₁ .count) (r₁ .machine) m₁) ∙ ap runBack e ∙ run-back (r₂ .end) (r₂ .at) (r₂ .count) (r₂ .machine) m₂ in
     (ap (λ (x : After Ran). x .answer) b, ap (λ (x : After Ran). x .memory) b)
+
+pub run-one : (κs : Lfts 2) (a : Dens κs run-kinds.ps) (r₁ r₂ : resT run-kinds.r κs .Denot) (s₁ s₂ : AtExit (endedOf 2 run-kinds.ps run-kinds.r) κs)
+    → run-reads.Post κs a r₁ s₁ → run-reads.Post κs a r₂ s₂ → (r₁ ≡ r₂) × (now (s₁ .1 .1 .0) ≡ now (s₂ .1 .1 .0))
+run-one κs a r₁ r₂ s₁ s₂ p q = run-given r₁ r₂ (now (s₁ .1 .1 .0)) (now (s₂ .1 .1 .0)) (p ∙ sym q)
 
 printed-one : (x y : Printed) → paperOfFootprint x ≡ paperOfFootprint y → x ≡ y
 printed-one (printed.Of f) (printed.Of g) e = cc

@@ -8,6 +8,8 @@ pub mod Positions
 pub mod Tested
 pub mod Pairs
 pub mod Allowed
+pub mod Calls
+pub mod Program
 pub mod Addressing
 pub mod Shifting
 pub mod Testing

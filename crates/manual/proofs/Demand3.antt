@@ -1,18 +1,19 @@
 -- Demand 3, from the reordering theorem: the machine obeys the laws of places, and reading is local.
-use mathlib.Core.Path.{_≡_, refl, sym, ap, subst, subst₂, _∙_}
+use mathlib.Core.Path.{_≡_, refl, sym, ap, ap₂, subst, subst₂, _∙_}
 use mathlib.Core.Bool.{Bool, true, false, cond, false≢true}
-use mathlib.Core.List.{List}
-use Prim.Native.Nat.{ℕ, _<_}
+use mathlib.Core.List.{List, [], _∷_, map, flatten, List·Memᴰ as In, List·Memᴰ·head as here, List·Memᴰ·tail as later}
+use Prim.Native.Nat.{ℕ, suc, _+_, _-_, _<_}
 use native.Mathlib.Omega.{arith}
 use lib.Dec.{ltb}
-use lib.ListN.{length}
+use lib.ListN.{length, getD, take, drop}
 use Rattle.reorder.specs.Result.{Result, andThen}
 use Rattle.reorder.specs.Order.{NewOrder, Keeps}
 use Rattle.reorder.specs.Footprint.{Footprint}
 use Rattle.reorder.specs.Run.{Answer, finished, spent, stopped, reached, run}
-use Rattle.reorder.specs.Block.{rearranged}
+use Rattle.reorder.specs.Block.{piecesOf, rearranged}
 use Rattle.reorder.proofs.Reordering.{Swap}
 use Rattle.reorder.proofs.Swapping.{swap}
+use Rattle.reorder.proofs.Permutation.{order-below}
 use Rattle.reorder.proofs.Rows.{footprintInCode}
 use Rattle.reorder.proofs.Rearranging.{reordered-block}
 use Rattle.reorder.proofs.Along.{Comes, comes-to}
@@ -44,6 +45,19 @@ passed : (t : Bool) (n : ℕ) (s : State) (rest : Answer State) (end total : ℕ
 passed true n s rest end total final h = absurd (false≢true (cc))
 passed false n s rest end total final h = (refl, h)
 
+-- where a run of k instructions comes to, and the part of a code from one position to another
+
+abbrev pub positionInRun : List ℕ → State → ℕ → ℕ
+positionInRun code start k = reached (λ at t. at) (runOf code k start)
+
+abbrev pub part : List ℕ → ℕ → ℕ → List ℕ
+part code from to = take (to - from) (drop from code)
+
+-- functions that agree on a list
+pub map-alike : (f g : ℕ → List ℕ) (ks : List ℕ) → ((k : ℕ) → In k ks → f k ≡ g k) → map f ks ≡ map g ks
+map-alike f g [] h = refl
+map-alike f g (k ∷ ks) h = ap₂ (λ (x : List ℕ) (xs : List (List ℕ)). x ∷ xs) (h k (here refl)) (map-alike f g ks (λ j m. h j (later m)))
+
 -- Of a run that finishes
 
 module _ (code : List ℕ) (budget end total : ℕ) (start final : State) (h : runOf code budget start ≡ finished end total final) where
@@ -74,6 +88,22 @@ module _ (code : List ℕ) (budget end total : ℕ) (start final : State) (h : r
       ap (reached (footprintAt code)) (ran-to k b)
       ∙ ap (λ o. andThen o (λ r. footprint (r .instruction) (c .state))) (instruction-here code (c .at) (c .state) still-fits code-fits ∙ c .stands)
       ∙ sym (c .print)
+
+  -- instruction k has the bytes from where a run of k instructions comes to, to where the next one does
+  part-along : (k : ℕ) → k < total → getD (piecesOf read code) k [] ≡ part code (positionInRun code start k) (positionInRun code start (suc k))
+  unfolding runOf
+  part-along k b =
+      let (memory-fits, code-fits, ran) = fitting in
+      let c = comes k b in
+      let here : positionInRun code start k ≡ c .at = ap (reached (λ at t. at)) (ran-to k b) in
+      let there : positionInRun code start (suc k) ≡ c .at + c .found .size = simp (memory-fits, code-fits) (c .next) in
+      let size : c .found .size ≡ positionInRun code start (suc k) - positionInRun code start k = omega arith in
+      c .piece ∙ ap₂ (λ (n at : ℕ). take n (drop at code)) size (sym here)
+
+  -- so the block in a new order is these parts in that order
+  pub rearranged-parts : (order : List ℕ) → NewOrder total order
+      → rearranged read code order ≡ flatten (map (λ k. part code (positionInRun code start k) (positionInRun code start (suc k))) order)
+  rearranged-parts order new = ap flatten (map-alike _ _ order (λ k m. part-along k (order-below total order new k m)))
 
 -- "Take a straight block that runs to its end from some starting state and memory. Put its instructions in any other order that keeps, for each
 -- pair whose footprints meet in that run, the earlier one earlier. From the same state and memory, with the same budget, the new block also runs

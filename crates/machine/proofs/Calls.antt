@@ -1,0 +1,74 @@
+-- Calls of the program's functions: what was handed in, what was handed back and what is then in the lent memory, where the contract was met.
+use mathlib.Core.Path.{_≡_, sym, ap, ap₂, _∙_}
+use mathlib.Core.Bool.{Bool}
+use mathlib.Core.List.{List}
+use Prim.Native.Nat.{ℕ}
+use contract.Lifetimes.{Lfts}
+use borrow.Fn.Kinds.{Dens, endedOf}
+use denote.Triple.Clauses.{AtExit}
+use denote.Ref.{now}
+use Rattle.manual.specs.Runs.{runOf}
+use Rattle.machine.specs.declared.Machine.{Machine}
+use Rattle.machine.specs.declared.Footprint.{Footprint}
+use Rattle.machine.specs.declared.Printed.{Printed}
+use Rattle.machine.specs.declared.Ran.{Ran}
+use Rattle.machine.specs.State.{stateOf}
+use Rattle.machine.specs.Runs.{paperOfRun}
+use Rattle.machine.specs.Prints.{printAt, paperOfFootprint, meet}
+use Rattle.machine.proofs.Machine.run.Reads as run-reads
+use Rattle.machine.proofs.Machine.run.Kinds as run-kinds
+use Rattle.machine.proofs.Machine.footprint.Reads as footprint-reads
+use Rattle.machine.proofs.Machine.footprint.Kinds as footprint-kinds
+use Rattle.machine.proofs.meetings.meets.Reads as meets-reads
+use Rattle.machine.proofs.meetings.meets.Kinds as meets-kinds
+
+-- machine.run(code, memory, budget) handed back `answer`, and left `after` in the memory
+pub record RunCall (machine : Machine) (code memory : List ℕ) (budget : ℕ) (answer : Ran) (after : List ℕ) : Type 1 where
+  pub κs : Lfts 2
+  pub given : Dens κs run-kinds.ps
+  pub exit : AtExit (endedOf 2 run-kinds.ps run-kinds.r) κs
+  pub met : run-reads.Post κs given answer exit
+  pub with-machine : given .0 ≡ machine
+  pub with-code : now (given .1 .0) ≡ code
+  pub with-memory : now (given .1 .1 .0) ≡ memory
+  pub with-budget : given .1 .1 .1 .0 ≡ budget
+  pub left : now (exit .1 .1 .0) ≡ after
+
+-- machine.footprint(code, at, memory) handed back `answer`
+pub record FootprintCall (machine : Machine) (code : List ℕ) (at : ℕ) (memory : List ℕ) (answer : Printed) : Type 1 where
+  pub κs : Lfts 2
+  pub given : Dens κs footprint-kinds.ps
+  pub exit : AtExit (endedOf 2 footprint-kinds.ps footprint-kinds.r) κs
+  pub met : footprint-reads.Post κs given answer exit
+  pub with-machine : given .0 ≡ machine
+  pub with-code : now (given .1 .0) ≡ code
+  pub with-position : given .1 .1 .0 ≡ at
+  pub with-memory : now (given .1 .1 .1 .0) ≡ memory
+
+-- meets(first, second) handed back `answer`
+pub record MeetsCall (first second : Footprint) (answer : Bool) : Type 1 where
+  pub κs : Lfts 0
+  pub given : Dens κs meets-kinds.ps
+  pub exit : AtExit (endedOf 0 meets-kinds.ps meets-kinds.r) κs
+  pub met : meets-reads.Post κs given answer exit
+  pub with-first : given .0 ≡ first
+  pub with-second : given .1 .0 ≡ second
+
+-- what each contract says of its call
+
+pub run-says : (machine : Machine) (code memory : List ℕ) (budget : ℕ) (answer : Ran) (after : List ℕ) → RunCall machine code memory budget answer after
+    → paperOfRun answer after ≡ runOf code budget (stateOf machine memory)
+run-says machine code memory budget answer after c =
+    ap (paperOfRun answer) (sym (c .left)) ∙ c .met
+    ∙ ap₂ (λ (x : List ℕ) (n : ℕ). runOf x n (stateOf (c .given .0) (now (c .given .1 .1 .0)))) (c .with-code) (c .with-budget)
+    ∙ ap₂ (λ (m : Machine) (x : List ℕ). runOf code budget (stateOf m x)) (c .with-machine) (c .with-memory)
+
+pub footprint-says : (machine : Machine) (code : List ℕ) (at : ℕ) (memory : List ℕ) (answer : Printed) → FootprintCall machine code at memory answer
+    → paperOfFootprint answer ≡ printAt code at (stateOf machine memory)
+footprint-says machine code at memory answer c =
+    c .met
+    ∙ ap₂ (λ (x : List ℕ) (n : ℕ). printAt x n (stateOf (c .given .0) (now (c .given .1 .1 .1 .0)))) (c .with-code) (c .with-position)
+    ∙ ap₂ (λ (m : Machine) (x : List ℕ). printAt code at (stateOf m x)) (c .with-machine) (c .with-memory)
+
+pub meets-says : (first second : Footprint) (answer : Bool) → MeetsCall first second answer → answer ≡ meet first second
+meets-says first second answer c = c .met ∙ ap₂ meet (c .with-first) (c .with-second)

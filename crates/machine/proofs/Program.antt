@@ -1,0 +1,105 @@
+-- Demand 3 of the program itself: over calls of Machine::run, Machine::footprint and meets, by what they hand back.
+use mathlib.Core.Path.{_≡_, refl, sym, ap, ap₂, _∙_, subst}
+use mathlib.Core.Bool.{Bool, true, false≢true}
+use mathlib.Core.List.{List, map, flatten}
+use Prim.Native.Nat.{ℕ, suc, _≤_, _<_}
+use native.Mathlib.Omega.{arith}
+use Rattle.reorder.specs.Result.{Result, done, refused, mapResult}
+use Rattle.reorder.specs.Order.{NewOrder, Keeps}
+use Rattle.reorder.specs.Footprint as places
+use Rattle.reorder.specs.Run.{Answer, finished, reached}
+use Rattle.reorder.specs.Block.{rearranged}
+use Rattle.reorder.proofs.Permutation.{order-below}
+use Rattle.manual.specs.declared.Kind.{Kind}
+use Rattle.manual.specs.State.{State}
+use Rattle.manual.specs.Places.{Place}
+use Rattle.manual.specs.Runs.{read, runOf}
+use Rattle.manual.specs.Footprints.{footprintAt, footprintInRun}
+use Rattle.manual.proofs.Demand3.{positionInRun, part, map-alike, rearranged-parts}
+use Rattle.machine.specs.declared.Machine.{Machine}
+use Rattle.machine.specs.declared.Footprint.{Footprint}
+use Rattle.machine.specs.declared.Printed.the-variants.{Of}
+use Rattle.machine.specs.declared.End.{End}
+use Rattle.machine.specs.declared.End.the-variants.{Done, Spent, Refused}
+use Rattle.machine.specs.declared.Ran.{Ran}
+use Rattle.machine.specs.State.{stateOf}
+use Rattle.machine.specs.Runs.{paperOfEnd, paperOfRun}
+use Rattle.machine.specs.Prints.{print, printAt, meet, meetTest}
+use Rattle.machine.proofs.Tested.{demand-3-tested}
+use Rattle.machine.proofs.Allowed.{run-given}
+use Rattle.machine.proofs.Calls.{RunCall, FootprintCall, MeetsCall, run-says, footprint-says, meets-says}
+
+-- what a run has come to, by what it handed back
+reached-paper : {A : Type 0} (ask : ℕ → State → A) (e : End) (at count : ℕ) (s : State) → reached ask (paperOfEnd e at count s) ≡ ask at s
+reached-paper ask Done at count s = refl
+reached-paper ask Spent at count s = refl
+reached-paper ask (Refused n) at count s = refl
+
+-- the program's test of two footprints is its test of what it handed out of them
+handed-test : (x y : Result (places.Footprint Place Kind)) (f g : Footprint) → mapResult print x ≡ done f → mapResult print y ≡ done g → meetTest x y ≡ meet f g
+handed-test (done a) (done b) f g ex ey = let same : print a ≡ f = cc in let same′ : print b ≡ g = cc in ap₂ meet same same′
+handed-test (done a) (refused n) f g ex ey = absurd (false≢true (cc))
+handed-test (refused n) y f g ex ey = absurd (false≢true (cc))
+
+-- What a studio has in hand of a block: a run of it that was done; for each k up to the count, a run of k instructions from the same start; for each
+-- k below it, the footprint handed out at the position, on the machine and over the memory that this run handed back; and for each pair of
+-- them whether they meet.
+pub record Recorded (machine : Machine) (code memory : List ℕ) (budget : ℕ) (whole : Ran) (after : List ℕ) : Type 1 where
+  pub ran : RunCall machine code memory budget whole after
+  pub ended : whole .end ≡ Done
+  pub runs : ℕ → Ran
+  pub memories : ℕ → List ℕ
+  pub run-of : (k : ℕ) → k ≤ whole .count → RunCall machine code memory k (runs k) (memories k)
+  pub prints : ℕ → Footprint
+  pub print-of : (k : ℕ) → k < whole .count → FootprintCall (runs k .machine) code (runs k .at) (memories k) (Of (prints k))
+  pub meeting : ℕ → ℕ → Bool
+  pub meeting-of : (i j : ℕ) → i < j → j < whole .count → MeetsCall (prints i) (prints j) (meeting i j)
+
+module _ (machine : Machine) (code memory : List ℕ) (budget : ℕ) (whole : Ran) (after : List ℕ) (known : Recorded machine code memory budget whole after) where
+  -- the block in a new order: of each instruction the bytes from where the run before it came to, to where the run with it did
+  abbrev pub moved : List ℕ → List ℕ
+  moved order = flatten (map (λ k. part code (known .runs k .at) (known .runs (suc k) .at)) order)
+
+  abbrev start : State
+  start = stateOf machine memory
+
+  finishes : runOf code budget start ≡ finished (whole .at) (whole .count) (stateOf (whole .machine) after)
+  finishes = sym (run-says machine code memory budget whole after (known .ran)) ∙ ap (λ e. paperOfEnd e (whole .at) (whole .count) (stateOf (whole .machine) after)) (known .ended)
+
+  reached-run : {A : Type 0} (ask : ℕ → State → A) (k : ℕ) → k ≤ whole .count
+      → reached ask (runOf code k start) ≡ ask (known .runs k .at) (stateOf (known .runs k .machine) (known .memories k))
+  reached-run ask k b =
+      ap (reached ask) (sym (run-says machine code memory k (known .runs k) (known .memories k) (known .run-of k b)))
+      ∙ reached-paper ask (known .runs k .end) (known .runs k .at) (known .runs k .count) (stateOf (known .runs k .machine) (known .memories k))
+
+  printed : (k : ℕ) → k < whole .count → mapResult print (footprintInRun code start k) ≡ done (known .prints k)
+  unfolding printAt
+  printed k b =
+      ap (mapResult print) (reached-run (footprintAt code) k (omega arith))
+      ∙ sym (footprint-says (known .runs k .machine) code (known .runs k .at) (known .memories k) (Of (known .prints k)) (known .print-of k b))
+
+  same-block : (order : List ℕ) → NewOrder (whole .count) order → rearranged read code order ≡ moved order
+  same-block order new =
+      rearranged-parts code budget (whole .at) (whole .count) start (stateOf (whole .machine) after) finishes order new
+      ∙ ap flatten (map-alike _ _ order (λ k m.
+      let b : k < whole .count = order-below (whole .count) order new k m in
+      ap₂ (part code) (reached-run (λ at t. at) k (omega arith)) (reached-run (λ at t. at) (suc k) (omega arith))))
+
+  -- DEMAND 3: the block in an order that keeps the pairs which `meets` found to meet, run from the same machine and memory with the same
+  -- budget, is done too, with the same count, position, machine and memory
+  pub demand-3-run : (order : List ℕ) (again : Ran) (after′ : List ℕ)
+      → NewOrder (whole .count) order → Keeps (whole .count) order (λ i j. known .meeting i j ≡ true)
+      → RunCall machine (moved order) memory budget again after′
+      → (again ≡ whole) × (after′ ≡ after)
+  demand-3-run order again after′ new keeps call = run-given again whole after′ after
+      (run-says machine (moved order) memory budget again after′ call
+      ∙ ap (λ (c : List ℕ). runOf c budget start) (sym (same-block order new))
+      ∙ demand-3-tested code order budget (whole .at) (whole .count) start (stateOf (whole .machine) after) finishes new kept
+      ∙ sym finishes ∙ sym (run-says machine code memory budget whole after (known .ran)))
+    where
+      kept : Keeps (whole .count) order (λ i j. meetTest (footprintInRun code start i) (footprintInRun code start j) ≡ true)
+      kept i j p q earlier j-in p-in q-in at-p at-q m =
+          keeps i j p q earlier j-in p-in q-in at-p at-q
+          (meets-says (known .prints i) (known .prints j) (known .meeting i j) (known .meeting-of i j earlier j-in)
+          ∙ sym (handed-test (footprintInRun code start i) (footprintInRun code start j) (known .prints i) (known .prints j) (printed i (omega arith)) (printed j j-in))
+          ∙ m)
