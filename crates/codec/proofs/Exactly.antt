@@ -1,6 +1,6 @@
 -- Each refusal of reading is given exactly when there is its reason: what is left of a code is a good instruction, or has a reason, and what has
 -- a reason is refused by its number.
-use Prim.Native.Nat.{ℕ, _+_, _-_, _≤_, _<_}
+use Prim.Native.Nat.{ℕ, zero, suc, _+_, _-_, _≤_, _<_}
 use mathlib.Core.Path.{_≡_, refl, sym, ap, subst, _∙_}
 use mathlib.Core.Logic.{_↔_, inl, inr, _⊎_}
 use mathlib.Core.Bool.{Bool, true, false, cond, false≢true, _&&_, _||_}
@@ -10,7 +10,8 @@ use borrow.Author.Tests.{leb-true, leb-false, le-leb, lt-leb, ltb-true, ltb-fals
 use lib.Dec.{eqb, leb, ltb}
 use lib.ListN.{length, take, drop, replicate, length-append, length-replicate, take-append-drop}
 use lib.Seq.{take-append-le, drop-append-le}
-use Rattle.words.specs.Number.{number}
+use Rattle.words.specs.Number.{AllBytes, number}
+use Rattle.words.proofs.Numbers.{all-none, all-cons, all-append}
 use Rattle.codec.specs.Refusals.{codeTooLong, codeEnds, prefixed, notListed, notAllowed, noBytes, bufferEnds}
 use Rattle.codec.specs.Forms.{Form, absent, emms, shiftWD, shiftQ, storeD, loadD, storeQ, loadQ, usual, isAmong, isAbsent, hasOperand, allows}
 use Rattle.codec.specs.Opcodes.{entryOf, escape, prefixes}
@@ -55,19 +56,24 @@ Ends (field k next) = (v : ℕ) → Ends (next v)
 
 record Completed (r : Reader) (at : ℕ) (s : List ℕ) : Type 0 where
   more : List ℕ
+  bytes : AllBytes more
   instruction : Instruction
   size : ℕ
   found : reads r at (s ++ more) ≡ good instruction size
 
+all-zeros : (n : ℕ) → AllBytes (replicate n 0)
+all-zeros zero = all-none
+all-zeros (suc n) = all-cons 0 (replicate n 0) (omega arith) (all-zeros n)
+
 completed : (r : Reader) → Ends r → (at : ℕ) (s : List ℕ) → Completed r at s
-completed (whole i) e at s = record { more = []; instruction = i; size = at; found = refl }
+completed (whole i) e at s = record { more = []; bytes = all-none; instruction = i; size = at; found = refl }
 completed (refuse n) e at s = absurd e
 completed (byte next) e at [] =
     let c = completed (next 0) (e 0) (at + 1) [] in
-    record { more = 0 ∷ c .more; instruction = c .instruction; size = c .size; found = c .found }
+    record { more = 0 ∷ c .more; bytes = all-cons 0 (c .more) (omega arith) (c .bytes); instruction = c .instruction; size = c .size; found = c .found }
 completed (byte next) e at (b ∷ s) =
     let c = completed (next b) (e b) (at + 1) s in
-    record { more = c .more; instruction = c .instruction; size = c .size; found = c .found }
+    record { more = c .more; bytes = c .bytes; instruction = c .instruction; size = c .size; found = c .found }
 completed (field k next) e at s =
     by (leb k (length s)) refl (λ v rest. completed (next v) (e v) (at + k) rest)
   where
@@ -78,6 +84,7 @@ completed (field k next) e at s =
         let g : k ≤ length (s ++ c .more) = omega (arith, length-append s (c .more)) in
         record {
           more = c .more;
+          bytes = c .bytes;
           instruction = c .instruction;
           size = c .size;
           found = simp (le-leb k (length (s ++ c .more)) g, take-append-le, drop-append-le) (c .found);
@@ -89,6 +96,7 @@ completed (field k next) e at s =
         let full : length (s ++ zeros) ≡ k = omega (arith, length-append s zeros, length-replicate {A = ℕ} (k - length s) 0) in
         record {
           more = zeros ++ c .more;
+          bytes = all-append zeros (c .more) (all-zeros (k - length s)) (c .bytes);
           instruction = c .instruction;
           size = c .size;
           found = rw (← append-assoc) (field-reads k at next (s ++ zeros) (c .more) full ∙ c .found);
@@ -232,15 +240,15 @@ data Due (s : List ℕ) : Type 0 where
   refusal : (n : ℕ) → Reason s n → Due s
 
 -- what can be completed is good, or ends inside
-inside : (s more : List ℕ) (i : Instruction) (n : ℕ) → readPart (s ++ more) ≡ good i n → Due s
-inside s more i n e = by (leb n (length s)) refl
+inside : (s more : List ℕ) (i : Instruction) (n : ℕ) → AllBytes more → readPart (s ++ more) ≡ good i n → Due s
+inside s more i n b e = by (leb n (length s)) refl
   where
     by : (t : Bool) → leb n (length s) ≡ t → Due s
     by true t =
         let h : n ≤ length s = leb-true n (length s) t in
         let again = reading-is-local (s ++ more) i n e .again (drop n s) in
         readable i n (ap readPart (sym (take-append-drop n s)) ∙ (rw take-append-le at again))
-    by false t = refusal codeEnds (three (record { more = more; instruction = i; size = n; found = e; longer = leb-false n (length s) t }))
+    by false t = refusal codeEnds (three (record { more = more; bytes = b; instruction = i; size = n; found = e; longer = leb-false n (length s) t }))
 
 -- a ModRM byte that a form allows: registers, shifted right
 allowed : (form : Form) → allows form 3 2 0 ≡ true
@@ -263,7 +271,7 @@ module _ (second : ℕ) (there : isAbsent (entryOf second .form) ≡ false) wher
   due-bare s bare =
       let form = entryOf second .form in
       let c = completed (immediateReader form escape second noOperand) (immediate-ends form escape second noOperand) 2 s in
-      inside (escape ∷ second ∷ s) (c .more) (c .instruction) (c .size)
+      inside (escape ∷ second ∷ s) (c .more) (c .instruction) (c .size) (c .bytes)
       (reads-no _ _ _ 2 (s ++ c .more) there ∙ reads-no _ _ _ 2 (s ++ c .more) bare ∙ c .found)
 
   -- a ModRM byte that is allowed can be completed
@@ -276,6 +284,7 @@ module _ (second : ℕ) (there : isAbsent (entryOf second .form) ≡ false) wher
         let c = completed (sibReader form escape second modrm) (sib-ends form escape second modrm) 3 s in
         record {
           more = c .more;
+          bytes = c .bytes;
           instruction = c .instruction;
           size = c .size;
           found = reads-no _ _ _ 2 (modrm ∷ s ++ c .more) there
@@ -287,7 +296,7 @@ module _ (second : ℕ) (there : isAbsent (entryOf second .form) ≡ false) wher
     due-modrm : (s : List ℕ) → Due (escape ∷ second ∷ modrm ∷ s)
     due-modrm s =
         let c = modrm-completed s in
-        inside (escape ∷ second ∷ modrm ∷ s) (c .more) (c .instruction) (c .size) (c .found)
+        inside (escape ∷ second ∷ modrm ∷ s) (c .more) (c .instruction) (c .size) (c .bytes) (c .found)
 
   due-listed : (s : List ℕ) → Due (escape ∷ second ∷ s)
   due-listed s = by (hasOperand (entryOf second .form)) refl s
@@ -301,12 +310,15 @@ module _ (second : ℕ) (there : isAbsent (entryOf second .form) ≡ false) wher
       by false bare s = due-bare s bare
       by true has [] =
           let c = modrm-completed 0xd0 has (allowed (entryOf second .form)) [] in
-          inside (escape ∷ second ∷ []) (0xd0 ∷ c .more) (c .instruction) (c .size) (c .found)
+          inside (escape ∷ second ∷ []) (0xd0 ∷ c .more) (c .instruction) (c .size) (all-cons 0xd0 (c .more) (omega arith) (c .bytes)) (c .found)
       by true has (modrm ∷ s) = tested modrm s has (allows (entryOf second .form) (upper modrm) (middle modrm) (lower modrm)) refl
+
+emms-byte : AllBytes (0x77 ∷ [])
+emms-byte = all-cons 0x77 [] (omega arith) all-none
 
 due : (s : List ℕ) → Due s
 unfolding entryOf instructionReader secondReader formReader immediateReader
-due [] = inside [] (escape ∷ 0x77 ∷ []) _ 2 refl
+due [] = inside [] (escape ∷ 0x77 ∷ []) _ 2 (all-cons escape (0x77 ∷ []) (omega arith) emms-byte) refl
 due (first ∷ s) = by (eqb first escape) refl s
   where
     prefix : eqb first escape ≡ false → (s : List ℕ) (t : Bool) → isAmong first prefixes ≡ t → Due (first ∷ s)
@@ -319,7 +331,7 @@ due (first ∷ s) = by (eqb first escape) refl s
 
     by : (t : Bool) → eqb first escape ≡ t → (s : List ℕ) → Due (first ∷ s)
     by false t s = prefix t s (isAmong first prefixes) refl
-    by true t [] = rw (eqb-true first escape t) (inside (escape ∷ []) (0x77 ∷ []) _ 2 refl)
+    by true t [] = rw (eqb-true first escape t) (inside (escape ∷ []) (0x77 ∷ []) _ 2 emms-byte refl)
     by true t (second ∷ s) = rw (eqb-true first escape t) (listed second s (isAbsent (entryOf second .form)) refl)
 
 -- A number is given exactly when there is its reason.

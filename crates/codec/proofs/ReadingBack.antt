@@ -7,7 +7,7 @@ use native.Mathlib.Omega.{arith}
 use native.Mathlib.Nat.{add-zero}
 use borrow.Author.Tests.{eq-eqb}
 use lib.ListN.{length, length-append}
-use Rattle.words.specs.Number.{bytes}
+use Rattle.words.specs.Number.{AllBytes, bytes}
 use Rattle.codec.specs.Forms.{Form, hasOperand, allows, immediateSize}
 use Rattle.codec.specs.Opcodes.{entryOf, escape}
 use Rattle.codec.specs.Operands.{upper, middle, lower, joined, hasSib, displacementSize, operandOf, noOperand}
@@ -19,7 +19,7 @@ use Rattle.codec.specs.declared.Operand.{Operand}
 use Rattle.codec.specs.declared.Instruction.{Instruction}
 use Rattle.codec.specs.Answers.{good}
 use Rattle.words.proofs.Laws.{and-both}
-use Rattle.words.proofs.Numbers.{AllBytes, all-cons, all-append, all-none, all-bytes, length-bytes, number-fits}
+use Rattle.words.proofs.Numbers.{all-cons, all-append, all-none, all-bytes, length-bytes, number-fits}
 use Rattle.codec.proofs.Joined.{upper-joined, middle-joined, lower-joined, joined-lt}
 use Rattle.codec.proofs.Readers.{reads-yes, reads-no, field-reads}
 use Rattle.codec.proofs.Facts.{Fit, fit, sib-there, sib-absent, zero-is, Parts, bytewise}

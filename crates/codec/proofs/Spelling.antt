@@ -8,7 +8,7 @@ use borrow.Author.Tests.{eqb-true}
 use lib.Dec.{eqb}
 use lib.ListN.{take, drop}
 use lib.Seq.{take-add}
-use Rattle.words.specs.Number.{number, bytes}
+use Rattle.words.specs.Number.{AllBytes, number, bytes}
 use Rattle.codec.specs.Forms.{Form, isAbsent, hasOperand, allows, immediateSize}
 use Rattle.codec.specs.Opcodes.{entryOf, escape}
 use Rattle.codec.specs.Operands.{upper, middle, lower, hasSib, displacementSize, operandOf, noOperand}
@@ -19,7 +19,7 @@ use Rattle.codec.specs.Writes.{sibBytes, displacementBytes, operandBytes
 use Rattle.codec.specs.declared.Operand.{Operand}
 use Rattle.codec.specs.declared.Instruction.{Instruction}
 use Rattle.codec.specs.Answers.{good}
-use Rattle.words.proofs.Numbers.{AllBytes, all-drop, all-tail, bytes-taken, number-taken}
+use Rattle.words.proofs.Numbers.{all-drop, all-tail, bytes-taken, number-taken}
 use Rattle.codec.proofs.Joined.{joined-fields, fields}
 use Rattle.codec.proofs.Readers.{field-read}
 use Rattle.codec.proofs.Facts.{there-sib, absent-sib, fit-true, bytewise-true}

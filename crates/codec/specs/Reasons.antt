@@ -6,6 +6,7 @@ use mathlib.Core.Bool.{true, false}
 use mathlib.Core.List.{List, [], _∷_, _++_}
 use lib.Dec.{eqb}
 use lib.ListN.{length, drop}
+use Rattle.words.specs.Number.{AllBytes}
 use Rattle.codec.specs.Refusals.{codeTooLong, codeEnds, prefixed, notListed, notAllowed}
 use Rattle.codec.specs.Forms.{isAmong, isAbsent}
 use Rattle.codec.specs.Opcodes.{entryOf, escape, prefixes}
@@ -21,6 +22,7 @@ Starts front s = (rest : List ℕ) × (s ≡ front ++ rest)
 -- 3: the code ends inside the instruction: some bytes more, and an instruction that is longer than what is left stands there
 pub record EndsInside (s : List ℕ) : Type 0 where
   pub more : List ℕ
+  pub bytes : AllBytes more
   pub instruction : Instruction
   pub size : ℕ
   pub found : readPart (s ++ more) ≡ good instruction size

@@ -39,12 +39,12 @@ set-bytes (suc size) a h =
     λ i. record { mmx = mask (no-mmx (suc size) a i); integers = mask (no-integer (suc size) a i); start = a; length = count-bytes (suc size) a i }
 
 -- in memory
-module _ (integers : List ℕ) (w : Operand) (size length a : ℕ) (there : a ≡ address integers (addressOf w)) where
+module _ (integers : List ℕ) (w : Operand) (size room a : ℕ) (there : a ≡ address integers (addressOf w)) where
   abbrev reached : Reach
-  reached = reachOf (memory (addressOf w) size) (tested length size (address integers (addressOf w)))
+  reached = reachOf (memory (addressOf w) size) (tested room size (address integers (addressOf w)))
 
   -- the operand test
-  module _ (t : Bool) (test : t ≡ leb (a + size) length) where
+  module _ (t : Bool) (test : t ≡ leb (a + size) room) where
     pub reach-outside : not t ≡ true → Refused outsideMemory ≡ reached
     reach-outside n = simp (← there, ← test, not-true t n)
 

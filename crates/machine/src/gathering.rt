@@ -90,13 +90,13 @@ pub(crate) fn barred(em: bool, ts: bool, pending: bool) -> u8
 }
 
 // Whether all bytes of an operand are below the memory's length.
-pub(crate) fn lies_inside(length: usize, address: usize, size: usize) -> bool
-    ensures { λ r. ⌜ r ≡ leb (address + size) length ⌝ }
+pub(crate) fn lies_inside(room: usize, address: usize, size: usize) -> bool
+    ensures { λ r. ⌜ r ≡ leb (address + size) room ⌝ }
 {
-    if length < size {
+    if room < size {
         return false;
     }
-    address <= length - size
+    address <= room - size
 }
 
 // An instruction whose second operand is in memory.

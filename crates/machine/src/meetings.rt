@@ -7,17 +7,17 @@ ghost use Rattle.manual.specs.Kinds.{kindsMeet};
 ghost use Rattle.machine.specs.Prints.{overlap, share, meet};
 
 // Two ranges of bytes have one in common. No sum is formed, so nothing overflows.
-fn overlaps(start: usize, length: usize, other: usize, count: usize) -> bool
-    ensures { λ r. ⌜ r ≡ overlap start length other count ⌝ }
+fn overlaps(start: usize, size: usize, other: usize, count: usize) -> bool
+    ensures { λ r. ⌜ r ≡ overlap start size other count ⌝ }
 {
-    if length == 0 {
+    if size == 0 {
         return false;
     }
     if count == 0 {
         return false;
     }
     if start <= other {
-        return other - start < length;
+        return other - start < size;
     }
     start - other < count
 }

@@ -61,12 +61,12 @@ pub(crate) fn with_integers(registers: u8, places: Places) -> Places
 }
 
 // An operand in memory: all its bytes must be below the memory's length.
-fn reach_bytes(integers: &[u32; 8], operand: Operand, size: usize, length: usize) -> Reach
+fn reach_bytes(integers: &[u32; 8], operand: Operand, size: usize, room: usize) -> Reach
     requires { ⌜ Registers operand × ((operand .mode ≡ 3 → ⊥) × (0 < size)) ⌝ }
-    ensures { λ r. ⌜ r ≡ reachOf (memory (addressOf operand) size) (tested length size (address (now (integers .entry)) (addressOf operand))) ⌝ }
+    ensures { λ r. ⌜ r ≡ reachOf (memory (addressOf operand) size) (tested room size (address (now (integers .entry)) (addressOf operand))) ⌝ }
 {
     let start = addresses::address_of(integers, operand) as usize;
-    if !gathering::lies_inside(length, start, size) {
+    if !gathering::lies_inside(room, start, size) {
         return Reach::Refused(OUTSIDE_MEMORY);
     }
     let registers = register_masks::address_mask(operand);

@@ -58,7 +58,7 @@ module _ (code : List ℕ) (code-fits : ltb longestCode (length code) ≡ false)
       reads : (z : Found) → readPart (drop at code) ≡ z
           → caseOf (resultOf z) (λ r. refusedWith r at s) (λ r. concluded at (at + r .size) s (execute (r .instruction) s)) ≡ completed next t
           → next ≤ length code
-      reads (found.good i n) r z = let l = reading-is-local (drop at code) i n r in executing n (execute i s) (l .within) (l .some) z
+      reads (found.good i n) r z = let l = reading-is-local (drop at code) i n r in executing n (execute i s) (l .within) (omega (arith, l .two)) z
       reads (found.refused n) r z = absurd (false≢true (cc))
 
 -- the bounds of a run's end, from a start with so large a budget

@@ -2,6 +2,7 @@
 use mathlib.Core.Path.{_≡_, refl}
 use mathlib.Core.Bool.{true, false}
 use mathlib.Core.List.{[], _∷_, flatten, map}
+use native.Mathlib.Omega.{arith}
 use lib.Dec.{T}
 use Rattle.lanes.specs.Lane.{lane, build, register}
 use Rattle.lanes.specs.Signed.{signed, wrap, clamp, clampSigned, clampUnsigned}
@@ -19,7 +20,8 @@ use Rattle.manual.specs.Locations.{rmOf}
 use Rattle.manual.specs.Instructions.{shiftOf, effectAt, execute, footprint}
 use Rattle.manual.specs.Steps.{instructionAt, stepAt}
 use Rattle.manual.specs.Runs.{read, runOf}
-use Rattle.manual.specs.Footprints.{footprintAt}
+use Rattle.manual.specs.Footprints.{footprintAt, Meets}
+use Rattle.manual.proofs.Meeting.{apart}
 use Rattle.manual.proofs.Plates.{start, plates}
 use Rattle.manual.proofs.Edges.{edges}
 use Rattle.manual.proofs.FootprintTable.{here, footprints}
@@ -33,6 +35,8 @@ pub record Computed : Type 0 where
   pub customer : runOf (0x0f ∷ 0xfc ∷ 0xc1 ∷ []) 4096 (start 0xff 2 false) ≡ finished 3 1 (start 1 2 true)
   -- the table of footprints
   pub footprints : map (λ e. footprintAt (e .0) 0 here) footprints ≡ map (λ e. e .1) footprints
+  -- PADDB MM0, MM1 and PADDB MM2, MM3 do not meet
+  pub registers-apart : ¬ Meets (footprintAt (0x0f ∷ 0xfc ∷ 0xc1 ∷ []) 0 here) (footprintAt (0x0f ∷ 0xfc ∷ 0xd3 ∷ []) 0 here)
   -- the example block: its run, and its runs in an allowed and in a forbidden order
   pub block : runOf example.block 4096 example.start ≡ finished 17 5 example.final
   pub allowed : runOf (rearranged read example.block example.allowed) 4096 example.start ≡ finished 17 5 example.final
@@ -46,6 +50,7 @@ computed =
       edges = tt;
       customer = refl;
       footprints = refl;
+      registers-apart = apart 0 1 2 3 (λ e. omega arith) (λ e. omega arith) (λ e. omega arith);
       block = refl;
       allowed = refl;
       forbidden = refl;

@@ -6,7 +6,7 @@ use Prim.Native.Nat.{ℕ, suc, _+_, _-_, _<_}
 use native.Mathlib.Omega.{arith}
 use lib.Dec.{ltb}
 use lib.ListN.{length, getD, take, drop}
-use Rattle.reorder.specs.Result.{Result, andThen}
+use Rattle.reorder.specs.Result.{Result, done, andThen}
 use Rattle.reorder.specs.Order.{NewOrder, Keeps}
 use Rattle.reorder.specs.Footprint.{Footprint}
 use Rattle.reorder.specs.Run.{Answer, finished, spent, stopped, reached, run}
@@ -33,6 +33,7 @@ use Rattle.manual.proofs.Laws.{laws, local}
 use Rattle.manual.proofs.Locality.{local-reader}
 use Rattle.manual.proofs.Turns.{instruction-here}
 use Rattle.manual.proofs.Bounds.{Bounds, Bounded, run-bounded}
+use Rattle.manual.proofs.Uses.{completes-printed}
 
 -- two instructions that don't meet change places
 execute-swap : Swap State Instruction (Result (Footprint Place Kind)) execute footprint Meets
@@ -88,6 +89,14 @@ module _ (code : List ℕ) (budget end total : ℕ) (start final : State) (h : r
       ap (reached (footprintAt code)) (ran-to k b)
       ∙ ap (λ o. andThen o (λ r. footprint (r .instruction) (c .state))) (instruction-here code (c .at) (c .state) still-fits code-fits ∙ c .stands)
       ∙ sym (c .print)
+
+  -- and it has one, since the step there completes
+  pub print-there : (k : ℕ) → k < total → (f : Footprint Place Kind) × (footprintInRun code start k ≡ done f)
+  print-there k b =
+      let c = comes k b in
+      let (t, does) = c .completes in
+      let (f, e) = completes-printed (c .found .instruction) (c .state) t does in
+      (f, print-along k b ∙ c .print ∙ e)
 
   -- instruction k has the bytes from where a run of k instructions comes to, to where the next one does
   part-along : (k : ℕ) → k < total → getD (piecesOf read code) k [] ≡ part code (positionInRun code start k) (positionInRun code start (suc k))

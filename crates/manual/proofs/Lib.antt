@@ -8,6 +8,7 @@ pub mod Refusals
 pub mod Exactly
 pub mod Bounds
 pub mod Demand3
+pub mod Endings
 pub mod Uses
 pub mod Meeting
 pub mod Direct

@@ -1,9 +1,10 @@
--- Reading what is left of a code is local, as the codec's reading is: it takes at least one byte and none past the end, and depends on its
+-- Reading what is left of a code is local, as the codec's reading is: it takes at least two bytes and none past the end, and depends on its
 -- own bytes alone.
 use mathlib.Core.Bool.{false≢true}
 use mathlib.Core.Path.{_≡_, ap}
 use mathlib.Core.List.{List}
 use Prim.Native.Nat.{ℕ}
+use native.Mathlib.Omega.{arith}
 use Rattle.reorder.specs.Result.{done}
 use Rattle.reorder.specs.Run.{Reading}
 use Rattle.reorder.proofs.Cutting.{LocalReader}
@@ -19,7 +20,7 @@ found-of : (x : Found) (r : Reading Instruction) → resultOf x ≡ done r → x
 found-of (found.good i n) r e = cc
 found-of (found.refused n) r e = absurd (false≢true (cc))
 
-local : (bytes : List ℕ) (r : Reading Instruction) → read bytes ≡ done r → Local bytes (r .instruction) (r .size)
+pub local : (bytes : List ℕ) (r : Reading Instruction) → read bytes ≡ done r → Local bytes (r .instruction) (r .size)
 unfolding read
 local bytes r e = reading-is-local bytes (r .instruction) (r .size) (found-of (readPart bytes) r e)
 
@@ -27,6 +28,6 @@ pub local-reader : LocalReader read
 unfolding read
 local-reader =
     record {
-      some-bytes = λ bytes r e. (local bytes r e .some, local bytes r e .within);
+      some-bytes = λ bytes r e. (omega (arith, local bytes r e .two), local bytes r e .within);
       own-bytes = λ bytes tail r e. ap resultOf (local bytes r e .again tail);
     }

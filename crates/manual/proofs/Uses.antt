@@ -2,11 +2,11 @@
 -- from one plan.
 use mathlib.Core.Path.{_≡_, refl, sym, ap, _∙_, subst, subst₂}
 use mathlib.Core.Bool.{Bool, true, false, not, _||_, false≢true}
-use mathlib.Core.List.{List, List·Memᴰ as In}
+use mathlib.Core.List.{List, [], List·Memᴰ as In}
 use Prim.Native.Nat.{ℕ, _+_}
 use Rattle.reorder.specs.Result.{Result, done, refused, caseOf, andThen, mapResult}
-use Rattle.reorder.specs.Plan.{Plan, looks, leaves}
-use Rattle.reorder.specs.Footprint.{Footprint, footprintOf as ofPlan, asked}
+use Rattle.reorder.specs.Plan.{Plan, looks, leaves, perform as performed}
+use Rattle.reorder.specs.Footprint.{Footprint, footprintOf as ofPlan, footprintIn, asked}
 use Rattle.reorder.specs.Run.{Reading}
 use Rattle.reorder.proofs.Swapping.{completes, completed as planned}
 use Rattle.reorder.proofs.Honest.{Alike, asked-reads, honest, untouched}
@@ -19,11 +19,11 @@ use borrow.Author.Tests.{eqb-true}
 use lib.Dec.{eqb}
 use Rattle.manual.specs.declared.Kind.{Kind}
 use Rattle.manual.specs.declared.Kind.the-variants.{Ordinary, Emms}
-use Rattle.manual.specs.State.{State, frozen}
+use Rattle.manual.specs.State.{State, withTag, frozen}
 use Rattle.manual.specs.Places.{Place, look, put}
 use Rattle.manual.specs.Kinds.{marked, KindsMeet}
-use Rattle.manual.specs.Effects.{Effect, placesOfAll, planOn, unlessMarked, via, plan, footprintOf}
-use Rattle.manual.specs.Instructions.{effectBy, effectAt, effectOf, execute, footprint}
+use Rattle.manual.specs.Effects.{Effect, placesOfAll, planOn, unlessMarked, via, plan, perform, footprintOf}
+use Rattle.manual.specs.Instructions.{bare, effectBy, effectAt, effectOf, execute, footprint}
 use Rattle.manual.specs.Steps.{Outcome, completed, refusedWith, concluded, instructionAt, stepAt}
 use Rattle.manual.specs.Footprints.{footprintAt}
 use Rattle.manual.proofs.Laws.{laws, local}
@@ -65,8 +65,15 @@ pub changes-writes : (i : Instruction) (s t : State) (f : Footprint Place Kind) 
 unfolding execute footprint
 changes-writes i s t f e h = untouched look put marked frozen KindsMeet laws via plan (effectOf i) s t f e h
 
+-- where a step completes, there is a footprint
+pub completes-printed : (i : Instruction) (s t : State) → execute i s ≡ done t → (f : Footprint Place Kind) × (footprint i s ≡ done f)
+unfolding execute footprint
+completes-printed i s t e =
+    let (pl, vs, ep, em, et) = planned look put marked via plan (effectOf i) s t e in
+    (ofPlan (via (effectOf i)) pl, simp (ep, em))
+
 -- the tag mark that a kind leaves
-abbrev tagOf : Kind → Bool
+abbrev pub tagOf : Kind → Bool
 tagOf Ordinary = true
 tagOf Emms = false
 
@@ -113,14 +120,49 @@ emms-byte second = by (eqb second 0x77) (numberIs 1 (entryOf second .form)) refl
     by false false e f = refl
     by false true e f = absurd (false≢true (ap (λ (v : Bool). v || false) (sym e) ∙ byte-with (numberIs 1) refl second f))
 
+-- so an instruction is of EMMS's kind exactly where its second byte is 77
+kind-tag : (i : Instruction) → tagOf (effectOf i .kind) ≡ not (eqb (i .second) 0x77)
+unfolding effectAt
+kind-tag i =
+    let entry = entryOf (i .second) in
+    form-tag (entry .form) entry (i .operand) (i .immediate) ∙ ap not (emms-byte (i .second))
+
+-- and its footprint has its kind
+pub printed-kind : (i : Instruction) (s : State) (f : Footprint Place Kind) → footprint i s ≡ done f → tagOf (f .kind) ≡ not (eqb (i .second) 0x77)
+unfolding footprint
+printed-kind i s f h = planning (plan (effectOf i) s) refl h
+  where
+    making : (pl : Plan Place Kind) → plan (effectOf i) s ≡ done pl → (o : Result (List ℕ))
+        → mapResult (λ values. ofPlan (via (effectOf i)) pl) o ≡ done f → tagOf (f .kind) ≡ not (eqb (i .second) 0x77)
+    making pl e (refused n) h = absurd (false≢true (cc))
+    making pl e (done values) h =
+        let same : ofPlan (via (effectOf i)) pl ≡ f = cc in
+        ap (λ (g : Footprint Place Kind). tagOf (g .kind)) (sym same) ∙ ap tagOf (plan-kind (effectOf i) s pl e) ∙ kind-tag i
+
+    planning : (o : Result (Plan Place Kind)) → plan (effectOf i) s ≡ o → footprintIn look (via (effectOf i)) s o ≡ done f
+        → tagOf (f .kind) ≡ not (eqb (i .second) 0x77)
+    planning (refused n) e h = absurd (false≢true (cc))
+    planning (done pl) e h = making pl e (pl .make (looks look s (pl .source))) h
+
 -- "Every completed instruction but EMMS sets it valid; EMMS sets it empty"
 pub tag-after : (i : Instruction) (s t : State) → execute i s ≡ done t → t .valid ≡ not (eqb (i .second) 0x77)
-unfolding execute effectAt
+unfolding execute
 tag-after i s t e =
     let (pl, vs, ep, em, et) = planned look put marked via plan (effectOf i) s t e in
-    let entry = entryOf (i .second) in
-    ap (λ (u : State). u .valid) et ∙ tag-marked (pl .kind) _ ∙ ap tagOf (plan-kind (effectOf i) s pl ep)
-    ∙ form-tag (entry .form) entry (i .operand) (i .immediate) ∙ ap not (emms-byte (i .second))
+    ap (λ (u : State). u .valid) et ∙ tag-marked (pl .kind) _ ∙ ap tagOf (plan-kind (effectOf i) s pl ep) ∙ kind-tag i
+
+-- "EMMS sets it empty and changes nothing else": what it leaves is the state with the tag mark empty, unless a control mark refuses it
+pub emms-leaves : (i : Instruction) (s : State) → i .second ≡ 0x77 → execute i s ≡ unlessMarked (s .em) (s .ts) (s .pending) (done (withTag s false))
+unfolding execute effectAt entryOf
+emms-leaves i s e =
+    ap (λ (second : ℕ). perform (effectAt second (i .operand) (i .immediate)) s) e ∙ marks (s .em) (s .ts) (s .pending)
+  where
+    marks : (em ts pending : Bool)
+        → performed look put marked s (unlessMarked em ts pending (done (planOn (bare Emms) [] []))) ≡ unlessMarked em ts pending (done (withTag s false))
+    marks true ts pending = refl
+    marks false true pending = refl
+    marks false false true = refl
+    marks false false false = refl
 
 -- an outcome and a footprint go together: both there, or both refused by one number
 abbrev pub Together : Outcome → Result (Footprint Place Kind) → Type 0

@@ -44,12 +44,12 @@ abbrev pub bytesFrom : ℕ → ℕ → List Place
 bytesFrom a zero = []
 bytesFrom a (suc size) = byte a ∷ bytesFrom (a + 1) size
 
--- the operand test: all its bytes are below the memory's length
+-- the operand test, in a memory of so many bytes (`room`): all its bytes are below that
 abbrev pub fits : ℕ → ℕ → ℕ → Bool
-fits length size a = leb (a + size) length
+fits room size a = leb (a + size) room
 
 abbrev pub tested : ℕ → ℕ → ℕ → Result (List Place)
-tested length size a = cond (fits length size a) (done (bytesFrom a size)) (refused outsideMemory)
+tested room size a = cond (fits room size a) (done (bytesFrom a size)) (refused outsideMemory)
 
 -- the places of an operand in a state
 abbrev pub placesOf : State → Location → Result (List Place)

@@ -11,7 +11,7 @@ use borrow.Author.Tests.{eq-eqb, ne-eqb, eqb-true, leb-true, le-leb}
 use lib.Dec.{eqb, leb}
 use lib.ListN.{length, getD, drop, length-append}
 use lib.Seq.{getD-drop}
-use Rattle.words.proofs.Numbers.{AllBytes}
+use Rattle.words.specs.Number.{AllBytes}
 use Rattle.words.proofs.Laws.{and-both}
 use Rattle.pagefile.specs.Fields.{Field, written, Ascending, concatenated, MadeOf, held}
 use Rattle.pagefile.specs.Reading.{contentsIn, size, holds, left, wellFormed, contentsOf, marksOf, malformed, wellFormedWith, refusedWith, pageOf}

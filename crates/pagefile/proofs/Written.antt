@@ -8,8 +8,8 @@ use native.Mathlib.Nat.{mod-eq-of-lt}
 use native.Mathlib.Omega.{arith}
 use lib.ListN.{length, getD, drop, length-append, take-append-drop}
 use lib.Seq.{length-take-le, take-append-seam, drop-append-seam}
-use Rattle.words.specs.Number.{bytes}
-use Rattle.words.proofs.Numbers.{AllBytes, number-bytes, bytes-number}
+use Rattle.words.specs.Number.{AllBytes, bytes}
+use Rattle.words.proofs.Numbers.{number-bytes, bytes-number}
 use Rattle.pagefile.specs.Fields.{Field, written, mayHold}
 use Rattle.pagefile.specs.Reading.{lengthIn, contentsIn, size, holds}
 use Rattle.pagefile.proofs.Fronts.{Stands, Missing, standing, front}

@@ -41,6 +41,7 @@ module _ {S I F : Type 0} (read : List ℕ → Result (Reading I)) (exec : I →
     pub found : Reading I
     pub ran : run read exec k code s ≡ spent at k state
     pub stands : read (drop at code) ≡ done found
+    pub completes : (t : S) × (exec (found .instruction) state ≡ done t)
     pub print : footprintInCode read exec footprint code s k ≡ footprint (found .instruction) state
     pub piece : getD (piecesOf read code) k [] ≡ take (found .size) (drop at code)
     pub next : positionAfter code s (suc k) ≡ at + found .size
@@ -66,7 +67,7 @@ module _ {S I F : Type 0} (read : List ℕ → Result (Reading I)) (exec : I →
           go : Whole read (getD pieces k []) → Comes (flatten pieces) s k
           go (r, er, z) =
               let at = length (flatten (take k pieces)) in
-              let (runs, left) = spent-at read exec reader pieces k (flatten pieces) 0 0 s t (omega arith) refl whole completes b in
+              let (runs, left, (u, does)) = spent-at read exec reader pieces k (flatten pieces) 0 0 s t (omega arith) refl whole completes b in
               let here : drop at (flatten pieces) ≡ getD pieces k [] ++ flatten (drop (suc k) pieces) =
               ap (λ (n : ℕ). drop n (flatten pieces)) (sym (zero-add at)) ∙ left ∙ flatten-at pieces k b in
               let cuts : piecesOf read (flatten pieces) ≡ pieces = pieces-found read reader pieces whole in
@@ -76,6 +77,7 @@ module _ {S I F : Type 0} (read : List ℕ → Result (Reading I)) (exec : I →
                 found = r;
                 ran = runs ∙ ap₂ (λ n m. spent n m (before (onBytes read exec) pieces k s)) (zero-add at) (zero-add k);
                 stands = ap read here ∙ read-front read reader (getD pieces k []) (flatten (drop (suc k) pieces)) r er z;
+                completes = (u, sym (ap (λ (o : Result (Reading I)). andThen o (λ q. exec (q .instruction) (before (onBytes read exec) pieces k s))) er) ∙ does);
                 print = ap (λ (ps : List (List ℕ)). footprintAt (onBytes read exec) (onBytes read footprint) ps s [] k) cuts
                     ∙ ap (λ (o : Result (Reading I)). andThen o (λ q. footprint (q .instruction) (before (onBytes read exec) pieces k s))) er;
                 piece = ap (λ (ps : List (List ℕ)). getD ps k []) cuts

@@ -7,7 +7,7 @@ use native.Mathlib.Nat.{add-zero}
 use native.Mathlib.Decide.{ℕ-discrete}
 use native.Mathlib.Omega.{arith}
 use borrow.Author.Tests.{eq-eqb, ne-eqb}
-use lib.ListN.{length, take, drop, length-append, length-drop, take-append-drop}
+use lib.ListN.{length, getD, take, drop, length-append, length-drop, take-append-drop}
 use lib.Seq.{drop-drop, drop-length, drop-at, length-take-le, take-length}
 use Rattle.reorder.specs.Result.{Result, done, refused, andThen, caseOf}
 use Rattle.reorder.specs.Run.{Reading, Answer, finished, spent, stopped, runFrom}
@@ -174,20 +174,21 @@ module _ {S I : Type 0} (read : List ℕ → Result (Reading I)) (exec : I → S
       ∙ joined pieces left code (position + length piece) (suc count) (p .state) t (p .inside) (p .left) w (p .rest) (omega arith)
       ∙ ap (λ (n : ℕ). finished (length code) n t) (omega arith)
 
-  -- a run of fewer instructions is spent at the piece that it has come to, in the state before it
+  -- a run of fewer instructions is spent at the piece that it has come to, in the state before it, and that piece completes
   pub spent-at : (pieces : List (List ℕ)) (k : ℕ) (code : List ℕ) (position count : ℕ) (s t : S) → position ≤ length code
       → drop position code ≡ flatten pieces → AllWhole read pieces → execAll (onBytes read exec) pieces s ≡ done t → k < length pieces
       → let at = position + length (flatten (take k pieces)) in
       (runFrom read exec k code position count s ≡ spent at (count + k) (before (onBytes read exec) pieces k s)) × (drop at code ≡ flatten (drop k pieces))
+      × ((u : S) × (onBytes read exec (getD pieces k []) (before (onBytes read exec) pieces k s) ≡ done u))
   unfolding flatten
   spent-at [] k code position count s t l e w h b = absurd (omega arith)
   spent-at (piece ∷ pieces) zero code position count s t l e (whole, w) h b =
       let p = past piece pieces code position count s t l e whole h in
-      (simp (ne-eqb _ _ (p .not-end), add-zero), simp add-zero e)
+      (simp (ne-eqb _ _ (p .not-end), add-zero), simp add-zero e, (p .state, p .ran))
   spent-at (piece ∷ pieces) (suc k) code position count s t l e (whole, w) h b =
       let p = past piece pieces code position count s t l e whole h in
-      let (runs, stands) = spent-at pieces k code (position + length piece) (suc count) (p .state) t (p .inside) (p .left) w (p .rest) (omega arith) in
+      let (runs, stands, completes) = spent-at pieces k code (position + length piece) (suc count) (p .state) t (p .inside) (p .left) w (p .rest) (omega arith) in
       let same : position + length piece + length (flatten (take k pieces)) ≡ position + length (piece ++ flatten (take k pieces)) =
       omega (arith, length-append piece (flatten (take k pieces))) in
       let count-on : suc count + k ≡ count + suc k = omega arith in
-      (p .turn k ∙ runs ∙ simp (p .ran) (cc (same, count-on)), ap (λ (n : ℕ). drop n code) (sym same) ∙ stands)
+      (p .turn k ∙ runs ∙ simp (p .ran) (cc (same, count-on)), ap (λ (n : ℕ). drop n code) (sym same) ∙ stands, simp (p .ran) completes)

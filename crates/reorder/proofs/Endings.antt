@@ -11,6 +11,18 @@ use lib.ListN.{length, drop}
 use Rattle.reorder.specs.Result.{Result, done, refused}
 use Rattle.reorder.specs.Run.{Reading, Answer, finished, spent, stopped, runFrom}
 
+-- what an answer says of its position and count, where a run may count so far
+abbrev pub EndsWell : {S : Type 0} → List ℕ → ℕ → Answer S → Type 0
+EndsWell code most (finished at count t) = at ≡ length code
+EndsWell code most (spent at count t) = (count ≡ most) × ¬ (at ≡ length code)
+EndsWell code most (stopped n at count t) = Unit {0}
+
+-- it was not spent
+abbrev pub Ended : {S : Type 0} → Answer S → Type 0
+Ended (finished at count t) = Unit {0}
+Ended (spent at count t) = ⊥
+Ended (stopped n at count t) = Unit {0}
+
 module _ {S I : Type 0} (read : List ℕ → Result (Reading I)) (exec : I → S → Result S) (code : List ℕ) where
   -- a property of runs (what is left of the budget, the position, the count, the state, the answer) that each way to end has, and that a turn
   -- hands back from the run after it
@@ -47,28 +59,16 @@ module _ {S I : Type 0} (read : List ℕ → Result (Reading I)) (exec : I → S
       go (yes e) further = simp (eq-eqb _ _ e) (h .ends (suc left) at count s e)
       go (no e) further = reading e further (read (drop at code)) refl
 
-  -- what an answer says of its position and count, where a run may count so far
-  abbrev pub EndsWell : ℕ → Answer S → Type 0
-  EndsWell most (finished at count t) = at ≡ length code
-  EndsWell most (spent at count t) = (count ≡ most) × ¬ (at ≡ length code)
-  EndsWell most (stopped n at count t) = Unit {0}
-
-  pub ends-well : (left at count : ℕ) (s : S) → EndsWell (count + left) (runFrom read exec left code at count s)
+  pub ends-well : (left at count : ℕ) (s : S) → EndsWell code (count + left) (runFrom read exec left code at count s)
   ends-well =
-      by-turns (λ left at count s a. EndsWell (count + left) a)
+      by-turns (λ left at count s a. EndsWell code (count + left) a)
       (record {
         ends = λ left at count s e. e;
         spends = λ at count s e. (sym (add-zero count), e);
         unread = λ left at count n s e er. tt;
         unexecuted = λ left at count n s r e er eo. tt;
-        turns = λ left at count s t r a e er eo rest. subst (λ (most : ℕ). EndsWell most a) (omega arith) rest;
+        turns = λ left at count s t r a e er eo rest. subst (λ (most : ℕ). EndsWell code most a) (omega arith) rest;
       })
-
-  -- it was not spent
-  abbrev pub Ended : Answer S → Type 0
-  Ended (finished at count t) = Unit {0}
-  Ended (spent at count t) = ⊥
-  Ended (stopped n at count t) = Unit {0}
 
   -- with more left of the budget the answer is the same
   abbrev Stays : ℕ → ℕ → ℕ → S → Answer S → Type 0

@@ -10,10 +10,10 @@ use borrow.Author.Tests.{le-leb, leb-true}
 use lib.Dec.{leb}
 use lib.ListN.{length, getD, set, take, drop}
 use lib.Seq.{sets, sets-eq, drop-cons}
-use Rattle.words.specs.Number.{number, bytes}
+use Rattle.words.specs.Number.{AllBytes, number, bytes}
 use Rattle.words.specs.Buffer.{inside, loaded, stored}
 use Rattle.words.specs.Bytewise.{gets}
-use Rattle.words.proofs.Numbers.{AllBytes, length-bytes, number-below}
+use Rattle.words.proofs.Numbers.{length-bytes, number-below}
 
 -- two tests in one, and what is so where a test holds
 pub and-both : (a b : Bool) → (a && b) ≡ true → (a ≡ true) × (b ≡ true)

@@ -7,11 +7,7 @@ use native.Mathlib.Omega.{arith}
 use lib.Arith.{mod-mul}
 use lib.ListN.{length, getD, take, drop, length-take}
 use lib.Seq.{getD-drop}
-use Rattle.words.specs.Number.{number, bytes}
-
--- each is a byte (past the end stands 0)
-abbrev pub AllBytes : List ℕ → Type 0
-AllBytes l = (i : ℕ) → getD l i 0 < 256
+use Rattle.words.specs.Number.{AllBytes, number, bytes}
 
 pub all-none : AllBytes []
 all-none i = omega arith

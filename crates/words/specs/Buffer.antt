@@ -6,9 +6,9 @@ use lib.Dec.{leb}
 use lib.ListN.{length, take, drop}
 use Rattle.words.specs.Number.{number, bytes}
 
--- at most 8 bytes, and all of them below `length`
+-- at most 8 bytes, and all of them in a buffer of so many (`room`)
 abbrev pub inside : ℕ → ℕ → ℕ → Bool
-inside length at size = leb size 8 && leb (at + size) length
+inside room at size = leb size 8 && leb (at + size) room
 
 -- the number of the `size` bytes at a place, or 0
 unfoldable pub loaded : List ℕ → ℕ → ℕ → ℕ

@@ -1,6 +1,11 @@
 -- A number and its bytes, the least significant first.
 use mathlib.Core.List.{List, [], _∷_}
-use Prim.Native.Nat.{ℕ, zero, suc, _+_, _*_, _/_, _%_}
+use Prim.Native.Nat.{ℕ, zero, suc, _+_, _*_, _/_, _%_, _<_}
+use lib.ListN.{getD}
+
+-- each is a byte (past the end stands 0)
+abbrev pub AllBytes : List ℕ → Type 0
+AllBytes l = (i : ℕ) → getD l i 0 < 256
 
 -- the number whose bytes these are
 abbrev pub number : List ℕ → ℕ

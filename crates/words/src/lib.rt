@@ -17,17 +17,17 @@ const DOUBLEWORD: usize = 4;
 // How many values a byte has.
 const BASE: u64 = 256;
 
-// Whether a number of this size may be asked for at this place of a buffer with this length.
-fn lies_inside(length: usize, at: usize, size: usize) -> bool
-    ensures { λ r. ⌜ r ≡ inside length at size ⌝ }
+// Whether a number of this size may be asked for at this place of a buffer with so many bytes.
+fn lies_inside(room: usize, at: usize, size: usize) -> bool
+    ensures { λ r. ⌜ r ≡ inside room at size ⌝ }
 {
     if QUADWORD < size {
         return false;
     }
-    if length < size {
+    if room < size {
         return false;
     }
-    at <= length - size
+    at <= room - size
 }
 
 // Any size, from the most significant byte down.

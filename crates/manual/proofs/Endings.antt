@@ -1,0 +1,103 @@
+-- How a run of a block ends: done means at the code's end, spent means the whole budget; a larger budget changes no run that was not spent, and a
+-- budget of half the code's bytes is never spent.
+use mathlib.Core.Path.{_≡_, refl, subst}
+use mathlib.Core.Bool.{Bool, true, false, cond}
+use mathlib.Core.List.{List}
+use Prim.Native.Nat.{ℕ, _+_, _*_, _≤_, _<_}
+use native.Mathlib.Nat.{zero-add}
+use native.Mathlib.Omega.{arith}
+use borrow.Author.Tests.{ltb-false}
+use lib.Dec.{ltb}
+use lib.ListN.{length, drop}
+use Rattle.reorder.specs.Run.{Answer, finished, spent, stopped, runFrom, run}
+use Rattle.reorder.specs.Block.{rearranged}
+use Rattle.reorder.proofs.Permutation.{from}
+use Rattle.reorder.proofs.Rearranging.{own-order-same}
+use Rattle.reorder.proofs.Endings.{by-turns, EndsWell, ends-well, Ended, ended-stays}
+use Rattle.codec.specs.Refusals.{codeTooLong}
+use Rattle.codec.specs.Reads.{longestCode}
+use Rattle.manual.specs.Refusals.{memoryTooLong}
+use Rattle.manual.specs.State.{State, isTooLong}
+use Rattle.manual.specs.Instructions.{execute}
+use Rattle.manual.specs.Runs.{read, runOf}
+use Rattle.manual.proofs.Locality.{local, local-reader}
+use Rattle.manual.proofs.Bounds.{Bounds, Bounded, run-bounded}
+use Rattle.manual.proofs.Demand3.{fitting}
+
+-- an answer counts at most one instruction for two bytes
+abbrev Halved : Answer State → Type 0
+Halved (finished at count t) = 2 * count ≤ at
+Halved (spent at count t) = 2 * count ≤ at
+Halved (stopped n at count t) = 2 * count ≤ at
+
+halved : (code : List ℕ) (left at count : ℕ) (s : State) → 2 * count ≤ at → Halved (runFrom read execute left code at count s)
+halved code =
+    by-turns read execute code (λ left at count s a. 2 * count ≤ at → Halved a)
+    (record {
+      ends = λ left at count s e h. h;
+      spends = λ at count s e h. h;
+      unread = λ left at count n s e er h. h;
+      unexecuted = λ left at count n s r e er eo h. h;
+      turns = λ left at count s t r a e er eo rest h. rest (omega (arith, h, local (drop at code) r er .two));
+    })
+
+module _ (code : List ℕ) (budget : ℕ) (s : State) where
+  -- what holds of a run, and of a refusal at its start, holds of a block's answer
+  of-run : (P : Answer State → Type 0) → ((n : ℕ) → P (stopped n 0 0 s)) → (ltb longestCode (length code) ≡ false → P (run read execute budget code s)) → P (runOf code budget s)
+  unfolding runOf
+  of-run P refuses runs = tests (isTooLong (s .memory)) (ltb longestCode (length code)) refl
+    where
+      tests : (a b : Bool) → ltb longestCode (length code) ≡ b
+          → P (cond a (stopped memoryTooLong 0 0 s) (cond b (stopped codeTooLong 0 0 s) (run read execute budget code s)))
+      tests true b e = refuses memoryTooLong
+      tests false true e = refuses codeTooLong
+      tests false false e = runs e
+
+  well : EndsWell code budget (runOf code budget s)
+  well = of-run (EndsWell code budget) (λ n. tt) (λ fits. subst (λ (n : ℕ). EndsWell code n (run read execute budget code s)) (zero-add budget) (ends-well read execute code budget 0 0 s))
+
+  -- done means at the end
+  pub done-at-end : (at count : ℕ) (t : State) → runOf code budget s ≡ finished at count t → at ≡ length code
+  done-at-end at count t h = subst (EndsWell code budget) h well
+
+  -- spent means the whole budget, before the end
+  pub spent-whole : (at count : ℕ) (t : State) → runOf code budget s ≡ spent at count t → (count ≡ budget) × (at < length code)
+  spent-whole at count t h =
+      let (all, not-end) = subst (EndsWell code budget) h well in
+      let bounds : Bounds code budget s at count t = subst (Bounded code budget s) h (run-bounded code budget s) in
+      (all, omega (arith, bounds .position, not-end))
+
+  -- an instruction has at least two bytes, so a budget of half the longest code is never spent
+  pub never-spent : (at count : ℕ) (t : State) → longestCode ≤ 2 * budget → runOf code budget s ≡ spent at count t → ⊥
+  never-spent at count t enough h =
+      let (all, inside) = spent-whole at count t h in
+      let (half, fits) = subst Spendable h (of-run Spendable (λ n. tt) (λ fits. spendable (run read execute budget code s) (halved code budget 0 0 s (omega arith)) (ltb-false longestCode (length code) fits))) in
+      omega arith
+    where
+      Spendable : Answer State → Type 0
+      Spendable (finished at count t) = Unit {0}
+      Spendable (spent at count t) = (2 * count ≤ at) × (length code ≤ longestCode)
+      Spendable (stopped n at count t) = Unit {0}
+
+      spendable : (a : Answer State) → Halved a → length code ≤ longestCode → Spendable a
+      spendable (finished at count t) h fits = tt
+      spendable (spent at count t) h fits = (h, fits)
+      spendable (stopped n at count t) h fits = tt
+
+  -- a larger budget changes no run that was not spent
+  pub larger-budget : (more : ℕ) → budget ≤ more → Ended (runOf code budget s) → runOf code more s ≡ runOf code budget s
+  unfolding runOf
+  larger-budget more b ended = tests (isTooLong (s .memory)) (ltb longestCode (length code)) ended
+    where
+      tests : (x y : Bool) → Ended (cond x (stopped memoryTooLong 0 0 s) (cond y (stopped codeTooLong 0 0 s) (run read execute budget code s)))
+          → cond x (stopped memoryTooLong 0 0 s) (cond y (stopped codeTooLong 0 0 s) (run read execute more code s))
+          ≡ cond x (stopped memoryTooLong 0 0 s) (cond y (stopped codeTooLong 0 0 s) (run read execute budget code s))
+      tests true y e = refl
+      tests false true e = refl
+      tests false false e = ended-stays read execute code budget 0 0 s more b e
+
+  -- the instructions in the order in which they stand are the block
+  pub same-order : (end total : ℕ) (t : State) → runOf code budget s ≡ finished end total t → rearranged read code (from 0 total) ≡ code
+  same-order end total t h =
+      let (memory-fits, code-fits, ran) = fitting code budget end total s t h in
+      own-order-same read local-reader execute code budget end total s t ran
