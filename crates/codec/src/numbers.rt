@@ -8,7 +8,7 @@ pub const CODE_TOO_LONG: u8 = 2;
 
 pub(crate) const CODE_ENDS: u8 = 3;
 
-pub(crate) const PREFIXED: u8 = 4;
+pub const PREFIXED: u8 = 4;
 
 pub(crate) const NOT_LISTED: u8 = 5;
 

@@ -4,6 +4,7 @@ use codec::Operand;
 use codec::Reading;
 use codec::Writing;
 use codec::numbers::LONGEST_CODE;
+use codec::numbers::PREFIXED;
 use codec::numbers::REGISTER;
 use codec::numbers::SIB;
 use libc::STDOUT_FILENO;
@@ -14,6 +15,9 @@ const FILL: u8 = 0xcc;
 
 // Room for the longest encoding and more.
 const ROOM: usize = 12;
+
+// The hex digits of a byte.
+const DIGITS: usize = 2;
 
 // The first byte of every opcode, and the second byte of EMMS, which no operand follows.
 const ESCAPE: u8 = 0x0f;
@@ -175,6 +179,26 @@ fn print_writing(name: &[u8], register: u8, buffer: &mut [u8]) {
     }
 }
 
+// A first byte that is refused as a prefix, on its own.
+fn is_prefix(first: u8) -> bool {
+    match codec::read(&[first], 0) {
+        Reading::Read(_, _) => false,
+        Reading::Refused(refusal) => refusal == PREFIXED,
+    }
+}
+
+// The prefixes among all 256 first bytes, in hex.
+fn print_prefixes() {
+    io::write_all(STDOUT_FILENO, b"prefixes");
+    for first in 0u8..=255 {
+        if is_prefix(first) {
+            io::write_all(STDOUT_FILENO, b" ");
+            io::print_hex(STDOUT_FILENO, first as u64, DIGITS);
+        }
+    }
+    io::write_all(STDOUT_FILENO, b"\n");
+}
+
 fn print_shifts() {
     print_reading(b"0F 71 C0 01 is", &[ESCAPE, 0x71, 0xc0, 0x01]);
     print_reading(b"0F 71 00 is", &[ESCAPE, 0x71, 0x00]);
@@ -182,7 +206,6 @@ fn print_shifts() {
 }
 
 fn print_opcodes() {
-    print_reading(b"66 is", &[0x66]);
     print_reading(b"0F 0B is", &[ESCAPE, 0x0b]);
     print_reading(b"90 is", &[0x90]);
     print_reading(b"0F is", &[ESCAPE]);
@@ -204,6 +227,7 @@ fn main() {
     print(b"encodings", tally.encodings);
     print(b"differences", tally.differences);
     print(b"bytes", tally.bytes);
+    print_prefixes();
     print_shifts();
     print_opcodes();
     print_lengths();

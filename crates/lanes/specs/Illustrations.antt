@@ -1,9 +1,9 @@
--- Illustrations of manual 004, for what document 01's plates leave out, and an example of PANDN, for which 004 has no numbers.
+-- Illustrations of manual 004, for what document 01's plates leave out, and examples of PMULHW and PANDN, where 004's numbers tell too little or are none.
 use Prim.Native.Nat.{ℕ}
 use mathlib.Core.Bool.{Bool, true, _&&_}
 use mathlib.Core.List.{List, [], _∷_}
 use lib.Dec.{eqb}
-use Rattle.lanes.specs.Operations.{Operation, PUNPCKLWD, PACKSSWB, PCMPGTW, PUNPCKHWD, PCMPEQB, PMULLW, PSUBUSW, PADDUSB, PSUBSB, PSUBSW, PANDN, PSUBB, operate}
+use Rattle.lanes.specs.Operations.{Operation, PUNPCKLWD, PACKSSWB, PCMPGTW, PUNPCKHWD, PCMPEQB, PMULLW, PMULHW, PSUBUSW, PADDUSB, PSUBSB, PSUBSW, PANDN, PSUBB, operate}
 
 -- an operation, its destination, its source, and what it leaves
 pub data Illustration : Type 0 where
@@ -28,6 +28,8 @@ illustrations =
     ∷ shows PSUBSB 0x8242 0x0FC1 0x807F
     ∷ shows PSUBSW 0x53218007 0xD3200FF9 0x7FFF8000
     ∷ shows PSUBUSW 0x00005321 0x0000EC22 0
+    -- PMULHW keeps the high half as it is, of products whose low half is 8000 or more too: 0181 times 0100 is 00018100, FFFF times 0001 is FFFFFFFF
+    ∷ shows PMULHW 0x0181FFFF 0x01000001 0x0001FFFF
     -- PANDN inverts its destination
     ∷ shows PANDN 0xF0F0F0F0F0F0F0F0 0xFFFF0000FFFF0000 0x0F0F00000F0F0000
     ∷ []

@@ -1,5 +1,6 @@
--- The laws: what is printed of a page, piece by piece; the customer's example; that no text is cut; and that the contract allows one answer.
+-- The laws: what is printed of a page, piece by piece; the customer's example; that no text is cut and no run spent; and that the contract allows one answer.
 pub mod Playing
 pub mod Example
 pub mod Whole
+pub mod Unspent
 pub mod Allowed

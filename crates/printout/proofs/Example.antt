@@ -1,20 +1,33 @@
--- The lines of a text, and what the definition computes to: the first line of a refused run, and the memory's lines of two rows.
+-- The lines of a text, and what the definition computes to: the first line of each ending, the tags line of each mark, and the memory's lines of
+-- two rows.
 use mathlib.Core.Path.{_≡_, refl}
+use mathlib.Core.Bool.{true, false}
 use mathlib.Core.List.{List, [], _∷_, _++_}
 use Prim.Native.String.{String}
 use Prim.Native.Nat.{ℕ}
-use Rattle.printout.specs.declared.Ending.the-variants.{Refused}
+use Rattle.printout.specs.declared.Ending.the-variants.{Done, Spent, Refused}
 use Rattle.printout.specs.Characters.{ascii, newline, digits, places, decimal}
-use Rattle.printout.specs.Lines.{answer, firstLine, memoryLine, byteLines}
+use Rattle.printout.specs.Lines.{answer, firstLine, tagsLine, memoryLine, byteLines}
 
 -- a text by its lines
 abbrev pub lines : List String → List ℕ
 lines [] = []
 lines (l ∷ ls) = ascii l ++ newline ++ lines ls
 
-pub refused-line : firstLine (Refused 10) 0 0 ≡ lines ("refused 10 0 at 0" ∷ [])
+-- the first line of each ending
+pub record FirstLines : Type 0 where
+  pub done-line : firstLine Done 1 3 ≡ lines ("done 1 at 3" ∷ [])
+  pub spent-line : firstLine Spent 4096 12288 ≡ lines ("spent 4096 at 12288" ∷ [])
+  pub refused-line : firstLine (Refused 10) 0 0 ≡ lines ("refused 10 0 at 0" ∷ [])
+
+pub first-lines : FirstLines
 unfolding answer firstLine decimal digits places
-refused-line = refl
+first-lines = record { done-line = refl; spent-line = refl; refused-line = refl }
+
+-- the tags line of each mark
+pub tags-lines : tagsLine true ++ tagsLine false ≡ lines ("tags valid" ∷ "tags empty" ∷ [])
+unfolding tagsLine
+tags-lines = refl
 
 pub byte-lines : memoryLine 18
     ++ byteLines 0 (0 ∷ 1 ∷ 2 ∷ 3 ∷ 4 ∷ 5 ∷ 6 ∷ 7 ∷ 8 ∷ 9 ∷ 10 ∷ 11 ∷ 12 ∷ 13 ∷ 14 ∷ 255 ∷ 171 ∷ 205 ∷ [])

@@ -1,0 +1,31 @@
+-- No page's run is spent: its budget is more than half the bytes of the longest code. So a larger one would print the same.
+use mathlib.Core.Path.{_≡_, refl}
+use mathlib.Core.List.{List}
+use Prim.Native.Nat.{ℕ, _≤_}
+use native.Mathlib.Omega.{arith}
+use Rattle.reorder.specs.Run.{Answer, finished, spent, stopped}
+use Rattle.reorder.proofs.Endings.{Ended}
+use Rattle.manual.specs.State.{State}
+use Rattle.manual.specs.Runs.{runOf}
+use Rattle.manual.proofs.Endings.{never-spent, larger-budget}
+use Rattle.machine.specs.State.{stateOf}
+use Rattle.machine.specs.Starts.{startOf}
+use Rattle.pagefile.specs.Reading.{codeOf, mmxOf, integersOf}
+use Rattle.player.specs.Page.{budget, runIn}
+
+module _ (memory : List ℕ) (marks : ℕ) (file : List ℕ) where
+  abbrev start : State
+  start = stateOf (startOf (mmxOf file) (integersOf file) marks) memory
+
+  pub unspent : (at count : ℕ) (t : State) → runIn memory marks file ≡ spent at count t → ⊥
+  unfolding runIn
+  unspent at count t h = never-spent (codeOf file) budget start at count t (omega arith) h
+
+  pub any-budget : (more : ℕ) → budget ≤ more → runOf (codeOf file) more start ≡ runIn memory marks file
+  unfolding runIn
+  any-budget more b = larger-budget (codeOf file) budget start more b (ended (runIn memory marks file) refl)
+    where
+      ended : (a : Answer State) → runIn memory marks file ≡ a → Ended a
+      ended (finished at count t) h = tt
+      ended (spent at count t) h = unspent at count t h
+      ended (stopped n at count t) h = tt
