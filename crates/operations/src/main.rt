@@ -1,11 +1,21 @@
-// Performs each packed operation on numbers of a fixed generator, and prints a number that all results went into, a line for each operation.
-// With three bytes on standard input, an operation's number and a count of rounds (low byte first), it performs that operation alone.
-ghost use Prim.Native.Nat.{_<_};
+// Performs each packed operation on numbers of a fixed generator, and prints its name and a number that all results went into, a line for each
+// operation. With three bytes on standard input, an operation's number and a count of rounds (low byte first), it performs that operation alone.
+ghost use Prim.Native.Nat.{_<_, _≤_};
 use libc::STDIN_FILENO;
 use libc::STDOUT_FILENO;
 
 // How many numbers are performed: those of the 45 operations, and one that names none.
 const OPERATIONS: u8 = 46;
+
+// The operations' names in the order of their numbers, and KEEP for the number that names none; each has ten places.
+const NAMES: [u8; 460] = *b"\
+    PUNPCKLBW PUNPCKLWD PUNPCKLDQ PACKSSWB  PACKUSWB  PACKSSDW  PCMPGTB   PCMPGTW   PCMPGTD   PUNPCKHBW \
+    PUNPCKHWD PUNPCKHDQ MOVE      PCMPEQB   PCMPEQW   PCMPEQD   PSRLW     PSRLD     PSRLQ     PSRAW     \
+    PSRAD     PSLLW     PSLLD     PSLLQ     PMULLW    PMULHW    PMADDWD   PSUBUSB   PSUBUSW   PADDUSB   \
+    PADDUSW   PSUBSB    PSUBSW    PADDSB    PADDSW    PAND      PANDN     POR       PXOR      PSUBB     \
+    PSUBW     PSUBD     PADDB     PADDW     PADDD     KEEP      ";
+
+const PLACES: usize = 10;
 
 const ROUNDS: u64 = 1000;
 
@@ -57,8 +67,36 @@ fn mixed(operation: u8, rounds: u64) -> u64 {
     total
 }
 
+// Where an operation's name starts: all that name none share one.
+fn name_start(operation: u8) -> usize
+    ensures { λ r. ⌜ r ≤ 450 ⌝ }
+{
+    if operation < OPERATIONS {
+        return PLACES * operation as usize;
+    }
+    PLACES * (OPERATIONS - 1) as usize
+}
+
+// Where the name that starts here ends.
+fn name_end(start: usize) -> usize
+    requires { ⌜ start ≤ 460 ⌝ }
+    ensures { λ r. ⌜ (start ≤ r) × (r ≤ 460) ⌝ }
+{
+    let mut end = start;
+    while end < NAMES.len() && NAMES[end] != b' ' {
+        end += 1;
+    }
+    end
+}
+
+fn print_name(operation: u8) {
+    let start = name_start(operation);
+    let end = name_end(start);
+    io::write_all(STDOUT_FILENO, &NAMES[start..end]);
+}
+
 fn print(operation: u8, rounds: u64) {
-    io::print_decimal(STDOUT_FILENO, operation as u64);
+    print_name(operation);
     io::write_all(STDOUT_FILENO, b" ");
     io::print_hex(STDOUT_FILENO, mixed(operation, rounds), DIGITS);
     io::write_all(STDOUT_FILENO, b"\n");
