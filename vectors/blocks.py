@@ -1,0 +1,104 @@
+"""Blocks of any instructions. Each instruction is run on the emulator as it is added, so that a block goes on to its end."""
+import pagefile
+from edges import EDGES
+from emulator import CODE, Emulator, instruction_at
+from opcodes import EMMS, MOVD_STORE, SECOND_BYTES, SHIFTS, WITH_OPERAND, shift
+from pagefile import Page
+from rules import LONGEST_CODE, operand_refusal
+
+WILD = [1, 8, 0x7FFFFFFF, 0x80000000, 0x40000000, 0xFFFF8000, 0xFFFFFFF8, 0xFFFFFFFC, 0xFFFFFFFF]
+SIZES = [8, 9, 15, 16, 17, 31, 64, 100, 256, 300]
+COUNTS = [1, 2, 3, 5, 8, 12, 20, 60]
+RANDOM_BLOCKS, LONG_BLOCKS = 24, 3
+
+
+def operand(dice, modrm, integers, target, sib=None):
+    """What follows a ModRM byte: an SIB byte, and a displacement that leads to the target where there is one and it can."""
+    mod, base, start, between = modrm >> 6, modrm & 7, 0, b''
+    if mod == 3:
+        return b''
+    if base == 4:
+        sib = dice.roll(256) if sib is None else sib
+        between, base = bytes([sib]), sib & 7
+        if sib >> 3 & 7 != 4:
+            start = integers[sib >> 3 & 7] << (sib >> 6)
+    if mod == 0 and base == 5:
+        return between + (target - start & 0xFFFFFFFF).to_bytes(4, 'little')
+    displacement = (target - start - integers[base] & 0xFFFFFFFF).to_bytes(4, 'little')
+    return between + displacement[:(0, 1, 4)[mod]]
+
+
+def quadword(dice):
+    """A register's number: mostly edges of some width, each lane its own."""
+    width = dice.choice((1, 1, 2, 2, 4, 8))
+    lanes = (dice.choice(EDGES[width]) if dice.roll(4) else dice.roll(2 ** (8 * width)) for _ in range(8 // width))
+    return sum(lane << 8 * width * k for k, lane in enumerate(lanes))
+
+
+def some_memory(dice, length):
+    return b''.join(quadword(dice).to_bytes(8, 'little') for _ in range(length // 8 + 1))[:length]
+
+
+def some_state(dice, length):
+    """A page without code: integer registers mostly point into the memory."""
+    integers = tuple(dice.choice(WILD) if dice.one_in(4) else dice.roll(max(1, length - 7)) for _ in range(8))
+    return Page(b'', some_memory(dice, length), tuple(quadword(dice) for _ in range(8)), integers, dice.choice((0, pagefile.VALID)))
+
+
+def some_instruction(dice, integers, length):
+    """Any instruction; a memory operand mostly lies in the memory."""
+    second = dice.choice(SECOND_BYTES)
+    if second == EMMS:
+        return bytes([0x0F, EMMS])
+    if second not in WITH_OPERAND:
+        name = dice.choice([name for name in SHIFTS if SHIFTS[name][0] == second])
+        return shift(name, dice.roll(8), dice.roll(70) if dice.roll(4) else dice.roll(256))
+    modrm = dice.roll(256)
+    if second == MOVD_STORE and dice.roll(4):
+        modrm &= 0x3F  # an integer register that points nowhere is of little use
+    return bytes([0x0F, second, modrm]) + operand(dice, modrm, integers, dice.roll(max(1, length - 7)))
+
+
+class Block:
+    """A page whose code grows."""
+
+    def __init__(self, page):
+        self.page, self.emulator, self.count = page, Emulator(page), 0
+
+    def add(self, code):
+        """Adds an instruction and says so, or leaves it out where its operand would be refused."""
+        instruction = instruction_at(code)
+        if operand_refusal(self.emulator, instruction):
+            return False
+        at = len(self.page.code)
+        self.emulator.uc.mem_write(CODE + at, code)
+        self.emulator.step(at, instruction)
+        self.page.code += code
+        self.count += 1
+        return True
+
+    def add_any(self, dice, room=LONGEST_CODE):
+        """Adds some instruction of no more bytes than there is room for."""
+        while True:
+            code = some_instruction(dice, self.emulator.integers(), self.emulator.length)
+            if len(code) <= room and room - len(code) != 1 and self.add(code):
+                return
+
+
+def some_block(dice, length, count):
+    block = Block(some_state(dice, length))
+    while block.count < count:
+        block.add_any(dice)
+    return block
+
+
+def files(dice):
+    for number in range(RANDOM_BLOCKS):
+        block = some_block(dice, dice.choice(SIZES) if dice.roll(6) else dice.roll(8), COUNTS[number % len(COUNTS)])
+        yield f'blocks/{number:02}', pagefile.write(block.page)
+    for number in range(RANDOM_BLOCKS, RANDOM_BLOCKS + LONG_BLOCKS):
+        block = Block(some_state(dice, 128))
+        total = LONGEST_CODE - number + RANDOM_BLOCKS
+        while len(block.page.code) < total:
+            block.add_any(dice, total - len(block.page.code))
+        yield f'blocks/{number:02}', pagefile.write(block.page)

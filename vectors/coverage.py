@@ -1,0 +1,85 @@
+"""What the pages try, counted as they are played; and whether they would tell lanes that are turned round."""
+from collections import Counter
+
+import edges
+import illustrations
+from emulator import Emulator, instruction_at
+from opcodes import PACKED, SECOND_BYTE, registers
+from pagefile import Page
+
+
+class Coverage:
+    def __init__(self):
+        self.folders, self.answers, self.seconds = Counter(), Counter(), Counter()
+        self.modrms, self.sibs, self.steps = set(), set(), 0
+        self.told_apart = 0
+
+    def step(self, instruction):
+        self.steps += 1
+        self.seconds[instruction.bytes[1]] += 1
+        self.modrms.add(bytes(instruction.bytes[1:3]))
+        if len(instruction.bytes) > 3 and instruction.bytes[2] < 0xC0 and instruction.bytes[2] & 7 == 4:
+            self.sibs.add((instruction.bytes[2] >> 6, instruction.bytes[3]))
+
+    def page(self, name, text):
+        lines = text.split('\n')
+        first = lines[0].split()
+        self.folders[name.split('/')[0]] += 1
+        self.answers[' '.join(first[:2]) if first[0] == 'refused' else first[0]] += 1
+        self.told_apart += len({int(line.split()[1], 16) for line in lines[1:17] if line}) == 16
+
+    def report(self):
+        yield f'{sum(self.folders.values())} pages: ' + ', '.join(f'{count} {folder}' for folder, count in self.folders.items())
+        yield 'answers, ' + ', '.join(f'{answer}: {count}' for answer, count in sorted(self.answers.items(), key=in_order))
+        yield (f'{self.steps} completed instructions: {len(self.seconds)} of 52 second bytes, each at least {min(self.seconds.values())} times; '
+               f'{len(self.modrms)} of 12353 pairs of second byte and ModRM byte; {len(self.sibs)} of 768 pairs of mod and SIB byte')
+        yield f'{self.told_apart} pages leave sixteen registers that all differ'
+
+
+def in_order(item):
+    return [int(word) if word.isdigit() else word for word in item[0].split()]
+
+
+def operate(name, destination, source):
+    """What the emulator leaves of an operation."""
+    emulator = Emulator(Page(registers(SECOND_BYTE[name], 0, 1), mmx=(destination, source) + (0,) * 6))
+    emulator.step(0, instruction_at(registers(SECOND_BYTE[name], 0, 1)))
+    return emulator.mmx()[0]
+
+
+def turned(number, width):
+    """A register with its lanes in the opposite order; of one lane, its halves."""
+    width = min(width, 4)
+    lanes = number.to_bytes(8, 'little')
+    return int.from_bytes(b''.join(lanes[k:k + width] for k in reversed(range(0, 8, width))), 'little')
+
+
+def told(name, width, destination, source):
+    """Which of destination, source and result could not be turned round without another result."""
+    result = operate(name, destination, source)
+    return {
+        part for part, other in (
+            ('destination', operate(name, turned(destination, width), source)),
+            ('source', operate(name, destination, turned(source, width))),
+            ('result', turned(result, width)),
+        ) if other != result
+    }
+
+
+def lanes_report():
+    """The illustrations each tell lanes that are turned round, and the edges tell it of destination, source and result alike."""
+    width_of = {name: width for _, name, width in PACKED}
+    results = 0
+    for name, destination, source, _ in illustrations.rows():
+        parts = told(name, width_of[name], destination, source)
+        assert parts, f'{name}: the illustration stays the same with its lanes turned round'
+        results += 'result' in parts
+    yield f'{len(list(illustrations.rows()))} illustrations tell a turned operand, {results} of them a turned result'
+    for _, name, width in PACKED:
+        memory, parts = edges.operands(name, width), set()
+        for places in edges.places(name, width):
+            parts |= told(name, width, *(int.from_bytes(memory[place:place + 8], 'little') for place in places))
+            if len(parts) == 3:
+                break
+        assert len(parts) == 3, f'{name}: the edges do not tell {parts}'
+    yield f'{len(PACKED)} pages of edges tell a turned destination, source and result'

@@ -1,0 +1,92 @@
+"""One instruction at a time on the emulator Unicorn, with names, lengths and operands by the disassembler capstone."""
+from capstone import CS_ARCH_X86, CS_MODE_32, CS_OP_MEM, Cs
+from unicorn import UC_ARCH_X86, UC_MODE_32, Uc
+from unicorn import x86_const as registers
+
+from pagefile import VALID
+
+# 004's 47 headings. Which bytes they have is capstone's knowledge.
+HEADINGS = set('''
+    EMMS MOVD MOVQ PACKSSDW PACKSSWB PACKUSWB PADDB PADDD PADDSB PADDSW PADDUSB PADDUSW PADDW PAND PANDN PCMPEQB PCMPEQD PCMPEQW
+    PCMPGTB PCMPGTD PCMPGTW PMADDWD PMULHW PMULLW POR PSLLD PSLLQ PSLLW PSRAD PSRAW PSRLD PSRLQ PSRLW PSUBB PSUBD PSUBSB PSUBSW
+    PSUBUSB PSUBUSW PSUBW PUNPCKHBW PUNPCKHDQ PUNPCKHWD PUNPCKLBW PUNPCKLDQ PUNPCKLWD PXOR'''.lower().split())
+
+INTEGERS = 'eax ecx edx ebx esp ebp esi edi'.split()
+INTEGER_NUMBERS = [getattr(registers, 'UC_X86_REG_' + name.upper()) for name in INTEGERS]
+
+# The lent memory is at 0, the code and a place for LEA far above it. Unicorn reads eight bytes for an operand of four, so there is
+# room behind the memory, filled with what no result may show.
+ROOM, FILL = 0x9000, b'\xA5'
+CODE, LEA = 0x40000000, 0x50000000
+
+LONGEST_INSTRUCTION = 15
+
+disassembler = Cs(CS_ARCH_X86, CS_MODE_32)
+disassembler.detail = True
+
+
+def instruction_at(code):
+    """The instruction that these bytes start with, or None where they start with none of the 47."""
+    if code[:1] != b'\x0F':
+        return None
+    found = next(disassembler.disasm(bytes(code[:LONGEST_INSTRUCTION]), 0, 1), None)
+    return found if found is not None and found.mnemonic in HEADINGS else None
+
+
+def memory_operand(instruction):
+    return next((operand.mem for operand in instruction.operands if operand.type == CS_OP_MEM), None)
+
+
+class Emulator:
+    def __init__(self, page):
+        self.length = len(page.memory)
+        self.uc = Uc(UC_ARCH_X86, UC_MODE_32)
+        self.uc.mem_map(0, ROOM)
+        self.uc.mem_map(CODE, 0x2000)
+        self.uc.mem_map(LEA, 0x1000)
+        self.uc.mem_write(0, page.memory + FILL * (ROOM - self.length))
+        self.uc.mem_write(CODE, page.code)
+        for k in range(8):
+            self.uc.reg_write(registers.UC_X86_REG_FP0 + k, (page.mmx[k], 0xFFFF))  # MMk is the low part of the register FPk
+            self.uc.reg_write(INTEGER_NUMBERS[k], page.integers[k])
+        self.uc.reg_write(registers.UC_X86_REG_FPTAG, 0 if page.marks & VALID else 0xFFFF)
+
+    def mmx(self):
+        return tuple(self.uc.reg_read(registers.UC_X86_REG_FP0 + k)[0] for k in range(8))
+
+    def integers(self):
+        return tuple(self.uc.reg_read(number) for number in INTEGER_NUMBERS)
+
+    def memory(self):
+        return bytes(self.uc.mem_read(0, self.length))
+
+    def is_valid(self):
+        tags = {self.uc.reg_read(registers.UC_X86_REG_FPTAG) >> 2 * k & 3 for k in range(8)}
+        assert tags == {3} or 3 not in tags, 'the eight tags differ'
+        return tags != {3}
+
+    def perform(self, place, length):
+        """Runs the one instruction at a place, and hands back where it ends."""
+        self.uc.emu_start(place, place + length, count=1)
+        return self.uc.reg_read(registers.UC_X86_REG_EIP)
+
+    def step(self, at, instruction):
+        """Runs the code's instruction at a position, and hands back the next position."""
+        end = self.perform(CODE + at, instruction.size) - CODE
+        assert end == at + instruction.size, 'Unicorn and capstone differ in a length'
+        return end
+
+    def address(self, instruction):
+        """The address of an instruction's memory operand, by a LEA EAX with the same operand bytes."""
+        lea = bytes([0x8D, instruction.bytes[2] & 0xC7]) + instruction.bytes[3:]
+        before = self.integers()
+        self.uc.mem_write(LEA, lea)
+        self.uc.ctl_remove_cache(LEA, LEA + LONGEST_INSTRUCTION)
+        self.perform(LEA, len(lea))
+        address = self.uc.reg_read(INTEGER_NUMBERS[0])
+        self.uc.reg_write(INTEGER_NUMBERS[0], before[0])
+        named = dict(zip(INTEGERS, before))
+        operand = memory_operand(instruction)
+        base, index = (named.get(instruction.reg_name(part), 0) if part else 0 for part in (operand.base, operand.index))
+        assert address == (base + index * operand.scale + operand.disp) % 2 ** 32, 'Unicorn and capstone differ in an address'
+        return address
