@@ -1,14 +1,58 @@
-// The page program: from one page file on standard input to what is printed of it, on standard output.
+// The page program: from one page file on standard input to what is printed of it, on standard output. Where a read fails nothing is printed;
+// that, and a text that could not be written whole, is told on standard error.
+use libc::STDERR_FILENO;
 use libc::STDIN_FILENO;
 use libc::STDOUT_FILENO;
+ghost use Rattle.page.specs.Readings.{Within};
 
 // One byte more than the longest page file has, so that a longer one is seen as such.
 const FILE_BYTES: usize = pagefile::LONGEST_FILE + 1;
 
+// What reading came to: the file's length, or that a read failed.
+enum Reading {
+    Whole(usize),
+    Failed,
+}
+
+// Reads until the input ends or the buffer is full. A pipe gives its bytes in parts, so that a short read is no end: an answer of 0 is.
+fn read(file: &mut [u8]) -> Reading
+    ensures { λ r. ⌜ Within r (now (file .exit)) ⌝ }
+{
+    let mut n = 0;
+    while n < file.len() {
+        let rest = &mut file[n..];
+        let got = libc::read(STDIN_FILENO, rest);
+        if got < 0 {
+            return Reading::Failed;
+        }
+        let more = io::count(got, rest);
+        if more == 0 {
+            return Reading::Whole(n);
+        }
+        n += more;
+    }
+    Reading::Whole(n)
+}
+
+// Prints what is printed of a page file, and answers whether all of it was written.
+fn print(file: &[u8]) -> bool {
+    let mut out = printout::buffer();
+    let written = player::play(file, &mut out);
+    io::write_all(STDOUT_FILENO, &out[0..written])
+}
+
+fn tell(line: &[u8]) {
+    io::write_all(STDERR_FILENO, line);
+}
+
 fn main() {
     let mut file = [0u8; FILE_BYTES];
-    let n = io::read_full(STDIN_FILENO, &mut file);
-    let mut out = printout::buffer();
-    let written = player::play(&file[..n], &mut out);
-    io::write_all(STDOUT_FILENO, &out[0..written]);
+    match read(&mut file) {
+        Reading::Whole(n) => {
+            if !print(&file[..n]) {
+                tell(b"page: the text could not be written whole\n");
+            }
+        }
+        Reading::Failed => tell(b"page: the file could not be read to its end\n"),
+    }
 }

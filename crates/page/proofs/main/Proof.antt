@@ -1,8 +1,21 @@
--- `main` is safe and ends: no more is written than the buffer has.
+-- `main` is safe and ends: no more of the buffer is a page file than was read.
+use Prim.Native.Nat.{ℕ, _≤_}
+use mathlib.Core.Path.{_≡_, sym, subst}
+use mathlib.Core.List.{List}
+use lib.ListN.{length, take}
+use lib.Seq.{length-take-le}
 use borrow.Author.Needs.{needs}
-use Rattle.printout.proofs.Rooms.{written-within}
+use Rattle.page.specs.Readings.{Within}
+use Rattle.page.specs.declared.Reading.{Reading}
+use Rattle.page.specs.declared.Reading.the-variants.{Whole}
 use Rattle.page.proofs.main.Statement.{statement}
 use Rattle.page.proofs.main.Tie as tie
+
+within : (r : Reading) (n : ℕ) (file : List ℕ) → Within r file → r ≡ Whole n → n ≤ length file
+within r n file h e = subst (λ (s : Reading). Within s file) e h
+
+counted : (r : Reading) (n : ℕ) (file : List ℕ) → Within r file → r ≡ Whole n → n ≡ length (take n file)
+counted r n file h e = sym (length-take-le n file (within r n file h e))
 
 pub main-spec : {M : Type 1} → statement M
 main-spec =
@@ -10,13 +23,15 @@ main-spec =
     (tie.spec
     (λ c. search needs)
     (λ c κs. search needs)
+    (λ c. search needs)
+    (λ c. search (within, needs))
+    (λ c. search (counted, needs))
+    (λ c κs. search needs)
+    (λ c. search needs)
     (λ c κs. search needs)
     (λ c. search needs)
     (λ c. search needs)
-    (λ c. search needs)
     (λ c κs. search needs)
     (λ c. search needs)
     (λ c. search needs)
-    (λ c. search (written-within, needs))
-    (λ c κs. search needs)
     (λ c. search needs))

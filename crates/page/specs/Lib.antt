@@ -1,0 +1,2 @@
+-- The definition: what reading a page file may answer.
+pub mod Readings
