@@ -18,7 +18,7 @@ enum Reading {
 fn read(file: &mut [u8]) -> Reading
     ensures { λ r. ⌜ Within r (now (file .exit)) ⌝ }
 {
-    let mut n = 0;
+    let mut n: usize = 0;
     while n < file.len() {
         let rest = &mut file[n..];
         let got = libc::read(STDIN_FILENO, rest);
