@@ -20,11 +20,11 @@ use Rattle.manual.specs.Locations.{rmOf}
 use Rattle.manual.specs.Instructions.{shiftOf, effectAt, execute, footprint}
 use Rattle.manual.specs.Steps.{instructionAt, stepAt}
 use Rattle.manual.specs.Runs.{read, runOf}
-use Rattle.manual.specs.Footprints.{footprintAt, Meets}
+use Rattle.manual.specs.Footprints.{footprintAt, footprintInRun, Meets}
 use Rattle.manual.proofs.Meeting.{apart}
 use Rattle.manual.proofs.Plates.{start, plates}
 use Rattle.manual.proofs.Edges.{edges}
-use Rattle.manual.proofs.FootprintTable.{here, footprints}
+use Rattle.manual.proofs.FootprintTable.{here, footprints, inRuns}
 use Rattle.manual.proofs.Example as example
 
 pub record Computed : Type 0 where
@@ -33,8 +33,9 @@ pub record Computed : Type 0 where
   pub edges : T (all edges)
   -- the customer's example: PADDB MM0, MM1
   pub customer : runOf (0x0f ∷ 0xfc ∷ 0xc1 ∷ []) 4096 (start 0xff 2 false) ≡ finished 3 1 (start 1 2 true)
-  -- the table of footprints
+  -- the table of footprints, of single steps and in runs
   pub footprints : map (λ e. footprintAt (e .0) 0 here) footprints ≡ map (λ e. e .1) footprints
+  pub in-runs : map (λ e. footprintInRun (e .0) here (e .1)) inRuns ≡ map (λ e. e .2) inRuns
   -- PADDB MM0, MM1 and PADDB MM2, MM3 do not meet
   pub registers-apart : ¬ Meets (footprintAt (0x0f ∷ 0xfc ∷ 0xc1 ∷ []) 0 here) (footprintAt (0x0f ∷ 0xfc ∷ 0xd3 ∷ []) 0 here)
   -- the example block: its run, and its runs in an allowed and in a forbidden order
@@ -50,6 +51,7 @@ computed =
       edges = tt;
       customer = refl;
       footprints = refl;
+      in-runs = refl;
       registers-apart = apart 0 1 2 3 (λ e. omega arith) (λ e. omega arith) (λ e. omega arith);
       block = refl;
       allowed = refl;

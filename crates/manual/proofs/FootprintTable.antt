@@ -1,4 +1,4 @@
--- The table of footprints: for each form of instruction, which places its step reads and writes.
+-- The table of footprints: for each form of instruction, which places its step reads and writes; and the footprints of instructions in a run.
 use mathlib.Core.Bool.{false}
 use mathlib.Core.List.{List, [], _∷_}
 use Prim.Native.Nat.{ℕ}
@@ -54,4 +54,18 @@ footprints =
     -- the step's refusal: MOVQ MM1, [EAX + 17], and at the code's end
     ∷ (0x0f ∷ 0x6f ∷ 0x48 ∷ 17 ∷ [], refused 10)
     ∷ ([], refused 3)
+    ∷ []
+
+-- a block, the number of an instruction, and its footprint in the block's run
+abbrev pub inRuns : List (List ℕ × ℕ × Result (Footprint Place Kind))
+inRuns =
+    -- MOVD ECX, MM0, which is 0, and then MOVQ MM1, [EAX + ECX * 8], at 8 and no more at 24
+    (0x0f ∷ 0x7e ∷ 0xc1 ∷ 0x0f ∷ 0x6f ∷ 0x0c ∷ 0xc8 ∷ [], 1, done (record { reads = integer 0 ∷ integer 1 ∷ bytesFrom 8 8; writes = mmx 1 ∷ []; kind = Ordinary }))
+    -- the step's own refusal: 90 is 5, a prefix after EMMS is 4, and past the last instruction the code ends
+    ∷ (0x90 ∷ [], 0, refused 5)
+    ∷ (0x0f ∷ 0x77 ∷ 0x66 ∷ [], 1, refused 4)
+    ∷ (0x0f ∷ 0x77 ∷ [], 1, refused 3)
+    ∷ (0x0f ∷ 0x77 ∷ [], 9, refused 3)
+    -- code that is too long is 2, wherever it is asked about
+    ∷ (replicate 4097 0x90, 0, refused 2)
     ∷ []
