@@ -17,7 +17,7 @@ use Rattle.manual.specs.Steps.{instructionAt}
 use Rattle.manual.specs.Runs.{runOf}
 use Rattle.manual.specs.Footprints.{footprintAt, footprintInRun, Meets}
 use Rattle.machine.specs.declared.Places.{Places}
-use Rattle.machine.specs.Prints.{setOf, print, meet}
+use Rattle.machine.specs.Prints.{print, meet}
 use Rattle.machine.proofs.Ranges.{OneRange, RangedPrint, ranged}
 use Rattle.machine.proofs.Printing.{byte-printed}
 use Rattle.machine.proofs.Meeting.{meet-exactly}

@@ -1,5 +1,5 @@
 -- Demand 3 of the program itself: over calls of Machine::run, Machine::footprint and meets, by what they hand back.
-use mathlib.Core.Path.{_≡_, refl, sym, ap, ap₂, _∙_, subst}
+use mathlib.Core.Path.{_≡_, refl, sym, ap, ap₂, _∙_}
 use mathlib.Core.Bool.{Bool, true, false≢true}
 use mathlib.Core.List.{List, map, flatten}
 use Prim.Native.Nat.{ℕ, suc, _≤_, _<_}
@@ -7,7 +7,7 @@ use native.Mathlib.Omega.{arith}
 use Rattle.reorder.specs.Result.{Result, done, refused, mapResult}
 use Rattle.reorder.specs.Order.{NewOrder, Keeps}
 use Rattle.reorder.specs.Footprint as places
-use Rattle.reorder.specs.Run.{Answer, finished, reached}
+use Rattle.reorder.specs.Run.{finished, reached}
 use Rattle.reorder.specs.Block.{rearranged}
 use Rattle.reorder.proofs.Permutation.{order-below}
 use Rattle.manual.specs.declared.Kind.{Kind}
@@ -15,7 +15,7 @@ use Rattle.manual.specs.State.{State}
 use Rattle.manual.specs.Places.{Place}
 use Rattle.manual.specs.Runs.{read, runOf}
 use Rattle.manual.specs.Footprints.{footprintAt, footprintInRun}
-use Rattle.manual.proofs.Demand3.{positionInRun, part, map-alike, rearranged-parts}
+use Rattle.manual.proofs.Demand3.{part, map-alike, rearranged-parts}
 use Rattle.machine.specs.declared.Machine.{Machine}
 use Rattle.machine.specs.declared.Footprint.{Footprint}
 use Rattle.machine.specs.declared.Printed.the-variants.{Of}
@@ -23,7 +23,7 @@ use Rattle.machine.specs.declared.End.{End}
 use Rattle.machine.specs.declared.End.the-variants.{Done, Spent, Refused}
 use Rattle.machine.specs.declared.Ran.{Ran}
 use Rattle.machine.specs.State.{stateOf}
-use Rattle.machine.specs.Runs.{paperOfEnd, paperOfRun}
+use Rattle.machine.specs.Runs.{paperOfEnd}
 use Rattle.machine.specs.Prints.{print, printAt, meet, meetTest}
 use Rattle.machine.proofs.Tested.{demand-3-tested}
 use Rattle.machine.proofs.Allowed.{run-given}

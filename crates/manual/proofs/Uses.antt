@@ -5,10 +5,10 @@ use mathlib.Core.Bool.{Bool, true, false, not, _||_, false≢true}
 use mathlib.Core.List.{List, [], List·Memᴰ as In}
 use Prim.Native.Nat.{ℕ, _+_}
 use Rattle.reorder.specs.Result.{Result, done, refused, caseOf, andThen, mapResult}
-use Rattle.reorder.specs.Plan.{Plan, looks, leaves, perform as performed}
+use Rattle.reorder.specs.Plan.{Plan, looks, perform as performed}
 use Rattle.reorder.specs.Footprint.{Footprint, footprintOf as ofPlan, footprintIn, asked}
 use Rattle.reorder.specs.Run.{Reading}
-use Rattle.reorder.proofs.Swapping.{completes, completed as planned}
+use Rattle.reorder.proofs.Swapping.{completed as planned}
 use Rattle.reorder.proofs.Honest.{Alike, asked-reads, honest, untouched}
 use Rattle.codec.specs.Forms.{Form, absent, emms, shiftWD, shiftQ, storeD, loadD, storeQ, loadQ, usual}
 use Rattle.codec.specs.Opcodes.{Entry, entryOf}
@@ -22,7 +22,7 @@ use Rattle.manual.specs.declared.Kind.the-variants.{Ordinary, Emms}
 use Rattle.manual.specs.State.{State, withTag, frozen}
 use Rattle.manual.specs.Places.{Place, look, put}
 use Rattle.manual.specs.Kinds.{marked, KindsMeet}
-use Rattle.manual.specs.Effects.{Effect, placesOfAll, planOn, unlessMarked, via, plan, perform, footprintOf}
+use Rattle.manual.specs.Effects.{Effect, placesOfAll, planOn, unlessMarked, via, plan, perform}
 use Rattle.manual.specs.Instructions.{bare, effectBy, effectAt, effectOf, execute, footprint}
 use Rattle.manual.specs.Steps.{Outcome, completed, refusedWith, concluded, instructionAt, stepAt}
 use Rattle.manual.specs.Footprints.{footprintAt}

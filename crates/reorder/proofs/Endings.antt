@@ -1,6 +1,6 @@
 -- How a run ends: done at the code's end, spent with its whole budget before it; and a larger budget changes no run that was not spent. By
 -- induction over a run's turns, said once.
-use mathlib.Core.Path.{_≡_, refl, sym, ap, subst}
+use mathlib.Core.Path.{_≡_, refl, sym, subst}
 use mathlib.Core.List.{List}
 use Prim.Native.Nat.{ℕ, zero, suc, _+_, _≤_}
 use native.Mathlib.Nat.{add-zero}
