@@ -49,7 +49,7 @@ static void print(const char *name, uint64_t (*operate)(uint64_t, uint64_t)) {
         source = next(source);
     }
     _mm_empty();
-    printf("%s %016llx\n", name, (unsigned long long)total);
+    printf("%-10s%016llx\n", name, (unsigned long long)total);
 }
 
 int main(void) {

@@ -34,8 +34,8 @@ def fields(page):
 
 
 def write(page):
-    """A page's file, without the fields that have no byte but zeros."""
-    return b''.join(text for text in fields(page).values() if any(text[3:]))
+    """A page's file, without an empty code or memory, and without registers or marks that are all zero."""
+    return b''.join(text for tag, text in fields(page).items() if any(text[3:]) or tag in (CODE, MEMORY) and len(text) > 3)
 
 
 def read(file):

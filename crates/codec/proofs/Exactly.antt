@@ -56,7 +56,7 @@ Ends (field k next) = (v : ℕ) → Ends (next v)
 
 record Completed (r : Reader) (at : ℕ) (s : List ℕ) : Type 0 where
   more : List ℕ
-  bytes : AllBytes more
+  are-bytes : AllBytes more
   instruction : Instruction
   size : ℕ
   found : reads r at (s ++ more) ≡ good instruction size
@@ -66,14 +66,14 @@ all-zeros zero = all-none
 all-zeros (suc n) = all-cons 0 (replicate n 0) (omega arith) (all-zeros n)
 
 completed : (r : Reader) → Ends r → (at : ℕ) (s : List ℕ) → Completed r at s
-completed (whole i) e at s = record { more = []; bytes = all-none; instruction = i; size = at; found = refl }
+completed (whole i) e at s = record { more = []; are-bytes = all-none; instruction = i; size = at; found = refl }
 completed (refuse n) e at s = absurd e
 completed (byte next) e at [] =
     let c = completed (next 0) (e 0) (at + 1) [] in
-    record { more = 0 ∷ c .more; bytes = all-cons 0 (c .more) (omega arith) (c .bytes); instruction = c .instruction; size = c .size; found = c .found }
+    record { more = 0 ∷ c .more; are-bytes = all-cons 0 (c .more) (omega arith) (c .are-bytes); instruction = c .instruction; size = c .size; found = c .found }
 completed (byte next) e at (b ∷ s) =
     let c = completed (next b) (e b) (at + 1) s in
-    record { more = c .more; bytes = c .bytes; instruction = c .instruction; size = c .size; found = c .found }
+    record { more = c .more; are-bytes = c .are-bytes; instruction = c .instruction; size = c .size; found = c .found }
 completed (field k next) e at s =
     by (leb k (length s)) refl (λ v rest. completed (next v) (e v) (at + k) rest)
   where
@@ -84,7 +84,7 @@ completed (field k next) e at s =
         let g : k ≤ length (s ++ c .more) = omega (arith, length-append s (c .more)) in
         record {
           more = c .more;
-          bytes = c .bytes;
+          are-bytes = c .are-bytes;
           instruction = c .instruction;
           size = c .size;
           found = simp (le-leb k (length (s ++ c .more)) g, take-append-le, drop-append-le) (c .found);
@@ -96,7 +96,7 @@ completed (field k next) e at s =
         let full : length (s ++ zeros) ≡ k = omega (arith, length-append s zeros, length-replicate {A = ℕ} (k - length s) 0) in
         record {
           more = zeros ++ c .more;
-          bytes = all-append zeros (c .more) (all-zeros (k - length s)) (c .bytes);
+          are-bytes = all-append zeros (c .more) (all-zeros (k - length s)) (c .are-bytes);
           instruction = c .instruction;
           size = c .size;
           found = rw (← append-assoc) (field-reads k at next (s ++ zeros) (c .more) full ∙ c .found);
@@ -248,7 +248,7 @@ inside s more i n b e = by (leb n (length s)) refl
         let h : n ≤ length s = leb-true n (length s) t in
         let again = reading-is-local (s ++ more) i n e .again (drop n s) in
         readable i n (ap readPart (sym (take-append-drop n s)) ∙ (rw take-append-le at again))
-    by false t = refusal codeEnds (three (record { more = more; bytes = b; instruction = i; size = n; found = e; longer = leb-false n (length s) t }))
+    by false t = refusal codeEnds (three (record { more = more; are-bytes = b; instruction = i; size = n; found = e; longer = leb-false n (length s) t }))
 
 -- a ModRM byte that a form allows: registers, shifted right
 allowed : (form : Form) → allows form 3 2 0 ≡ true
@@ -271,7 +271,7 @@ module _ (second : ℕ) (there : isAbsent (entryOf second .form) ≡ false) wher
   due-bare s bare =
       let form = entryOf second .form in
       let c = completed (immediateReader form escape second noOperand) (immediate-ends form escape second noOperand) 2 s in
-      inside (escape ∷ second ∷ s) (c .more) (c .instruction) (c .size) (c .bytes)
+      inside (escape ∷ second ∷ s) (c .more) (c .instruction) (c .size) (c .are-bytes)
       (reads-no _ _ _ 2 (s ++ c .more) there ∙ reads-no _ _ _ 2 (s ++ c .more) bare ∙ c .found)
 
   -- a ModRM byte that is allowed can be completed
@@ -284,7 +284,7 @@ module _ (second : ℕ) (there : isAbsent (entryOf second .form) ≡ false) wher
         let c = completed (sibReader form escape second modrm) (sib-ends form escape second modrm) 3 s in
         record {
           more = c .more;
-          bytes = c .bytes;
+          are-bytes = c .are-bytes;
           instruction = c .instruction;
           size = c .size;
           found = reads-no _ _ _ 2 (modrm ∷ s ++ c .more) there
@@ -296,7 +296,7 @@ module _ (second : ℕ) (there : isAbsent (entryOf second .form) ≡ false) wher
     due-modrm : (s : List ℕ) → Due (escape ∷ second ∷ modrm ∷ s)
     due-modrm s =
         let c = modrm-completed s in
-        inside (escape ∷ second ∷ modrm ∷ s) (c .more) (c .instruction) (c .size) (c .bytes) (c .found)
+        inside (escape ∷ second ∷ modrm ∷ s) (c .more) (c .instruction) (c .size) (c .are-bytes) (c .found)
 
   due-listed : (s : List ℕ) → Due (escape ∷ second ∷ s)
   due-listed s = by (hasOperand (entryOf second .form)) refl s
@@ -310,7 +310,7 @@ module _ (second : ℕ) (there : isAbsent (entryOf second .form) ≡ false) wher
       by false bare s = due-bare s bare
       by true has [] =
           let c = modrm-completed 0xd0 has (allowed (entryOf second .form)) [] in
-          inside (escape ∷ second ∷ []) (0xd0 ∷ c .more) (c .instruction) (c .size) (all-cons 0xd0 (c .more) (omega arith) (c .bytes)) (c .found)
+          inside (escape ∷ second ∷ []) (0xd0 ∷ c .more) (c .instruction) (c .size) (all-cons 0xd0 (c .more) (omega arith) (c .are-bytes)) (c .found)
       by true has (modrm ∷ s) = tested modrm s has (allows (entryOf second .form) (upper modrm) (middle modrm) (lower modrm)) refl
 
 emms-byte : AllBytes (0x77 ∷ [])

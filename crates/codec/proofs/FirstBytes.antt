@@ -4,6 +4,7 @@ use mathlib.Core.Path.{_≡_, refl}
 use mathlib.Core.Bool.{Bool, false, cond}
 use mathlib.Core.List.{List, [], _∷_}
 use lib.Dec.{eqb}
+use lib.ListN.{length}
 use Rattle.codec.specs.Refusals.{codeEnds, prefixed, notListed}
 use Rattle.codec.specs.Reads.{readPart, refusalOf, secondReader, instructionReader}
 use Rattle.codec.specs.Answers.{Answer, good, refused}
@@ -17,16 +18,12 @@ abbrev firstBytes : ℕ → ℕ → ℕ → List ℕ
 firstBytes refusal b zero = []
 firstBytes refusal b (suc more) = cond (isRefusedBy refusal (readPart (b ∷ []))) (b ∷ firstBytes refusal (suc b) more) (firstBytes refusal (suc b) more)
 
-abbrev count : List ℕ → ℕ
-count [] = 0
-count (b ∷ bs) = suc (count bs)
-
 pub record FirstBytes : Type 0 where
   -- "26, 2E, 36, 3E, 64, 65, 66, 67, F0, F2 or F3 hex"
   pub four : firstBytes prefixed 0 256 ≡ 0x26 ∷ 0x2e ∷ 0x36 ∷ 0x3e ∷ 0x64 ∷ 0x65 ∷ 0x66 ∷ 0x67 ∷ 0xf0 ∷ 0xf2 ∷ 0xf3 ∷ []
   -- after 0F a second byte is looked for
   pub three : firstBytes codeEnds 0 256 ≡ 0x0f ∷ []
-  pub five : count (firstBytes notListed 0 256) ≡ 244
+  pub five : length (firstBytes notListed 0 256) ≡ 244
 
 pub first-bytes : FirstBytes
 unfolding refusalOf secondReader instructionReader

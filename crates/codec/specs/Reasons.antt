@@ -22,7 +22,7 @@ Starts front s = (rest : List ℕ) × (s ≡ front ++ rest)
 -- 3: the code ends inside the instruction: some bytes more, and an instruction that is longer than what is left stands there
 pub record EndsInside (s : List ℕ) : Type 0 where
   pub more : List ℕ
-  pub bytes : AllBytes more
+  pub are-bytes : AllBytes more
   pub instruction : Instruction
   pub size : ℕ
   pub found : readPart (s ++ more) ≡ good instruction size

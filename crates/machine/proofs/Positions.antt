@@ -7,7 +7,7 @@ use mathlib.Core.List.{List, List·Memᴰ as In}
 use Prim.Native.Nat.{ℕ, _+_, _≤_, _<_}
 use Rattle.reorder.specs.Result.{Result, done, refused, andThen}
 use Rattle.reorder.specs.Footprint as places
-use Rattle.reorder.specs.Run.{Reading, Answer, finished, spent, stopped, reached}
+use Rattle.reorder.specs.Run.{Reading, positionReached, stateReached}
 use Rattle.codec.specs.declared.Instruction.{Instruction}
 use Rattle.manual.specs.declared.Kind.{Kind}
 use Rattle.manual.specs.State.{State}
@@ -52,9 +52,4 @@ meet-at code code′ at at′ s s′ f g ef eg = meet-exactly f g (one-range cod
 
 -- and of the step that a run has come to
 pub ranged-run : (code : List ℕ) (start : State) (k : ℕ) → RangedPrint (footprintInRun code start k)
-ranged-run code start k = go (runOf code k start)
-  where
-    go : (a : Answer State) → RangedPrint (reached (footprintAt code) a)
-    go (finished at count t) = ranged-at code at t
-    go (spent at count t) = ranged-at code at t
-    go (stopped n at count t) = ranged-at code at t
+ranged-run code start k = let answer = runOf code k start in ranged-at code (positionReached answer) (stateReached answer)

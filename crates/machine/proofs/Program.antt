@@ -7,7 +7,7 @@ use native.Mathlib.Omega.{arith}
 use Rattle.reorder.specs.Result.{Result, done, refused, mapResult}
 use Rattle.reorder.specs.Order.{NewOrder, Keeps}
 use Rattle.reorder.specs.Footprint as places
-use Rattle.reorder.specs.Run.{finished, reached}
+use Rattle.reorder.specs.Run.{finished, positionReached, stateReached}
 use Rattle.reorder.specs.Block.{rearranged}
 use Rattle.reorder.proofs.Permutation.{order-below}
 use Rattle.manual.specs.declared.Kind.{Kind}
@@ -15,7 +15,7 @@ use Rattle.manual.specs.State.{State}
 use Rattle.manual.specs.Places.{Place}
 use Rattle.manual.specs.Runs.{read, runOf}
 use Rattle.manual.specs.Footprints.{footprintAt, footprintInRun}
-use Rattle.manual.proofs.Demand3.{part, map-alike, rearranged-parts}
+use Rattle.manual.proofs.Demand3.{positionInRun, part, map-alike, rearranged-parts}
 use Rattle.machine.specs.declared.Machine.{Machine}
 use Rattle.machine.specs.declared.Footprint.{Footprint}
 use Rattle.machine.specs.declared.Printed.the-variants.{Of}
@@ -30,10 +30,16 @@ use Rattle.machine.proofs.Allowed.{run-given}
 use Rattle.machine.proofs.Calls.{RunCall, FootprintCall, MeetsCall, run-says, footprint-says, meets-says}
 
 -- what a run has come to, by what it handed back
-reached-paper : {A : Type 0} (ask : ℕ → State → A) (e : End) (at count : ℕ) (s : State) → reached ask (paperOfEnd e at count s) ≡ ask at s
-reached-paper ask Done at count s = refl
-reached-paper ask Spent at count s = refl
-reached-paper ask (Refused n) at count s = refl
+
+position-handed : (e : End) (at count : ℕ) (s : State) → positionReached (paperOfEnd e at count s) ≡ at
+position-handed Done at count s = refl
+position-handed Spent at count s = refl
+position-handed (Refused n) at count s = refl
+
+state-handed : (e : End) (at count : ℕ) (s : State) → stateReached (paperOfEnd e at count s) ≡ s
+state-handed Done at count s = refl
+state-handed Spent at count s = refl
+state-handed (Refused n) at count s = refl
 
 -- the program's test of two footprints is its test of what it handed out of them
 handed-test : (x y : Result (places.Footprint Place Kind)) (f g : Footprint) → mapResult print x ≡ done f → mapResult print y ≡ done g → meetTest x y ≡ meet f g
@@ -41,7 +47,8 @@ handed-test (done a) (done b) f g ex ey = let same : print a ≡ f = cc in let s
 handed-test (done a) (refused n) f g ex ey = absurd (false≢true (cc))
 handed-test (refused n) y f g ex ey = absurd (false≢true (cc))
 
--- What a studio has in hand of a block: a run of it that was done; for each k up to the count, a run of k instructions from the same start; for each
+-- What a studio has in hand of a block, from calls alone (each call meets its contract, so that every machine, code and memory with a run that is
+-- done has this): a run of it that was done; for each k up to the count, a run of k instructions from the same start; for each
 -- k below it, the footprint handed out at the position, on the machine and over the memory that this run handed back; and for each pair of
 -- them whether they meet.
 pub record Recorded (machine : Machine) (code memory : List ℕ) (budget : ℕ) (whole : Ran) (after : List ℕ) : Type 1 where
@@ -66,16 +73,20 @@ module _ (machine : Machine) (code memory : List ℕ) (budget : ℕ) (whole : Ra
   finishes : runOf code budget start ≡ finished (whole .at) (whole .count) (stateOf (whole .machine) after)
   finishes = sym (run-says machine code memory budget whole after (known .ran)) ∙ ap (λ e. paperOfEnd e (whole .at) (whole .count) (stateOf (whole .machine) after)) (known .ended)
 
-  reached-run : {A : Type 0} (ask : ℕ → State → A) (k : ℕ) → k ≤ whole .count
-      → reached ask (runOf code k start) ≡ ask (known .runs k .at) (stateOf (known .runs k .machine) (known .memories k))
-  reached-run ask k b =
-      ap (reached ask) (sym (run-says machine code memory k (known .runs k) (known .memories k) (known .run-of k b)))
-      ∙ reached-paper ask (known .runs k .end) (known .runs k .at) (known .runs k .count) (stateOf (known .runs k .machine) (known .memories k))
+  position-of : (k : ℕ) → k ≤ whole .count → positionInRun code start k ≡ known .runs k .at
+  position-of k b =
+      ap positionReached (sym (run-says machine code memory k (known .runs k) (known .memories k) (known .run-of k b)))
+      ∙ position-handed (known .runs k .end) (known .runs k .at) (known .runs k .count) (stateOf (known .runs k .machine) (known .memories k))
+
+  state-of : (k : ℕ) → k ≤ whole .count → stateReached (runOf code k start) ≡ stateOf (known .runs k .machine) (known .memories k)
+  state-of k b =
+      ap stateReached (sym (run-says machine code memory k (known .runs k) (known .memories k) (known .run-of k b)))
+      ∙ state-handed (known .runs k .end) (known .runs k .at) (known .runs k .count) (stateOf (known .runs k .machine) (known .memories k))
 
   printed : (k : ℕ) → k < whole .count → mapResult print (footprintInRun code start k) ≡ done (known .prints k)
   unfolding printAt
   printed k b =
-      ap (mapResult print) (reached-run (footprintAt code) k (omega arith))
+      ap (mapResult print) (ap₂ (footprintAt code) (position-of k (omega arith)) (state-of k (omega arith)))
       ∙ sym (footprint-says (known .runs k .machine) code (known .runs k .at) (known .memories k) (Of (known .prints k)) (known .print-of k b))
 
   same-block : (order : List ℕ) → NewOrder (whole .count) order → rearranged read code order ≡ moved order
@@ -83,7 +94,7 @@ module _ (machine : Machine) (code memory : List ℕ) (budget : ℕ) (whole : Ra
       rearranged-parts code budget (whole .at) (whole .count) start (stateOf (whole .machine) after) finishes order new
       ∙ ap flatten (map-alike _ _ order (λ k m.
       let b : k < whole .count = order-below (whole .count) order new k m in
-      ap₂ (part code) (reached-run (λ at t. at) k (omega arith)) (reached-run (λ at t. at) (suc k) (omega arith))))
+      ap₂ (part code) (position-of k (omega arith)) (position-of (suc k) (omega arith))))
 
   -- DEMAND 3: the block in an order that keeps the pairs which `meets` found to meet, run from the same machine and memory with the same
   -- budget, is done too, with the same count, position, machine and memory

@@ -9,7 +9,7 @@ use lib.ListN.{length, getD, take, drop}
 use Rattle.reorder.specs.Result.{Result, done, andThen}
 use Rattle.reorder.specs.Order.{NewOrder, Keeps}
 use Rattle.reorder.specs.Footprint.{Footprint}
-use Rattle.reorder.specs.Run.{Answer, finished, spent, stopped, reached, run}
+use Rattle.reorder.specs.Run.{Answer, finished, spent, stopped, positionReached, stateReached, run}
 use Rattle.reorder.specs.Block.{piecesOf, rearranged}
 use Rattle.reorder.proofs.Reordering.{Swap}
 use Rattle.reorder.proofs.Swapping.{swap}
@@ -49,7 +49,7 @@ passed false n s rest end total final h = (refl, h)
 -- where a run of k instructions comes to, and the part of a code from one position to another
 
 abbrev pub positionInRun : List ℕ → State → ℕ → ℕ
-positionInRun code start k = reached (λ at t. at) (runOf code k start)
+positionInRun code start k = positionReached (runOf code k start)
 
 abbrev pub part : List ℕ → ℕ → ℕ → List ℕ
 part code from to = take (to - from) (drop from code)
@@ -74,7 +74,7 @@ module _ (code : List ℕ) (budget end total : ℕ) (start final : State) (h : r
   pub comes : (k : ℕ) → k < total → Comes read execute footprint code start k
   comes k b = let (memory-fits, code-fits, ran) = fitting in comes-to read execute footprint local-reader code budget end total start final ran k b
 
-  pub ran-to : (k : ℕ) (b : k < total) → runOf code k start ≡ spent (comes k b .at) k (comes k b .state)
+  ran-to : (k : ℕ) (b : k < total) → runOf code k start ≡ spent (comes k b .at) k (comes k b .state)
   unfolding runOf
   ran-to k b = let (memory-fits, code-fits, ran) = fitting in simp (memory-fits, code-fits) (comes k b .ran)
 
@@ -86,7 +86,7 @@ module _ (code : List ℕ) (budget end total : ℕ) (start final : State) (h : r
       let c = comes k b in
       let bounds : Bounds code k start (c .at) k (c .state) = subst (Bounded code k start) (ran-to k b) (run-bounded code k start) in
       let still-fits : isTooLong (c .state .memory) ≡ false = ap (λ (f : Frozen). ltb longestMemory (f .memory)) (bounds .kept) ∙ memory-fits in
-      ap (reached (footprintAt code)) (ran-to k b)
+      ap (λ a. footprintAt code (positionReached a) (stateReached a)) (ran-to k b)
       ∙ ap (λ o. andThen o (λ r. footprint (r .instruction) (c .state))) (instruction-here code (c .at) (c .state) still-fits code-fits ∙ c .stands)
       ∙ sym (c .print)
 
@@ -104,7 +104,7 @@ module _ (code : List ℕ) (budget end total : ℕ) (start final : State) (h : r
   part-along k b =
       let (memory-fits, code-fits, ran) = fitting in
       let c = comes k b in
-      let here : positionInRun code start k ≡ c .at = ap (reached (λ at t. at)) (ran-to k b) in
+      let here : positionInRun code start k ≡ c .at = ap positionReached (ran-to k b) in
       let there : positionInRun code start (suc k) ≡ c .at + c .found .size = simp (memory-fits, code-fits) (c .next) in
       let size : c .found .size ≡ positionInRun code start (suc k) - positionInRun code start k = omega arith in
       c .piece ∙ ap₂ (λ (n at : ℕ). take n (drop at code)) size (sym here)

@@ -1,10 +1,10 @@
 -- When two instructions meet: meeting is symmetric, EMMS meets every instruction, and two others meet exactly where they share a place.
 use mathlib.Core.Path.{_≡_, refl, sym, ap, _∙_, subst₂}
 use mathlib.Core.Logic.{_↔_, _⊎_, inl, inr}
-use mathlib.Core.Bool.{Bool, true, false, not, false≢true}
+use mathlib.Core.Bool.{true, false, not, false≢true}
 use mathlib.Core.List.{[], _∷_, List·Memᴰ as In, List·Memᴰ·head as here, List·Memᴰ·tail as later, List·Memᴰ·eq-of-singleton as eq-of-singleton}
 use Prim.Native.Nat.{ℕ}
-use borrow.Author.Tests.{eqb-true, eq-eqb}
+use borrow.Author.Tests.{eqb-true, eq-eqb, not-false}
 use lib.Dec.{eqb}
 use Rattle.reorder.specs.Result.{Result, done}
 use Rattle.reorder.specs.Footprint as places
@@ -47,11 +47,7 @@ kinds-exactly a b = (from a b, to a b)
 emms-exactly : (i : Instruction) (s : State) (f : places.Footprint Place Kind) → footprint i s ≡ done f → (tagOf (f .kind) ≡ false) ↔ (i .second ≡ 0x77)
 emms-exactly i s f e =
     let tag = printed-kind i s f e in
-    (λ h. eqb-true (i .second) 0x77 (turned (eqb (i .second) 0x77) (sym tag ∙ h)), λ h. tag ∙ ap not (eq-eqb (i .second) 0x77 h))
-  where
-    turned : (t : Bool) → not t ≡ false → t ≡ true
-    turned true e = refl
-    turned false e = sym e
+    (λ h. eqb-true (i .second) 0x77 (not-false (eqb (i .second) 0x77) (sym tag ∙ h)), λ h. tag ∙ ap not (eq-eqb (i .second) 0x77 h))
 
 -- statements that say the same, put in an alternative
 either : {A A′ B B′ : Type 0} → A ↔ A′ → B ↔ B′ → (A ⊎ B) ↔ (A′ ⊎ B′)
@@ -76,9 +72,9 @@ meets-exactly i j s t f g ef eg =
 
 -- so two computations on different registers do not meet
 
--- an instruction that computes register k from itself and register j
-abbrev pub computing : ℕ → ℕ → places.Footprint Place Kind
-computing k j = record { reads = mmx k ∷ mmx j ∷ []; writes = mmx k ∷ []; kind = Ordinary }
+-- the footprint of an instruction that computes register k from itself and register j
+abbrev pub onRegisters : ℕ → ℕ → places.Footprint Place Kind
+onRegisters k j = record { reads = mmx k ∷ mmx j ∷ []; writes = mmx k ∷ []; kind = Ordinary }
 
 numberOf : Place → ℕ
 numberOf (mmx k) = k
@@ -90,7 +86,7 @@ unfolding numberOf
 among p k j n other other′ m (here e) = other (ap numberOf (sym (eq-of-singleton m) ∙ e))
 among p k j n other other′ m (later (here e)) = other′ (ap numberOf (sym (eq-of-singleton m) ∙ e))
 
-pub apart : (k j m n : ℕ) → ¬ (k ≡ m) → ¬ (k ≡ n) → ¬ (m ≡ j) → ¬ Meets (done (computing k j)) (done (computing m n))
+pub apart : (k j m n : ℕ) → ¬ (k ≡ m) → ¬ (k ≡ n) → ¬ (m ≡ j) → ¬ Meets (done (onRegisters k j)) (done (onRegisters m n))
 apart k j m n km kn mj (inl e) = false≢true e
 apart k j m n km kn mj (inr (inl (p, w, inl r))) = among p m n k km kn w r
 apart k j m n km kn mj (inr (inl (p, w, inr w′))) = among p m m k km km w (later w′)

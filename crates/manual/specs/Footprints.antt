@@ -3,7 +3,7 @@ use mathlib.Core.List.{List}
 use Prim.Native.Nat.{ℕ}
 use Rattle.reorder.specs.Result.{Result, andThen}
 use Rattle.reorder.specs.Footprint as places
-use Rattle.reorder.specs.Run.{reached}
+use Rattle.reorder.specs.Run.{positionReached, stateReached}
 use Rattle.manual.specs.declared.Kind.{Kind}
 use Rattle.manual.specs.State.{State}
 use Rattle.manual.specs.Places.{Place}
@@ -19,7 +19,7 @@ footprintAt code at s = andThen (instructionAt code at s) (λ read. footprint (r
 -- the footprint of instruction k of a block, in the state where it runs in the original order: that of the step which a run of k instructions
 -- has come to
 abbrev pub footprintInRun : List ℕ → State → ℕ → Result (places.Footprint Place Kind)
-footprintInRun code start k = reached (footprintAt code) (runOf code k start)
+footprintInRun code start k = let answer = runOf code k start in footprintAt code (positionReached answer) (stateReached answer)
 
 -- one writes a place that the other reads or writes, or either is EMMS
 abbrev pub Meets : Result (places.Footprint Place Kind) → Result (places.Footprint Place Kind) → Type 0

@@ -1,6 +1,6 @@
 // Performs each packed operation on numbers of a fixed generator, and prints its name and a number that all results went into, a line for each
 // operation. With three bytes on standard input, an operation's number and a count of rounds (low byte first), it performs that operation alone.
-ghost use Prim.Native.Nat.{_<_, _≤_};
+ghost use Prim.Native.Nat.{_+_, _<_, _≤_};
 use libc::STDIN_FILENO;
 use libc::STDOUT_FILENO;
 
@@ -67,9 +67,9 @@ fn mixed(operation: u8, rounds: u64) -> u64 {
     total
 }
 
-// Where an operation's name starts: all that name none share one.
+// Where an operation's name starts, so that all its places are there: all that name none share one.
 fn name_start(operation: u8) -> usize
-    ensures { λ r. ⌜ r ≤ 450 ⌝ }
+    ensures { λ r. ⌜ r + 10 ≤ 460 ⌝ }
 {
     if operation < OPERATIONS {
         return PLACES * operation as usize;
@@ -77,27 +77,14 @@ fn name_start(operation: u8) -> usize
     PLACES * (OPERATIONS - 1) as usize
 }
 
-// Where the name that starts here ends.
-fn name_end(start: usize) -> usize
-    requires { ⌜ start ≤ 460 ⌝ }
-    ensures { λ r. ⌜ (start ≤ r) × (r ≤ 460) ⌝ }
-{
-    let mut end = start;
-    while end < NAMES.len() && NAMES[end] != b' ' {
-        end += 1;
-    }
-    end
-}
-
 fn print_name(operation: u8) {
     let start = name_start(operation);
-    let end = name_end(start);
+    let end = start + PLACES;
     io::write_all(STDOUT_FILENO, &NAMES[start..end]);
 }
 
 fn print(operation: u8, rounds: u64) {
     print_name(operation);
-    io::write_all(STDOUT_FILENO, b" ");
     io::print_hex(STDOUT_FILENO, mixed(operation, rounds), DIGITS);
     io::write_all(STDOUT_FILENO, b"\n");
 }

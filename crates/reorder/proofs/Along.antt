@@ -8,7 +8,7 @@ use native.Mathlib.Omega.{arith}
 use lib.ListN.{length, getD, take, drop, length-append}
 use lib.Seq.{take-at, take-length}
 use Rattle.reorder.specs.Result.{Result, done, andThen}
-use Rattle.reorder.specs.Run.{Reading, finished, spent, reached, run}
+use Rattle.reorder.specs.Run.{Reading, finished, spent, positionReached, run}
 use Rattle.reorder.specs.Block.{piecesOf}
 use Rattle.reorder.proofs.Rows.{execAll, before, footprintAt, onBytes, footprintInCode}
 use Rattle.reorder.proofs.Cutting.{LocalReader, Whole, AllWhole, read-front, cut, joined, spent-at}
@@ -32,7 +32,7 @@ flatten-to (piece ∷ pieces) (suc k) b =
 module _ {S I F : Type 0} (read : List ℕ → Result (Reading I)) (exec : I → S → Result S) (footprint : I → S → Result F) where
   -- where a run of k instructions has come to
   abbrev pub positionAfter : List ℕ → S → ℕ → ℕ
-  positionAfter code s k = reached (λ at t. at) (run read exec k code s)
+  positionAfter code s k = positionReached (run read exec k code s)
 
   -- what a run of k instructions has come to: an instruction that is piece k of the code
   pub record Comes (code : List ℕ) (s : S) (k : ℕ) : Type 0 where
@@ -54,11 +54,11 @@ module _ {S I F : Type 0} (read : List ℕ → Result (Reading I)) (exec : I →
         where
           go : Dec (k < length pieces) → positionAfter (flatten pieces) s k ≡ length (flatten (take k pieces))
           go (yes l) =
-              ap (reached (λ at t. at)) (spent-at read exec reader pieces k (flatten pieces) 0 0 s t (omega arith) refl whole completes l .0)
+              ap positionReached (spent-at read exec reader pieces k (flatten pieces) 0 0 s t (omega arith) refl whole completes l .0)
               ∙ zero-add (length (flatten (take k pieces)))
           go (no l) =
               let all : k ≡ length pieces = omega arith in
-              ap (reached (λ at t. at)) (joined read exec reader pieces k (flatten pieces) 0 0 s t (omega arith) refl whole completes (omega arith))
+              ap positionReached (joined read exec reader pieces k (flatten pieces) 0 0 s t (omega arith) refl whole completes (omega arith))
               ∙ ap (λ (ps : List (List ℕ)). length (flatten ps)) (sym (ap (λ (n : ℕ). take n pieces) all ∙ take-length pieces))
 
       comes-at : (k : ℕ) → k < length pieces → Comes (flatten pieces) s k

@@ -17,11 +17,17 @@ pub data Answer (S : Type 0) : Type 0 where
   spent : ℕ → ℕ → S → Answer S
   stopped : ℕ → ℕ → ℕ → S → Answer S
 
--- what is asked of a position and a state, asked of those that a run has come to
-abbrev pub reached : {S A : Type 0} → (ℕ → S → A) → Answer S → A
-reached ask (finished position count s) = ask position s
-reached ask (spent position count s) = ask position s
-reached ask (stopped n position count s) = ask position s
+-- the position and the state that a run has come to, however it ended
+
+abbrev pub positionReached : {S : Type 0} → Answer S → ℕ
+positionReached (finished position count s) = position
+positionReached (spent position count s) = position
+positionReached (stopped n position count s) = position
+
+abbrev pub stateReached : {S : Type 0} → Answer S → S
+stateReached (finished position count s) = s
+stateReached (spent position count s) = s
+stateReached (stopped n position count s) = s
 
 module _ {S I : Type 0} (read : List ℕ → Result (Reading I)) (exec : I → S → Result S) where
   -- at the end of the code: finished; else with nothing left of the budget: spent; else a step
