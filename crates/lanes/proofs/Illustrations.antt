@@ -2,10 +2,10 @@
 use lib.Dec.{T}
 use Rattle.lanes.specs.Lane.{lane, build, register}
 use Rattle.lanes.specs.Signed.{signed, wrap, clamp, clampSigned, clampUnsigned}
-use Rattle.lanes.specs.Rules.{packed, pairwise, difference, differenceSigned, sumUnsigned, differenceUnsigned, equal, greater, productLow, productHigh, pack, unpack, andNot}
+use Rattle.lanes.specs.Rules.{packed, pairwise, difference, differenceSigned, sumUnsigned, differenceUnsigned, equal, greater, productLow, productHigh, productSum, pack, unpack, andNot, shift, left, right, rightSigned}
 use Rattle.lanes.specs.Operations.{operate}
 use Rattle.lanes.specs.Illustrations.{hold, illustrations}
 
 pub illustrations-hold : T (hold illustrations)
-unfolding operate packed pairwise difference differenceSigned sumUnsigned differenceUnsigned equal greater productLow productHigh pack unpack andNot lane build register signed wrap clamp clampSigned clampUnsigned
+unfolding operate packed pairwise difference differenceSigned sumUnsigned differenceUnsigned equal greater productLow productHigh productSum pack unpack andNot shift left right rightSigned lane build register signed wrap clamp clampSigned clampUnsigned
 illustrations-hold = tt

@@ -1,9 +1,9 @@
--- Illustrations of manual 004, for what document 01's plates leave out, and examples of PMULHW and PANDN, where 004's numbers tell too little or are none.
+-- Illustrations of manual 004, for what document 01's plates leave out, and examples of our own where 004's numbers tell too little or are none.
 use Prim.Native.Nat.{ℕ}
 use mathlib.Core.Bool.{Bool, true, _&&_}
 use mathlib.Core.List.{List, [], _∷_}
 use lib.Dec.{eqb}
-use Rattle.lanes.specs.Operations.{Operation, PUNPCKLWD, PACKSSWB, PCMPGTW, PUNPCKHWD, PCMPEQB, PMULLW, PMULHW, PSUBUSW, PADDUSB, PSUBSB, PSUBSW, PANDN, PSUBB, operate}
+use Rattle.lanes.specs.Operations.{Operation, PUNPCKLWD, PACKSSWB, PACKSSDW, PCMPGTW, PUNPCKHBW, PUNPCKHWD, PUNPCKHDQ, MOVE, PCMPEQB, PSRLW, PSRLQ, PSRAD, PSLLD, PMULLW, PMULHW, PMADDWD, PSUBUSB, PSUBUSW, PADDUSB, PADDUSW, PSUBSB, PSUBSW, PANDN, PSUBB, KEEP, operate}
 
 -- an operation, its destination, its source, and what it leaves
 pub data Illustration : Type 0 where
@@ -23,13 +23,33 @@ illustrations =
     ∷ shows PUNPCKHWD 0x403076625FCF0001 0x1569F98C06FD0000 0x15694030F98C7662
     ∷ shows PUNPCKLWD 0x403076625FCF0001 0x1569F98C06FD0000 0x06FD5FCF00000001
     ∷ shows PADDUSB 0x7FD253427770079A 0x8188EC0E1444F7A8 0xFFFFFF508BB4FEFF
+    -- the same at another width: the number of lanes in a half, and the clamps
+    ∷ shows PACKSSDW 0xFFFF8002000001FC 0x8000000200008000 0x80007FFF800201FC
+    ∷ shows PADDUSW 0x7E108000FFFE1234 0x7000800000154567 0xEE10FFFFFFFF579B
+    -- which words PMADDWD multiplies
+    ∷ shows PMADDWD 0xFFFE7FFF7007FFFF 0x00027FFF0FF9FFFF 0x3FFEFFFD06FD5FD0
+    -- shifts that leave bits
+    ∷ shows PSLLD 0x000FA3BE01234567 8 0x0FA3BE0023456700
+    ∷ shows PSRAD 0xFFF0000001230000 16 0xFFFFFFF000000123
+    ∷ shows PSRLW 0x8800EC220FF9FF00 8 0x008800EC000F00FF
     -- single lanes of subtractions
     ∷ shows PSUBB 0x53079A 0xECF7A8 0x6710F2
     ∷ shows PSUBSB 0x8242 0x0FC1 0x807F
     ∷ shows PSUBSW 0x53218007 0xD3200FF9 0x7FFF8000
     ∷ shows PSUBUSW 0x00005321 0x0000EC22 0
+    -- our own: subtractions that clamp nothing
+    ∷ shows PSUBSB 0x10F0 0x0110 0x0FE0
+    ∷ shows PSUBUSB 0x10F0 0x0110 0x0FE0
+    -- the high half of eight lanes, and of two
+    ∷ shows PUNPCKHBW 0x8192A3B4C5D6E7F8 0 0x0081009200A300B4
+    ∷ shows PUNPCKHDQ 0x8192A3B4C5D6E7F8 0 0x8192A3B4
+    -- the count's highest bit counts too
+    ∷ shows PSRLQ 0xFFFFFFFFFFFFFFFF 0x8000000000000000 0
     -- PMULHW keeps the high half as it is, of products whose low half is 8000 or more too: 0181 times 0100 is 00018100, FFFF times 0001 is FFFFFFFF
     ∷ shows PMULHW 0x0181FFFF 0x01000001 0x0001FFFF
     -- PANDN inverts its destination
     ∷ shows PANDN 0xF0F0F0F0F0F0F0F0 0xFFFF0000FFFF0000 0x0F0F00000F0F0000
+    -- the source, and the destination
+    ∷ shows MOVE 1 2 2
+    ∷ shows KEEP 1 2 1
     ∷ []
