@@ -125,8 +125,12 @@ edges =
     -- MOVD to MMX clears the upper half; MOVD from MMX takes the low half
     ∷ doneWith 1 (mm0 5) (runWith 5 0 (0x0f ∷ 0x6e ∷ 0xc0 ∷ []))
     ∷ doneWith 1 (eax 0xffffffff) (run (0x0f ∷ 0x7e ∷ 0xc0 ∷ []))
+    ∷ doneWith 2 (eax 5) (runWith 5 0 (0x0f ∷ 0x6e ∷ 0xc0 ∷ 0x0f ∷ 0x7e ∷ 0xc0 ∷ []))
     ∷ doneWith 1 (memory 0xffffffff13121110) (run (0x0f ∷ 0x7e ∷ 0x05 ∷ 4 ∷ 0 ∷ 0 ∷ 0 ∷ []))
-    -- 0F 71 00 is 6, 0F 71 D0 is 3
+    -- at mod 11, rm 100 is MM4: no SIB byte
+    ∷ doneWith 1 (mm0 0) (run (0x0f ∷ 0x6f ∷ 0xc4 ∷ []))
+    -- a prefix is 4; 0F 71 00 is 6, 0F 71 D0 is 3
+    ∷ refuses 4 (run (0x66 ∷ []))
     ∷ refuses 6 (run (0x0f ∷ 0x71 ∷ 0x00 ∷ []))
     ∷ refuses 3 (run (0x0f ∷ 0x71 ∷ 0xd0 ∷ []))
     -- EM before TS before pending before the operand, and after the reading
