@@ -1,10 +1,11 @@
--- The definition computes to the customer's example: its parts, and no marks. Files that break one rule each compute to the refusal.
+-- The definition computes to the customer's example: its parts, and no marks; to a file of all five fields; and files that break one rule each to
+-- the refusal, without parts.
 use mathlib.Core.Path.{_≡_, refl}
 use mathlib.Core.List.{List, [], _∷_, _++_, map}
 use Prim.Native.Nat.{ℕ}
 use lib.ListN.{replicate}
 use Rattle.pagefile.specs.Fields.{mayHold}
-use Rattle.pagefile.specs.Reading.{size, holds, left, wellFormed, contentsOf, malformed, wellFormedWith, refusedWith, pageOf}
+use Rattle.pagefile.specs.Reading.{size, holds, left, wellFormed, contentsOf, wellFormedWith, refusedWith, pageOf}
 
 abbrev registers : List ℕ
 registers = 0xFF ∷ (replicate 7 0 ++ (0x02 ∷ replicate 55 0))
@@ -16,9 +17,24 @@ pub example : (pageOf file ≡ wellFormedWith 0) × (map (λ (tag : ℕ). conten
 unfolding mayHold size holds left wellFormed contentsOf pageOf
 example = (refl, refl)
 
--- a wrong length, a tag twice, a descending tag, an unknown tag, a field that runs past the end, a stray byte, a reserved mark
+-- all five fields: code and memory may be empty, and a marks byte may have bits 0 to 3
+abbrev integers : List ℕ
+integers = 0x44 ∷ replicate 31 0
+
+abbrev five : List ℕ
+five =
+    0x01 ∷ 0x00 ∷ 0x00 ∷ 0x02 ∷ 0x00 ∷ 0x00 ∷ 0x03 ∷ 0x40 ∷ 0x00
+    ∷ (registers ++ (0x04 ∷ 0x20 ∷ 0x00 ∷ (integers ++ (0x05 ∷ 0x01 ∷ 0x00 ∷ 0x0F ∷ []))))
+
+pub five-fields : (pageOf five ≡ wellFormedWith 0x0F) × (map (λ (tag : ℕ). contentsOf tag five) (1 ∷ 2 ∷ 3 ∷ 4 ∷ []) ≡ [] ∷ [] ∷ registers ∷ integers ∷ [])
+unfolding mayHold size holds left wellFormed contentsOf pageOf
+five-fields = (refl, refl)
+
+-- wrong lengths, a tag twice, a descending tag, an unknown tag, a field that runs past the end, a stray byte, a reserved mark
 pub broken : map pageOf
     ((0x03 ∷ 0x00 ∷ 0x00 ∷ [])
+    ∷ (0x04 ∷ 0x00 ∷ 0x00 ∷ [])
+    ∷ (0x05 ∷ 0x00 ∷ 0x00 ∷ [])
     ∷ (0x01 ∷ 0x00 ∷ 0x00 ∷ 0x01 ∷ 0x00 ∷ 0x00 ∷ [])
     ∷ (0x02 ∷ 0x00 ∷ 0x00 ∷ 0x01 ∷ 0x00 ∷ 0x00 ∷ [])
     ∷ (0x06 ∷ 0x00 ∷ 0x00 ∷ [])
@@ -26,6 +42,11 @@ pub broken : map pageOf
     ∷ (0x01 ∷ 0x00 ∷ 0x00 ∷ 0x02 ∷ [])
     ∷ (0x05 ∷ 0x01 ∷ 0x00 ∷ 0x10 ∷ [])
     ∷ [])
-    ≡ replicate 7 (refusedWith malformed)
+    ≡ replicate 9 (refusedWith 13)
 unfolding mayHold size left wellFormed contentsOf pageOf
 broken = refl
+
+-- the code of a file with a stray byte is no part of it
+pub no-part : contentsOf 1 (0x01 ∷ 0x01 ∷ 0x00 ∷ 0x90 ∷ 0x02 ∷ []) ≡ []
+unfolding mayHold size left wellFormed contentsOf
+no-part = refl
