@@ -7,6 +7,7 @@ pub mod Meeting
 pub mod Positions
 pub mod Tested
 pub mod Pairs
+pub mod Agreeing
 pub mod Allowed
 pub mod Calls
 pub mod Program

@@ -1,0 +1,62 @@
+-- What step, run and footprint hand back agrees: one number for one refusal, whichever of them was asked.
+use mathlib.Core.Path.{_≡_, sym, ap, subst, _∙_}
+use mathlib.Core.Bool.{false≢true}
+use mathlib.Core.Logic.{_↔_}
+use mathlib.Core.List.{List}
+use Prim.Native.Nat.{ℕ}
+use Rattle.reorder.specs.Result.{Result, done, refused, mapResult}
+use Rattle.reorder.specs.Run.{stopped}
+use Rattle.reorder.specs.Footprint as places
+use Rattle.manual.specs.declared.Kind.{Kind}
+use Rattle.manual.specs.State.{State}
+use Rattle.manual.specs.Places.{Place}
+use Rattle.manual.specs.Steps.{Outcome, refusedWith, stepAt}
+use Rattle.manual.specs.Runs.{runOf}
+use Rattle.manual.specs.Footprints.{footprintAt}
+use Rattle.manual.proofs.Refusals.{refused-run}
+use Rattle.manual.proofs.Uses.{Together, footprint-exactly}
+use Rattle.machine.specs.declared.Taken.{Taken}
+use Rattle.machine.specs.declared.Taken.the-variants as taken
+use Rattle.machine.specs.declared.End.{End}
+use Rattle.machine.specs.declared.End.the-variants as end
+use Rattle.machine.specs.declared.Printed.{Printed}
+use Rattle.machine.specs.declared.Printed.the-variants as printed
+use Rattle.machine.specs.declared.Stepped.{Stepped}
+use Rattle.machine.specs.declared.Ran.{Ran}
+use Rattle.machine.specs.State.{stateOf}
+use Rattle.machine.specs.Steps.{paperOfTaken, paperOfStep}
+use Rattle.machine.specs.Runs.{paperOfEnd, paperOfRun}
+use Rattle.machine.specs.Prints.{print, printAt, paperOfFootprint}
+
+-- "It has no answer for a step that is refused: that step's refusal is given"
+pub footprint-as-step : (code memory : List ℕ) (at n : ℕ) (s : State) (stepped : Stepped) (p : Printed)
+    → paperOfStep stepped memory ≡ stepAt code at s → paperOfFootprint p ≡ printAt code at s
+    → (stepped .answer ≡ taken.Refused n) ↔ (p ≡ printed.Refused n)
+unfolding printAt
+footprint-as-step code memory at n s stepped p step print-is =
+    by (stepped .answer) p (footprintAt code at s) (subst (λ (o : Outcome). Together o (footprintAt code at s)) (sym step) (footprint-exactly code at s)) print-is
+  where
+    by : (a : Taken) (q : Printed) (o : Result (places.Footprint Place Kind))
+        → Together (paperOfTaken a (stepped .at) (stateOf (stepped .machine) memory)) o → paperOfFootprint q ≡ mapResult print o
+        → (a ≡ taken.Refused n) ↔ (q ≡ printed.Refused n)
+    by taken.Completed (printed.Of f) o t e = (λ h. absurd (false≢true (cc)), λ h. absurd (false≢true (cc)))
+    by taken.Completed (printed.Refused k) (done g) t e = absurd (false≢true (cc))
+    by taken.Completed (printed.Refused k) (refused j) t e = absurd t
+    by (taken.Refused m) q (done g) t e = absurd t
+    by (taken.Refused m) (printed.Of f) (refused j) t e = absurd (false≢true (cc))
+    by (taken.Refused m) (printed.Refused k) (refused j) t e = (λ h. cc, λ h. cc)
+
+-- a refused run has come to a step that is refused by the same number
+pub run-as-step : (code after left : List ℕ) (budget n : ℕ) (s : State) (ran : Ran) (stepped : Stepped)
+    → paperOfRun ran after ≡ runOf code budget s → ran .end ≡ end.Refused n
+    → paperOfStep stepped left ≡ stepAt code (ran .at) (stateOf (ran .machine) after)
+    → stepped .answer ≡ taken.Refused n
+run-as-step code after left budget n s ran stepped run-is refusal step =
+    let t : State = stateOf (ran .machine) after in
+    let stops : runOf code budget s ≡ stopped n (ran .at) (ran .count) t =
+    sym run-is ∙ ap (λ (e : End). paperOfEnd e (ran .at) (ran .count) t) refusal in
+    by (stepped .answer) (step ∙ refused-run code budget n (ran .at) (ran .count) s t stops .0)
+  where
+    by : (a : Taken) → paperOfTaken a (stepped .at) (stateOf (stepped .machine) left) ≡ refusedWith n (ran .at) (stateOf (ran .machine) after) → a ≡ taken.Refused n
+    by taken.Completed e = absurd (false≢true (cc))
+    by (taken.Refused m) e = cc
