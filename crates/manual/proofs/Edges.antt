@@ -127,6 +127,8 @@ edges =
     ∷ doneWith 1 (eax 0xffffffff) (run (0x0f ∷ 0x7e ∷ 0xc0 ∷ []))
     ∷ doneWith 2 (eax 5) (runWith 5 0 (0x0f ∷ 0x6e ∷ 0xc0 ∷ 0x0f ∷ 0x7e ∷ 0xc0 ∷ []))
     ∷ doneWith 1 (memory 0xffffffff13121110) (run (0x0f ∷ 0x7e ∷ 0x05 ∷ 4 ∷ 0 ∷ 0 ∷ 0 ∷ []))
+    -- a store writes each byte to its own place
+    ∷ doneWith 2 (memory 0x0403020113121110) (runWith 0x04030201 0 (0x0f ∷ 0x6e ∷ 0xc0 ∷ 0x0f ∷ 0x7e ∷ 0x05 ∷ 4 ∷ 0 ∷ 0 ∷ 0 ∷ []))
     -- at mod 11, rm 100 is MM4: no SIB byte
     ∷ doneWith 1 (mm0 0) (run (0x0f ∷ 0x6f ∷ 0xc4 ∷ []))
     -- a prefix is 4; 0F 71 00 is 6, 0F 71 D0 is 3
