@@ -46,6 +46,11 @@ pub broken : map pageOf
 unfolding mayHold size left wellFormed contentsOf pageOf
 broken = refl
 
+-- 65,536 bytes are not too long, 65,537 are
+pub longest : map pageOf ((0x01 ∷ 0xFD ∷ 0xFF ∷ replicate 65533 0) ∷ (0x01 ∷ 0xFE ∷ 0xFF ∷ replicate 65534 0) ∷ []) ≡ wellFormedWith 0 ∷ refusedWith 13 ∷ []
+unfolding mayHold size holds left wellFormed contentsOf pageOf
+longest = refl
+
 -- the code of a file with a stray byte is no part of it
 pub no-part : contentsOf 1 (0x01 ∷ 0x01 ∷ 0x00 ∷ 0x90 ∷ 0x02 ∷ []) ≡ []
 unfolding mayHold size left wellFormed contentsOf
