@@ -1,16 +1,20 @@
--- What step, run and footprint hand back agrees: one number for one refusal, whichever of them was asked.
+-- What reading, step, run and footprint hand back agrees: one number for one refusal, whichever of them was asked.
 use mathlib.Core.Path.{_≡_, sym, ap, subst, _∙_}
-use mathlib.Core.Bool.{false≢true}
+use mathlib.Core.Bool.{false, false≢true}
 use mathlib.Core.Logic.{_↔_}
 use mathlib.Core.List.{List}
 use Prim.Native.Nat.{ℕ}
 use Rattle.reorder.specs.Result.{Result, done, refused, mapResult}
 use Rattle.reorder.specs.Run.{stopped}
 use Rattle.reorder.specs.Footprint as places
+use Rattle.codec.specs.declared.Reading.{Reading}
+use Rattle.codec.specs.declared.Reading.the-variants as reading
+use Rattle.codec.specs.Answers.{paperOfReading}
+use Rattle.codec.specs.Reads.{readAt}
 use Rattle.manual.specs.declared.Kind.{Kind}
-use Rattle.manual.specs.State.{State}
+use Rattle.manual.specs.State.{State, isTooLong}
 use Rattle.manual.specs.Places.{Place}
-use Rattle.manual.specs.Steps.{Outcome, refusedWith, stepAt}
+use Rattle.manual.specs.Steps.{Outcome, refusedWith, instructionAt, stepAt}
 use Rattle.manual.specs.Runs.{runOf}
 use Rattle.manual.specs.Footprints.{footprintAt}
 use Rattle.manual.proofs.Refusals.{refused-run}
@@ -27,6 +31,22 @@ use Rattle.machine.specs.State.{stateOf}
 use Rattle.machine.specs.Steps.{paperOfTaken, paperOfStep}
 use Rattle.machine.specs.Runs.{paperOfEnd, paperOfRun}
 use Rattle.machine.specs.Prints.{print, printAt, paperOfFootprint}
+
+-- a step that is refused by this number was handed back as such
+step-refused : (stepped : Stepped) (memory : List ℕ) (n at : ℕ) (s : State) → paperOfStep stepped memory ≡ refusedWith n at s → stepped .answer ≡ taken.Refused n
+step-refused stepped memory n at s e = by (stepped .answer) e
+  where
+    by : (a : Taken) → paperOfTaken a (stepped .at) (stateOf (stepped .machine) memory) ≡ refusedWith n at s → a ≡ taken.Refused n
+    by taken.Completed e = absurd (false≢true (cc))
+    by (taken.Refused m) e = cc
+
+-- where reading is refused, so is the step there, unless the memory is too long
+pub reading-as-step : (code memory : List ℕ) (at n : ℕ) (s : State) (r : Reading) (stepped : Stepped) → isTooLong (s .memory) ≡ false
+    → paperOfReading r ≡ readAt code at → r ≡ reading.Refused n → paperOfStep stepped memory ≡ stepAt code at s
+    → stepped .answer ≡ taken.Refused n
+unfolding instructionAt stepAt
+reading-as-step code memory at n s r stepped fits read-is refusal step =
+    step-refused stepped memory n at s (step ∙ simp (fits, sym read-is ∙ ap paperOfReading refusal))
 
 -- "It has no answer for a step that is refused: that step's refusal is given"
 pub footprint-as-step : (code memory : List ℕ) (at n : ℕ) (s : State) (stepped : Stepped) (p : Printed)
@@ -55,8 +75,4 @@ run-as-step code after left budget n s ran stepped run-is refusal step =
     let t : State = stateOf (ran .machine) after in
     let stops : runOf code budget s ≡ stopped n (ran .at) (ran .count) t =
     sym run-is ∙ ap (λ (e : End). paperOfEnd e (ran .at) (ran .count) t) refusal in
-    by (stepped .answer) (step ∙ refused-run code budget n (ran .at) (ran .count) s t stops .0)
-  where
-    by : (a : Taken) → paperOfTaken a (stepped .at) (stateOf (stepped .machine) left) ≡ refusedWith n (ran .at) (stateOf (ran .machine) after) → a ≡ taken.Refused n
-    by taken.Completed e = absurd (false≢true (cc))
-    by (taken.Refused m) e = cc
+    step-refused stepped left n (ran .at) t (step ∙ refused-run code budget n (ran .at) (ran .count) s t stops .0)
