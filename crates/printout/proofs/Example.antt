@@ -1,5 +1,5 @@
 -- The lines of a text, and what the definition computes to: the first line of each ending, the tags line of each mark, and the memory's lines of
--- two rows.
+-- three rows.
 use mathlib.Core.Path.{_≡_, refl}
 use mathlib.Core.Bool.{true, false}
 use mathlib.Core.List.{List, [], _∷_, _++_}
@@ -29,8 +29,16 @@ pub tags-lines : tagsLine true ++ tagsLine false ≡ lines ("tags valid" ∷ "ta
 unfolding tagsLine
 tags-lines = refl
 
-pub byte-lines : memoryLine 18
-    ++ byteLines 0 (0 ∷ 1 ∷ 2 ∷ 3 ∷ 4 ∷ 5 ∷ 6 ∷ 7 ∷ 8 ∷ 9 ∷ 10 ∷ 11 ∷ 12 ∷ 13 ∷ 14 ∷ 255 ∷ 171 ∷ 205 ∷ [])
-    ≡ lines ("memory 18" ∷ "00 01 02 03 04 05 06 07 08 09 0A 0B 0C 0D 0E FF" ∷ "AB CD" ∷ [])
+pub byte-lines : memoryLine 34
+    ++ byteLines 0
+    (0 ∷ 1 ∷ 2 ∷ 3 ∷ 4 ∷ 5 ∷ 6 ∷ 7 ∷ 8 ∷ 9 ∷ 10 ∷ 11 ∷ 12 ∷ 13 ∷ 14 ∷ 255
+    ∷ 16 ∷ 17 ∷ 18 ∷ 19 ∷ 20 ∷ 21 ∷ 22 ∷ 23 ∷ 24 ∷ 25 ∷ 26 ∷ 27 ∷ 28 ∷ 29 ∷ 30 ∷ 31
+    ∷ 171 ∷ 205 ∷ [])
+    ≡ lines
+    ("memory 34"
+    ∷ "00 01 02 03 04 05 06 07 08 09 0A 0B 0C 0D 0E FF"
+    ∷ "10 11 12 13 14 15 16 17 18 19 1A 1B 1C 1D 1E 1F"
+    ∷ "AB CD"
+    ∷ [])
 unfolding memoryLine byteLines decimal digits places
 byte-lines = refl
