@@ -1,6 +1,6 @@
 -- What the writer leaves, computed: in a buffer that is longer than the instruction, as long, and shorter; and of a record without bytes.
 use mathlib.Core.Path.{_≡_, refl}
-use mathlib.Core.List.{List, [], _∷_}
+use mathlib.Core.List.{[], _∷_}
 use Prim.Native.Nat.{ℕ}
 use Rattle.codec.specs.declared.Instruction.{Instruction}
 use Rattle.codec.specs.Answers.{wrote, refusedWith}
