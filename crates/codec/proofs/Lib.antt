@@ -1,4 +1,4 @@
--- The laws of the codec, in the order in which they build on each other; its theorems are in Theorems, Exactly, FirstBytes, Example and Allowed.
+-- The laws of the codec, in the order in which they build on each other; its theorems are in Theorems, Exactly, OpcodeBytes, Example and Allowed.
 pub mod Tests
 pub mod Joined
 pub mod Sizes
@@ -17,6 +17,6 @@ pub mod ReadingBack
 pub mod Ranges
 pub mod Theorems
 pub mod Exactly
-pub mod FirstBytes
+pub mod OpcodeBytes
 pub mod Example
 pub mod Allowed

@@ -3,10 +3,11 @@
 use mathlib.Core.Path.{_≡_, refl, ap}
 use mathlib.Core.Bool.{true, false}
 use mathlib.Core.List.{List, [], _∷_, _++_, map}
-use Prim.Native.Nat.{ℕ, zero, suc}
+use Prim.Native.Nat.{ℕ}
 use lib.Dec.{ltb}
 use lib.ListN.{length, replicate, take}
 use Rattle.words.specs.Buffer.{loaded}
+use Rattle.reorder.proofs.Permutation.{from}
 use Rattle.codec.specs.Opcodes.{entryOf}
 use Rattle.codec.specs.Reads.{immediateReader, formReader, secondReader, instructionReader}
 use Rattle.manual.specs.State.{isTooLong}
@@ -48,11 +49,6 @@ pub example : pageText file
     ∷ [])
 unfolding loaded mayHold size holds left wellFormed contentsOf pageOf startOf stateText runIn wellFormedText pageText reportText answer firstLine registerLines mmxLines integerLines tagsLine memoryLine byteLines decimal digits places
 example = ap answerText (computed .customer)
-
--- the n numbers m, m + 1, ..
-abbrev from : ℕ → ℕ → List ℕ
-from m zero = []
-from m (suc n) = m ∷ from (suc m) n
 
 -- EMMS, 17 bytes of memory, the MMX registers, the integer registers, and these marks
 abbrev marked : ℕ → List ℕ
