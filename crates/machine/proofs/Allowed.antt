@@ -35,11 +35,11 @@ use Rattle.machine.proofs.Machine.from_page.Reads as from-page-reads
 use Rattle.machine.proofs.Machine.from_page.Kinds as from-page-kinds
 
 -- a step's answer and the memory, from the paper's answer
-record After (A : Type 0) : Type 0 where
-  answer : A
-  memory : List ℕ
+pub record After (A : Type 0) : Type 0 where
+  pub answer : A
+  pub memory : List ℕ
 
-abbrev machineIn : State → Machine
+abbrev pub machineIn : State → Machine
 machineIn s = record { mmx = s .mmx; integers = s .integers; valid = s .valid; em = s .em; ts = s .ts; pending = s .pending }
 
 stepBack : Outcome → After Stepped
@@ -61,7 +61,7 @@ step-one κs a r₁ r₂ s₁ s₂ p q =
     let b = sym (step-back (r₁ .answer) (r₁ .at) (r₁ .machine) m₁) ∙ ap stepBack e ∙ step-back (r₂ .answer) (r₂ .at) (r₂ .machine) m₂ in
     (ap (λ (x : After Stepped). x .answer) b, ap (λ (x : After Stepped). x .memory) b)
 
-runBack : Answer State → After Ran
+pub runBack : Answer State → After Ran
 runBack (finished at count s) = record { answer = record { end = end.Done; at = at; count = count; machine = machineIn s }; memory = s .memory }
 runBack (spent at count s) = record { answer = record { end = end.Spent; at = at; count = count; machine = machineIn s }; memory = s .memory }
 runBack (stopped n at count s) = record { answer = record { end = end.Refused n; at = at; count = count; machine = machineIn s }; memory = s .memory }
@@ -72,6 +72,13 @@ unfolding runBack
 run-back end.Done at count k m = refl
 run-back end.Spent at count k m = refl
 run-back (end.Refused n) at count k m = refl
+
+-- every answer of the paper is that of what a run may hand back
+pub run-handed : (a : Answer State) → paperOfRun (runBack a .answer) (runBack a .memory) ≡ a
+unfolding runBack
+run-handed (finished at count s) = refl
+run-handed (spent at count s) = refl
+run-handed (stopped n at count s) = refl
 
 -- the paper's answer of a run gives back what the run handed back, and the memory
 pub run-given : (r₁ r₂ : Ran) (m₁ m₂ : List ℕ) → paperOfRun r₁ m₁ ≡ paperOfRun r₂ m₂ → (r₁ ≡ r₂) × (m₁ ≡ m₂)

@@ -1,13 +1,13 @@
 -- Calls of the program's functions: what was handed in, what was handed back and what is then in the lent memory. That the contract was met is what
 -- the proof of each function shows of every call.
-use mathlib.Core.Path.{_≡_, sym, ap, ap₂, _∙_}
+use mathlib.Core.Path.{_≡_, refl, sym, ap, ap₂, _∙_}
 use mathlib.Core.Bool.{Bool}
-use mathlib.Core.List.{List}
+use mathlib.Core.List.{List, []}
 use Prim.Native.Nat.{ℕ}
 use contract.Lifetimes.{Lfts}
 use borrow.Fn.Kinds.{Dens, endedOf}
 use denote.Triple.Clauses.{AtExit}
-use denote.Ref.{now}
+use denote.Ref.{RefT, now}
 use Rattle.manual.specs.Runs.{runOf}
 use Rattle.machine.specs.declared.Machine.{Machine}
 use Rattle.machine.specs.declared.Footprint.{Footprint}
@@ -73,3 +73,42 @@ footprint-says machine code at memory answer c =
 
 pub meets-says : (first second : Footprint) (answer : Bool) → MeetsCall first second answer → answer ≡ meet first second
 meets-says first second answer c = c .met ∙ ap₂ meet (c .with-first) (c .with-second)
+
+-- and a call that hands back what the contract says can be had: a contract that no answer meets would promise anything
+
+-- bytes that are lent
+abbrev lent : List ℕ → RefT (List ℕ)
+lent bytes = record { ptr = (0, 0); name = 0; now = bytes }
+
+pub run-there : (machine : Machine) (code memory : List ℕ) (budget : ℕ) (answer : Ran) (after : List ℕ)
+    → paperOfRun answer after ≡ runOf code budget (stateOf machine memory) → RunCall machine code memory budget answer after
+run-there machine code memory budget answer after e =
+    record {
+      κs = ([], ([], tt));
+      given = (machine, (lent code, (lent memory, (budget, tt))));
+      exit = (machine, (lent code, (lent after, (budget, tt))));
+      met = e;
+      with-machine = refl;
+      with-code = refl;
+      with-memory = refl;
+      with-budget = refl;
+      left = refl;
+    }
+
+pub footprint-there : (machine : Machine) (code : List ℕ) (at : ℕ) (memory : List ℕ) (answer : Printed)
+    → paperOfFootprint answer ≡ printAt code at (stateOf machine memory) → FootprintCall machine code at memory answer
+footprint-there machine code at memory answer e =
+    record {
+      κs = ([], ([], tt));
+      given = (machine, (lent code, (at, (lent memory, tt))));
+      exit = (machine, (lent code, (at, (lent memory, tt))));
+      met = e;
+      with-machine = refl;
+      with-code = refl;
+      with-position = refl;
+      with-memory = refl;
+    }
+
+pub meets-there : (first second : Footprint) → MeetsCall first second (meet first second)
+meets-there first second =
+    record { κs = tt; given = (first, (second, tt)); exit = (first, (second, tt)); met = refl; with-first = refl; with-second = refl }

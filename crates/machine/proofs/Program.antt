@@ -1,7 +1,7 @@
--- Demand 3 of the program itself: over calls of Machine::run, Machine::footprint and meets, by what they hand back.
+-- Demand 3 of the program itself: over calls of Machine::run, Machine::footprint and meets, by what they hand back; and such calls can be had.
 use mathlib.Core.Path.{_≡_, refl, sym, ap, ap₂, _∙_}
 use mathlib.Core.Bool.{Bool, true, false≢true}
-use mathlib.Core.List.{List, map, flatten}
+use mathlib.Core.List.{List, [], map, flatten}
 use Prim.Native.Nat.{ℕ, suc, _≤_, _<_}
 use native.Mathlib.Omega.{arith}
 use Rattle.reorder.specs.Result.{Result, done, refused, mapResult}
@@ -11,11 +11,12 @@ use Rattle.reorder.specs.Run.{finished, positionReached, stateReached}
 use Rattle.reorder.specs.Block.{rearranged}
 use Rattle.reorder.proofs.Permutation.{order-below}
 use Rattle.manual.specs.declared.Kind.{Kind}
+use Rattle.manual.specs.declared.Kind.the-variants.{Ordinary}
 use Rattle.manual.specs.State.{State}
 use Rattle.manual.specs.Places.{Place}
 use Rattle.manual.specs.Runs.{read, runOf}
 use Rattle.manual.specs.Footprints.{footprintAt, footprintInRun}
-use Rattle.manual.proofs.Demand3.{positionInRun, part, map-alike, rearranged-parts}
+use Rattle.manual.proofs.Demand3.{positionInRun, part, map-alike, print-there, rearranged-parts}
 use Rattle.machine.specs.declared.Machine.{Machine}
 use Rattle.machine.specs.declared.Footprint.{Footprint}
 use Rattle.machine.specs.declared.Printed.the-variants.{Of}
@@ -23,11 +24,11 @@ use Rattle.machine.specs.declared.End.{End}
 use Rattle.machine.specs.declared.End.the-variants.{Done, Spent, Refused}
 use Rattle.machine.specs.declared.Ran.{Ran}
 use Rattle.machine.specs.State.{stateOf}
-use Rattle.machine.specs.Runs.{paperOfEnd}
+use Rattle.machine.specs.Runs.{paperOfEnd, paperOfRun}
 use Rattle.machine.specs.Prints.{print, printAt, meet, meetTest}
 use Rattle.machine.proofs.Tested.{demand-3-tested}
-use Rattle.machine.proofs.Allowed.{run-given}
-use Rattle.machine.proofs.Calls.{RunCall, FootprintCall, MeetsCall, run-says, footprint-says, meets-says}
+use Rattle.machine.proofs.Allowed.{After, machineIn, runBack, run-handed, run-given}
+use Rattle.machine.proofs.Calls.{RunCall, FootprintCall, MeetsCall, run-says, footprint-says, meets-says, run-there, footprint-there, meets-there}
 
 -- what a run has come to, by what it handed back
 
@@ -41,15 +42,28 @@ state-handed Done at count s = refl
 state-handed Spent at count s = refl
 state-handed (Refused n) at count s = refl
 
+module _ (machine : Machine) (code memory : List ℕ) (k : ℕ) (answer : Ran) (after : List ℕ) (call : RunCall machine code memory k answer after) where
+  called : runOf code k (stateOf machine memory) ≡ paperOfRun answer after
+  called = sym (run-says machine code memory k answer after call)
+
+  position-called : positionInRun code (stateOf machine memory) k ≡ answer .at
+  position-called = ap positionReached called ∙ position-handed (answer .end) (answer .at) (answer .count) (stateOf (answer .machine) after)
+
+  state-called : stateReached (runOf code k (stateOf machine memory)) ≡ stateOf (answer .machine) after
+  state-called = ap stateReached called ∙ state-handed (answer .end) (answer .at) (answer .count) (stateOf (answer .machine) after)
+
+  -- so its footprint there is that of the instruction in the run
+  print-called : footprintInRun code (stateOf machine memory) k ≡ footprintAt code (answer .at) (stateOf (answer .machine) after)
+  print-called = ap₂ (footprintAt code) position-called state-called
+
 -- the program's test of two footprints is its test of what it handed out of them
 handed-test : (x y : Result (places.Footprint Place Kind)) (f g : Footprint) → mapResult print x ≡ done f → mapResult print y ≡ done g → meetTest x y ≡ meet f g
 handed-test (done a) (done b) f g ex ey = let same : print a ≡ f = cc in let same′ : print b ≡ g = cc in ap₂ meet same same′
 handed-test (done a) (refused n) f g ex ey = absurd (false≢true (cc))
 handed-test (refused n) y f g ex ey = absurd (false≢true (cc))
 
--- What a studio has in hand of a block, from calls alone (each call meets its contract, so that every machine, code and memory with a run that is
--- done has this): a run of it that was done; for each k up to the count, a run of k instructions from the same start; for each
--- k below it, the footprint handed out at the position, on the machine and over the memory that this run handed back; and for each pair of
+-- What a studio has in hand of a block: a run of it that was done; for each k up to the count, a run of k instructions from the same start; for
+-- each k below it, the footprint handed out at the position, on the machine and over the memory that this run handed back; and for each pair of
 -- them whether they meet.
 pub record Recorded (machine : Machine) (code memory : List ℕ) (budget : ℕ) (whole : Ran) (after : List ℕ) : Type 1 where
   pub ran : RunCall machine code memory budget whole after
@@ -74,19 +88,12 @@ module _ (machine : Machine) (code memory : List ℕ) (budget : ℕ) (whole : Ra
   finishes = sym (run-says machine code memory budget whole after (known .ran)) ∙ ap (λ e. paperOfEnd e (whole .at) (whole .count) (stateOf (whole .machine) after)) (known .ended)
 
   position-of : (k : ℕ) → k ≤ whole .count → positionInRun code start k ≡ known .runs k .at
-  position-of k b =
-      ap positionReached (sym (run-says machine code memory k (known .runs k) (known .memories k) (known .run-of k b)))
-      ∙ position-handed (known .runs k .end) (known .runs k .at) (known .runs k .count) (stateOf (known .runs k .machine) (known .memories k))
-
-  state-of : (k : ℕ) → k ≤ whole .count → stateReached (runOf code k start) ≡ stateOf (known .runs k .machine) (known .memories k)
-  state-of k b =
-      ap stateReached (sym (run-says machine code memory k (known .runs k) (known .memories k) (known .run-of k b)))
-      ∙ state-handed (known .runs k .end) (known .runs k .at) (known .runs k .count) (stateOf (known .runs k .machine) (known .memories k))
+  position-of k b = position-called machine code memory k (known .runs k) (known .memories k) (known .run-of k b)
 
   printed : (k : ℕ) → k < whole .count → mapResult print (footprintInRun code start k) ≡ done (known .prints k)
   unfolding printAt
   printed k b =
-      ap (mapResult print) (ap₂ (footprintAt code) (position-of k (omega arith)) (state-of k (omega arith)))
+      ap (mapResult print) (print-called machine code memory k (known .runs k) (known .memories k) (known .run-of k (omega arith)))
       ∙ sym (footprint-says (known .runs k .machine) code (known .runs k .at) (known .memories k) (Of (known .prints k)) (known .print-of k b))
 
   same-block : (order : List ℕ) → NewOrder (whole .count) order → rearranged read code order ≡ moved order
@@ -114,3 +121,44 @@ module _ (machine : Machine) (code memory : List ℕ) (budget : ℕ) (whole : Ra
           (meets-says (known .prints i) (known .prints j) (known .meeting i j) (known .meeting-of i j earlier j-in)
           ∙ sym (handed-test (footprintInRun code start i) (footprintInRun code start j) (known .prints i) (known .prints j) (printed i (omega arith)) (printed j j-in))
           ∙ m)
+
+-- It can be had of every block whose run is done.
+module _ (machine : Machine) (code memory : List ℕ) (budget end total : ℕ) (final : State)
+    (h : runOf code budget (stateOf machine memory) ≡ finished end total final) where
+  abbrev began : State
+  began = stateOf machine memory
+
+  -- what a run of so many instructions hands back
+  abbrev handed : ℕ → After Ran
+  handed k = runBack (runOf code k began)
+
+  handed-run : (k : ℕ) → RunCall machine code memory k (handed k .answer) (handed k .memory)
+  handed-run k = run-there machine code memory k (handed k .answer) (handed k .memory) (run-handed (runOf code k began))
+
+  -- the footprint that is handed out of a result (of a refusal, which there is none of below the count, this stands in)
+  handedOut : Result (places.Footprint Place Kind) → Footprint
+  handedOut (done f) = print f
+  handedOut (refused n) = print (record { reads = []; writes = []; kind = Ordinary })
+
+  handed-print : (k : ℕ) → k < total
+      → FootprintCall (handed k .answer .machine) code (handed k .answer .at) (handed k .memory) (Of (handedOut (footprintInRun code began k)))
+  unfolding handedOut printAt
+  handed-print k b =
+      let (f, e) = print-there code budget end total began final h k b in
+      footprint-there (handed k .answer .machine) code (handed k .answer .at) (handed k .memory) _
+      (ap (λ o. done (handedOut o)) e
+      ∙ ap (mapResult print) (sym e ∙ print-called machine code memory k (handed k .answer) (handed k .memory) (handed-run k)))
+
+  pub recorded : Recorded machine code memory budget (record { end = Done; at = end; count = total; machine = machineIn final }) (final .memory)
+  recorded =
+      record {
+        ran = run-there machine code memory budget _ _ (sym h);
+        ended = refl;
+        runs = λ k. handed k .answer;
+        memories = λ k. handed k .memory;
+        run-of = λ k b. handed-run k;
+        prints = λ k. handedOut (footprintInRun code began k);
+        print-of = handed-print;
+        meeting = λ i j. meet (handedOut (footprintInRun code began i)) (handedOut (footprintInRun code began j));
+        meeting-of = λ i j earlier b. meets-there _ _;
+      }
