@@ -35,7 +35,7 @@ first-bytes = record { four = refl; three = refl; five = refl }
 abbrev secondBytes : ℕ → ℕ → List ℕ
 secondBytes b zero = []
 secondBytes b (suc more) =
-    cond (not (isRefusedBy 5 (readPart (0x0f ∷ b ∷ [])))) (b ∷ secondBytes (suc b) more) (secondBytes (suc b) more)
+    cond (not (isRefusedBy notListed (readPart (0x0f ∷ b ∷ [])))) (b ∷ secondBytes (suc b) more) (secondBytes (suc b) more)
 
 -- document 01's table, its bytes in ascending order
 pub second-bytes : secondBytes 0 256

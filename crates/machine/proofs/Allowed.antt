@@ -34,7 +34,7 @@ use Rattle.machine.proofs.meetings.meets.Kinds as meets-kinds
 use Rattle.machine.proofs.Machine.from_page.Reads as from-page-reads
 use Rattle.machine.proofs.Machine.from_page.Kinds as from-page-kinds
 
--- a step's answer and the memory, from the paper's answer
+-- an answer and the memory, from the paper's answer
 pub record After (A : Type 0) : Type 0 where
   pub answer : A
   pub memory : List ℕ

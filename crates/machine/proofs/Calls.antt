@@ -1,5 +1,5 @@
 -- Calls of the program's functions: what was handed in, what was handed back and what is then in the lent memory. That the contract was met is what
--- the proof of each function shows of every call.
+-- the proof of each function shows of every call; and such calls can be had.
 use mathlib.Core.Path.{_≡_, refl, sym, ap, ap₂, _∙_}
 use mathlib.Core.Bool.{Bool}
 use mathlib.Core.List.{List, []}

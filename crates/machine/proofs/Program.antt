@@ -122,18 +122,15 @@ module _ (machine : Machine) (code memory : List ℕ) (budget : ℕ) (whole : Ra
           ∙ sym (handed-test (footprintInRun code start i) (footprintInRun code start j) (known .prints i) (known .prints j) (printed i (omega arith)) (printed j j-in))
           ∙ m)
 
--- It can be had of every block whose run is done.
+-- What is recorded can be had of every block whose run is done.
 module _ (machine : Machine) (code memory : List ℕ) (budget end total : ℕ) (final : State)
     (h : runOf code budget (stateOf machine memory) ≡ finished end total final) where
-  abbrev began : State
-  began = stateOf machine memory
-
   -- what a run of so many instructions hands back
   abbrev handed : ℕ → After Ran
-  handed k = runBack (runOf code k began)
+  handed k = runBack (runOf code k (stateOf machine memory))
 
   handed-run : (k : ℕ) → RunCall machine code memory k (handed k .answer) (handed k .memory)
-  handed-run k = run-there machine code memory k (handed k .answer) (handed k .memory) (run-handed (runOf code k began))
+  handed-run k = run-there machine code memory k (handed k .answer) (handed k .memory) (run-handed (runOf code k (stateOf machine memory)))
 
   -- the footprint that is handed out of a result (of a refusal, which there is none of below the count, this stands in)
   handedOut : Result (places.Footprint Place Kind) → Footprint
@@ -141,10 +138,10 @@ module _ (machine : Machine) (code memory : List ℕ) (budget end total : ℕ) (
   handedOut (refused n) = print (record { reads = []; writes = []; kind = Ordinary })
 
   handed-print : (k : ℕ) → k < total
-      → FootprintCall (handed k .answer .machine) code (handed k .answer .at) (handed k .memory) (Of (handedOut (footprintInRun code began k)))
+      → FootprintCall (handed k .answer .machine) code (handed k .answer .at) (handed k .memory) (Of (handedOut (footprintInRun code (stateOf machine memory) k)))
   unfolding handedOut printAt
   handed-print k b =
-      let (f, e) = print-there code budget end total began final h k b in
+      let (f, e) = print-there code budget end total (stateOf machine memory) final h k b in
       footprint-there (handed k .answer .machine) code (handed k .answer .at) (handed k .memory) _
       (ap (λ o. done (handedOut o)) e
       ∙ ap (mapResult print) (sym e ∙ print-called machine code memory k (handed k .answer) (handed k .memory) (handed-run k)))
@@ -157,8 +154,8 @@ module _ (machine : Machine) (code memory : List ℕ) (budget end total : ℕ) (
         runs = λ k. handed k .answer;
         memories = λ k. handed k .memory;
         run-of = λ k b. handed-run k;
-        prints = λ k. handedOut (footprintInRun code began k);
+        prints = λ k. handedOut (footprintInRun code (stateOf machine memory) k);
         print-of = handed-print;
-        meeting = λ i j. meet (handedOut (footprintInRun code began i)) (handedOut (footprintInRun code began j));
+        meeting = λ i j. meet (handedOut (footprintInRun code (stateOf machine memory) i)) (handedOut (footprintInRun code (stateOf machine memory) j));
         meeting-of = λ i j earlier b. meets-there _ _;
       }
