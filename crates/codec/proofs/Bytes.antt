@@ -1,46 +1,39 @@
--- Which second bytes have a form: by the rows of the table, in one computation for each form.
-use Prim.Native.Nat.{ℕ}
-use mathlib.Core.Path.{_≡_, refl, ap}
-use mathlib.Core.Bool.{Bool, true, false, cond, _||_, false≢true}
+-- What the list says of every second byte: a test that all its lines pass is passed by what is found.
+use Prim.Native.Nat.{ℕ, _≤_}
+use mathlib.Core.Path.{_≡_, refl}
+use mathlib.Core.Bool.{Bool, true, false, cond, _&&_}
 use mathlib.Core.List.{List, [], _∷_}
-use lib.Dec.{eqb}
-use Rattle.codec.specs.Forms.{Form, absent, isAmong}
-use Rattle.codec.specs.Opcodes.{Row, row, rows, find, entryOf}
-use Rattle.codec.specs.Packed.{formNumber}
+use native.Mathlib.Omega.{arith}
+use borrow.Author.Tests.{ltb-true, eqb-true}
+use lib.Dec.{eqb, ltb}
+use Rattle.codec.specs.Forms.{Form, absent}
+use Rattle.codec.specs.Opcodes.{Line, lines, find, formAt}
+use Rattle.words.proofs.Laws.{and-both}
 
--- a form by its number in the table (that of the usual form is 8 here)
-abbrev pub numberIs : ℕ → Form → Bool
-numberIs n form = eqb (formNumber form 8) n
+abbrev pub allLines : (Line → Bool) → List Line → Bool
+allLines test [] = true
+allLines test (x ∷ xs) = test x && allLines test xs
 
--- the second bytes of the rows whose form passes a test
-abbrev pub bytesWith : (Form → Bool) → List Row → List ℕ
-bytesWith test [] = []
-bytesWith test (row second operation lane size form ∷ rest) = cond (test form) (second ∷ bytesWith test rest) (bytesWith test rest)
-
-among-more : (t : Bool) (second byte : ℕ) (rest : List ℕ) → isAmong second rest ≡ true → isAmong second (cond t (byte ∷ rest) rest) ≡ true
-among-more true second byte rest h = by (eqb second byte) h
-  where
-    by : (u : Bool) → isAmong second rest ≡ true → (u || isAmong second rest) ≡ true
-    by true h = refl
-    by false h = h
-among-more false second byte rest h = h
-
-module _ (test : Form → Bool) (none : test absent ≡ false) where
-  found-with : (second : ℕ) (rs : List Row) → test (find second rs .form) ≡ true → isAmong second (bytesWith test rs) ≡ true
-  found-with second [] h = absurd (false≢true (cc))
-  found-with second (row byte operation lane size form ∷ rest) h = by (eqb second byte) refl (found-with second rest) h
+-- what holds of every line that may be found, and of none, holds of what is found
+module _ {A : Type 0} (part : Line → A) (default : A) (Q : A → Type 0) (passes test : Line → Bool) (none : Q default)
+    (one : (x : Line) → passes x ≡ true → test x ≡ true → Q (part x)) where
+  pub found-has : (xs : List Line) → allLines test xs ≡ true → Q (find passes part default xs)
+  found-has [] h = none
+  found-has (x ∷ xs) h = let (a, b) = and-both (test x) (allLines test xs) h in by (passes x) refl a (found-has xs b)
     where
-      here : (t : Bool) → eqb second byte ≡ true → t ≡ true → isAmong second (cond t (byte ∷ bytesWith test rest) (bytesWith test rest)) ≡ true
-      here true e h = ap (λ (u : Bool). u || isAmong second (bytesWith test rest)) e
-      here false e h = absurd (false≢true (cc))
+      by : (t : Bool) → passes x ≡ t → test x ≡ true → Q (find passes part default xs) → Q (cond t (part x) (find passes part default xs))
+      by true e h q = one x e h
+      by false e h q = q
 
-      by : (t : Bool) → eqb second byte ≡ t → (test (find second rest .form) ≡ true → isAmong second (bytesWith test rest) ≡ true)
-          → test (cond t (record { operation = operation; lane = lane; size = size; form = form }) (find second rest) .form) ≡ true
-          → isAmong second (cond (test form) (byte ∷ bytesWith test rest) (bytesWith test rest)) ≡ true
-      by true e further h = here (test form) e h
-      by false e further h = among-more (test form) second byte (bytesWith test rest) (further h)
+-- the form of a second byte passes a test of forms
+pub form-passes : (test : Form → Bool) → test absent ≡ true → allLines (λ x. test (x .form)) lines ≡ true → (second : ℕ) → test (formAt second) ≡ true
+unfolding formAt
+form-passes test z h second =
+    found-has (λ x. x .form) absent (λ f. test f ≡ true) (λ x. eqb second (x .second)) (λ x. test (x .form)) z (λ x e q. q) lines h
 
-  -- a second byte whose form passes is among them
-  pub byte-with : (second : ℕ) → test (entryOf second .form) ≡ true → isAmong second (bytesWith test rows) ≡ true
-  unfolding entryOf
-  byte-with second h = found-with second rows h
+-- no line has a second byte past 255
+pub form-beyond : (second : ℕ) → 256 ≤ second → formAt second ≡ absent
+unfolding formAt
+form-beyond second p =
+    found-has (λ x. x .form) absent (λ f. f ≡ absent) (λ x. eqb second (x .second)) (λ x. ltb (x .second) 256) refl
+    (λ x e h. absurd (omega (arith, eqb-true second (x .second) e, ltb-true (x .second) 256 h))) lines refl

@@ -7,7 +7,7 @@ use borrow.Author.Needs.{needs}
 use borrow.Author.Tests.{lt-ltb, eq-eqb, ne-eqb, le-ltb}
 use lib.Dec.{eqb, ltb}
 use Rattle.codec.specs.Forms.{Form, allows, immediateSize}
-use Rattle.codec.specs.Opcodes.{entryOf, escape}
+use Rattle.codec.specs.Opcodes.{formAt, escape}
 use Rattle.codec.specs.Packed.{formOf}
 use Rattle.codec.specs.Operands.{hasSib, displacementSize, Sized}
 use Rattle.codec.specs.Fits.{fits, sibFits, operandFits, operandIsZero, partsFit, hasBytes}
@@ -84,7 +84,7 @@ pub has-no : (i : Instruction) → (i .first ≡ escape → ⊥) → false ≡ h
 unfolding hasBytes
 has-no i h = simp (ne-eqb (i .first) escape h)
 
-pub has-parts : (i : Instruction) (n : ℕ) (r : Bool) → formOf n ≡ entryOf (i .second) .form → i .first ≡ escape → i .second < 256
+pub has-parts : (i : Instruction) (n : ℕ) (r : Bool) → formOf n ≡ formAt (i .second) → i .first ≡ escape → i .second < 256
     → r ≡ partsFit (formOf n) (i .operand) (i .immediate) → r ≡ hasBytes i
 unfolding hasBytes
 has-parts i n r e g h f =

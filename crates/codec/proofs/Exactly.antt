@@ -2,8 +2,8 @@
 -- a reason is refused by its number.
 use Prim.Native.Nat.{ℕ, zero, suc, _+_, _-_, _≤_, _<_}
 use mathlib.Core.Path.{_≡_, refl, sym, ap, subst, _∙_}
-use mathlib.Core.Logic.{_↔_, inl, inr, _⊎_}
-use mathlib.Core.Bool.{Bool, true, false, cond, false≢true, _&&_, _||_}
+use mathlib.Core.Logic.{_↔_, inl, inr}
+use mathlib.Core.Bool.{Bool, true, false, cond, false≢true}
 use mathlib.Core.List.{List, [], _∷_, _++_, append-assoc}
 use native.Mathlib.Omega.{arith}
 use borrow.Author.Tests.{leb-true, leb-false, le-leb, lt-leb, ltb-true, ltb-false, lt-ltb, le-ltb, eqb-true, eqb-false}
@@ -13,18 +13,18 @@ use lib.Seq.{take-append-le, drop-append-le}
 use Rattle.words.specs.Number.{AllBytes, number}
 use Rattle.words.proofs.Numbers.{all-none, all-cons, all-append}
 use Rattle.codec.specs.Refusals.{codeTooLong, codeEnds, prefixed, notListed, notAllowed, noBytes, bufferEnds}
-use Rattle.codec.specs.Forms.{Form, absent, emms, shiftWD, shiftQ, storeD, loadD, storeQ, loadQ, usual, isAmong, isAbsent, hasOperand, allows}
-use Rattle.codec.specs.Opcodes.{entryOf, escape, prefixes}
+use Rattle.codec.specs.Forms.{Form, isAmong, isAbsent, hasOperand, allows}
+use Rattle.codec.specs.Opcodes.{formAt, escape, prefixes}
 use Rattle.codec.specs.Operands.{upper, middle, lower, hasSib, noOperand}
 use Rattle.codec.specs.Reader.{Reader, whole, refuse, byte, field, reads}
 use Rattle.codec.specs.Reads.{immediateReader, displacementReader, sibReader, modrmReader, formReader, secondReader, instructionReader, refusalOf, readPart, longestCode, readAt}
-use Rattle.codec.specs.Reasons.{EndsInside, StartsPrefixed, StartsOther, StartsUnlisted, Shifts, words, doublewords, quadwords, StartsNotAllowed, Reason, three, four, five, six, ReasonAt, two, left}
+use Rattle.codec.specs.Reasons.{EndsInside, StartsPrefixed, StartsOther, StartsUnlisted, StartsNotAllowed, Reason, three, four, five, six, ReasonAt, two, left}
 use Rattle.codec.specs.Fits.{hasBytes}
 use Rattle.codec.specs.Writes.{bytesOf, writeTo}
 use Rattle.codec.specs.declared.Operand.{Operand}
 use Rattle.codec.specs.declared.Instruction.{Instruction}
 use Rattle.codec.specs.Answers.{Answer, good, refused, wrote, refusedWith}
-use Rattle.codec.proofs.Bytes.{numberIs, byte-with}
+use Rattle.codec.proofs.Bytes.{form-passes}
 use Rattle.codec.proofs.Readers.{field-reads, reads-yes, reads-no}
 use Rattle.codec.proofs.Theorems.{reading-is-local}
 
@@ -133,7 +133,7 @@ is-inside s x = by (readPart s) refl
         at-end : (t : Bool) → eqb n codeEnds ≡ t → refused n ≡ refused codeEnds
         at-end true t = ap refused (eqb-true n codeEnds t)
         at-end false t =
-            let still = stays (instructionReader entryOf) 0 s (x .more) n e (eqb-false n codeEnds t) in
+            let still = stays (instructionReader formAt) 0 s (x .more) n e (eqb-false n codeEnds t) in
             absurd (false≢true (cc (x .found)))
 
 pub is-prefixed : (s : List ℕ) → StartsPrefixed s → readPart s ≡ refused prefixed
@@ -151,80 +151,15 @@ is-other s (first, (rest, e), other, plain) =
 
 pub is-unlisted : (s : List ℕ) → StartsUnlisted s → readPart s ≡ refused notListed
 unfolding instructionReader secondReader formReader
-is-unlisted s (second, (rest, e), unlisted) = ap readPart e ∙ reads-yes (isAbsent (entryOf second .form)) _ _ 2 rest unlisted
-
--- a form that does not allow something is there, and has a ModRM byte
-restrains : (form : Form) (mode reg rm : ℕ) → allows form mode reg rm ≡ false → (isAbsent form ≡ false) × (hasOperand form ≡ true)
-unfolding allows
-restrains absent mode reg rm e = absurd (false≢true (cc))
-restrains emms mode reg rm e = absurd (false≢true (cc))
-restrains shiftWD mode reg rm e = (refl, refl)
-restrains shiftQ mode reg rm e = (refl, refl)
-restrains storeD mode reg rm e = absurd (false≢true (cc))
-restrains loadD mode reg rm e = absurd (false≢true (cc))
-restrains storeQ mode reg rm e = absurd (false≢true (cc))
-restrains loadQ mode reg rm e = absurd (false≢true (cc))
-restrains usual mode reg rm e = absurd (false≢true (cc))
-
-either-false : (a b : Bool) → (a && b) ≡ false → (a ≡ false) ⊎ (b ≡ false)
-either-false true b e = inr e
-either-false false b e = inl refl
-
-false-either : (a b : Bool) → (a ≡ false) ⊎ (b ≡ false) → (a && b) ≡ false
-false-either true b (inl e) = absurd (false≢true (cc))
-false-either true b (inr e) = e
-false-either false b h = refl
-
--- the forms of 71 to 73 allow what is not their reason for 6
-shifts-allow : (second mode reg rm : ℕ) (digits : List ℕ) → Shifts second digits → allows (entryOf second .form) mode reg rm ≡ (eqb mode 3 && isAmong reg digits)
-unfolding allows entryOf
-shifts-allow second mode reg rm digits words = refl
-shifts-allow second mode reg rm digits doublewords = refl
-shifts-allow second mode reg rm digits quadwords = refl
-
--- and no other form restrains a ModRM byte
-word-bytes : (second : ℕ) → isAmong second (0x71 ∷ 0x72 ∷ []) ≡ true → Shifts second (2 ∷ 4 ∷ 6 ∷ [])
-word-bytes second h = by (eqb second 0x71) (eqb second 0x72) refl refl h
-  where
-    by : (a b : Bool) → eqb second 0x71 ≡ a → eqb second 0x72 ≡ b → (a || (b || false)) ≡ true → Shifts second (2 ∷ 4 ∷ 6 ∷ [])
-    by true b ea eb h = subst (λ (k : ℕ). Shifts k (2 ∷ 4 ∷ 6 ∷ [])) (sym (eqb-true second 0x71 ea)) words
-    by false true ea eb h = subst (λ (k : ℕ). Shifts k (2 ∷ 4 ∷ 6 ∷ [])) (sym (eqb-true second 0x72 eb)) doublewords
-    by false false ea eb h = absurd (false≢true (cc))
-
-quadword-byte : (second : ℕ) → isAmong second (0x73 ∷ []) ≡ true → Shifts second (2 ∷ 6 ∷ [])
-quadword-byte second h = by (eqb second 0x73) refl h
-  where
-    by : (a : Bool) → eqb second 0x73 ≡ a → (a || false) ≡ true → Shifts second (2 ∷ 6 ∷ [])
-    by true ea h = subst (λ (k : ℕ). Shifts k (2 ∷ 6 ∷ [])) (sym (eqb-true second 0x73 ea)) quadwords
-    by false ea h = absurd (false≢true (cc))
-
-not-allowed : (second modrm : ℕ) (s : List ℕ) → allows (entryOf second .form) (upper modrm) (middle modrm) (lower modrm) ≡ false
-    → StartsNotAllowed (escape ∷ second ∷ modrm ∷ s)
-unfolding allows
-not-allowed second modrm s h = by (entryOf second .form) refl h
-  where
-    by : (form : Form) → entryOf second .form ≡ form → allows form (upper modrm) (middle modrm) (lower modrm) ≡ false → StartsNotAllowed (escape ∷ second ∷ modrm ∷ s)
-    by absent e h = absurd (false≢true (cc))
-    by emms e h = absurd (false≢true (cc))
-    by shiftWD e h =
-        (second, modrm, 2 ∷ 4 ∷ 6 ∷ [], (s, refl), word-bytes second (byte-with (numberIs 2) refl second (ap (numberIs 2) e)), either-false (eqb (upper modrm) 3) _ h)
-    by shiftQ e h =
-        (second, modrm, 2 ∷ 6 ∷ [], (s, refl), quadword-byte second (byte-with (numberIs 3) refl second (ap (numberIs 3) e)), either-false (eqb (upper modrm) 3) _ h)
-    by storeD e h = absurd (false≢true (cc))
-    by loadD e h = absurd (false≢true (cc))
-    by storeQ e h = absurd (false≢true (cc))
-    by loadQ e h = absurd (false≢true (cc))
-    by usual e h = absurd (false≢true (cc))
+is-unlisted s (second, (rest, e), unlisted) = ap readPart e ∙ reads-yes (isAbsent (formAt second)) _ _ 2 rest unlisted
 
 pub is-not-allowed : (s : List ℕ) → StartsNotAllowed s → readPart s ≡ refused notAllowed
 unfolding instructionReader secondReader formReader modrmReader
-is-not-allowed s (second, modrm, digits, (rest, e), shifts, either) =
-    let barred = shifts-allow second (upper modrm) (middle modrm) (lower modrm) digits shifts ∙ false-either (eqb (upper modrm) 3) (isAmong (middle modrm) digits) either in
-    let (there, has) = restrains (entryOf second .form) (upper modrm) (middle modrm) (lower modrm) barred in
+is-not-allowed s (second, modrm, (rest, e), there, has, barred) =
     ap readPart e
-    ∙ reads-no (isAbsent (entryOf second .form)) _ _ 2 (modrm ∷ rest) there
-    ∙ reads-yes (hasOperand (entryOf second .form)) _ _ 2 (modrm ∷ rest) has
-    ∙ reads-no (allows (entryOf second .form) (upper modrm) (middle modrm) (lower modrm)) _ _ 3 rest barred
+    ∙ reads-no (isAbsent (formAt second)) _ _ 2 (modrm ∷ rest) there
+    ∙ reads-yes (hasOperand (formAt second)) _ _ 2 (modrm ∷ rest) has
+    ∙ reads-no (allows (formAt second) (upper modrm) (middle modrm) (lower modrm)) _ _ 3 rest barred
 
 pub is-given : (s : List ℕ) (n : ℕ) → Reason s n → readPart s ≡ refused n
 is-given s n (three x) = is-inside s x
@@ -250,37 +185,29 @@ inside s more i n b e = by (leb n (length s)) refl
         readable i n (ap readPart (sym (take-append-drop n s)) ∙ (rw take-append-le at again))
     by false t = refusal codeEnds (three (record { more = more; are-bytes = b; instruction = i; size = n; found = e; longer = leb-false n (length s) t }))
 
--- a ModRM byte that a form allows: registers, shifted right
-allowed : (form : Form) → allows form 3 2 0 ≡ true
+-- a ModRM byte that every form of the list allows: registers, shifted right
+allowed : (second : ℕ) → allows (formAt second) 3 2 0 ≡ true
 unfolding allows
-allowed absent = refl
-allowed emms = refl
-allowed shiftWD = refl
-allowed shiftQ = refl
-allowed storeD = refl
-allowed loadD = refl
-allowed storeQ = refl
-allowed loadQ = refl
-allowed usual = refl
+allowed second = form-passes (λ f. allows f 3 2 0) refl refl second
 
 -- after 0F and a second byte that is in the table
-module _ (second : ℕ) (there : isAbsent (entryOf second .form) ≡ false) where
+module _ (second : ℕ) (there : isAbsent (formAt second) ≡ false) where
   -- no ModRM byte
-  due-bare : (s : List ℕ) → hasOperand (entryOf second .form) ≡ false → Due (escape ∷ second ∷ s)
+  due-bare : (s : List ℕ) → hasOperand (formAt second) ≡ false → Due (escape ∷ second ∷ s)
   unfolding instructionReader secondReader formReader
   due-bare s bare =
-      let form = entryOf second .form in
+      let form = formAt second in
       let c = completed (immediateReader form escape second noOperand) (immediate-ends form escape second noOperand) 2 s in
       inside (escape ∷ second ∷ s) (c .more) (c .instruction) (c .size) (c .are-bytes)
       (reads-no _ _ _ 2 (s ++ c .more) there ∙ reads-no _ _ _ 2 (s ++ c .more) bare ∙ c .found)
 
   -- a ModRM byte that is allowed can be completed
-  module _ (modrm : ℕ) (has : hasOperand (entryOf second .form) ≡ true)
-      (passes : allows (entryOf second .form) (upper modrm) (middle modrm) (lower modrm) ≡ true) where
-    modrm-completed : (s : List ℕ) → Completed (instructionReader entryOf) 0 (escape ∷ second ∷ modrm ∷ s)
+  module _ (modrm : ℕ) (has : hasOperand (formAt second) ≡ true)
+      (passes : allows (formAt second) (upper modrm) (middle modrm) (lower modrm) ≡ true) where
+    modrm-completed : (s : List ℕ) → Completed (instructionReader formAt) 0 (escape ∷ second ∷ modrm ∷ s)
     unfolding instructionReader secondReader formReader modrmReader
     modrm-completed s =
-        let form = entryOf second .form in
+        let form = formAt second in
         let c = completed (sibReader form escape second modrm) (sib-ends form escape second modrm) 3 s in
         record {
           more = c .more;
@@ -299,25 +226,25 @@ module _ (second : ℕ) (there : isAbsent (entryOf second .form) ≡ false) wher
         inside (escape ∷ second ∷ modrm ∷ s) (c .more) (c .instruction) (c .size) (c .are-bytes) (c .found)
 
   due-listed : (s : List ℕ) → Due (escape ∷ second ∷ s)
-  due-listed s = by (hasOperand (entryOf second .form)) refl s
+  due-listed s = by (hasOperand (formAt second)) refl s
     where
-      tested : (modrm : ℕ) (s : List ℕ) → hasOperand (entryOf second .form) ≡ true
-          → (t : Bool) → allows (entryOf second .form) (upper modrm) (middle modrm) (lower modrm) ≡ t → Due (escape ∷ second ∷ modrm ∷ s)
+      tested : (modrm : ℕ) (s : List ℕ) → hasOperand (formAt second) ≡ true
+          → (t : Bool) → allows (formAt second) (upper modrm) (middle modrm) (lower modrm) ≡ t → Due (escape ∷ second ∷ modrm ∷ s)
       tested modrm s has true t = due-modrm modrm has t s
-      tested modrm s has false t = refusal notAllowed (six (not-allowed second modrm s t))
+      tested modrm s has false t = refusal notAllowed (six (second, modrm, (s, refl), there, has, t))
 
-      by : (t : Bool) → hasOperand (entryOf second .form) ≡ t → (s : List ℕ) → Due (escape ∷ second ∷ s)
+      by : (t : Bool) → hasOperand (formAt second) ≡ t → (s : List ℕ) → Due (escape ∷ second ∷ s)
       by false bare s = due-bare s bare
       by true has [] =
-          let c = modrm-completed 0xd0 has (allowed (entryOf second .form)) [] in
+          let c = modrm-completed 0xd0 has (allowed second) [] in
           inside (escape ∷ second ∷ []) (0xd0 ∷ c .more) (c .instruction) (c .size) (all-cons 0xd0 (c .more) (omega arith) (c .are-bytes)) (c .found)
-      by true has (modrm ∷ s) = tested modrm s has (allows (entryOf second .form) (upper modrm) (middle modrm) (lower modrm)) refl
+      by true has (modrm ∷ s) = tested modrm s has (allows (formAt second) (upper modrm) (middle modrm) (lower modrm)) refl
 
 emms-byte : AllBytes (0x77 ∷ [])
 emms-byte = all-cons 0x77 [] (omega arith) all-none
 
 due : (s : List ℕ) → Due s
-unfolding entryOf instructionReader secondReader formReader immediateReader
+unfolding formAt instructionReader secondReader formReader immediateReader
 due [] = inside [] (escape ∷ 0x77 ∷ []) _ 2 (all-cons escape (0x77 ∷ []) (omega arith) emms-byte) refl
 due (first ∷ s) = by (eqb first escape) refl s
   where
@@ -325,14 +252,14 @@ due (first ∷ s) = by (eqb first escape) refl s
     prefix other s true t = refusal prefixed (four (first, (s, refl), t))
     prefix other s false t = refusal notListed (five (inl (first, (s, refl), other, t)))
 
-    listed : (second : ℕ) (s : List ℕ) (t : Bool) → isAbsent (entryOf second .form) ≡ t → Due (escape ∷ second ∷ s)
+    listed : (second : ℕ) (s : List ℕ) (t : Bool) → isAbsent (formAt second) ≡ t → Due (escape ∷ second ∷ s)
     listed second s true t = refusal notListed (five (inr (second, (s, refl), t)))
     listed second s false t = due-listed second t s
 
     by : (t : Bool) → eqb first escape ≡ t → (s : List ℕ) → Due (first ∷ s)
     by false t s = prefix t s (isAmong first prefixes) refl
     by true t [] = rw (eqb-true first escape t) (inside (escape ∷ []) (0x77 ∷ []) _ 2 emms-byte refl)
-    by true t (second ∷ s) = rw (eqb-true first escape t) (listed second s (isAbsent (entryOf second .form)) refl)
+    by true t (second ∷ s) = rw (eqb-true first escape t) (listed second s (isAbsent (formAt second)) refl)
 
 -- A number is given exactly when there is its reason.
 pub given-exactly : (s : List ℕ) (n : ℕ) → (readPart s ≡ refused n) ↔ Reason s n

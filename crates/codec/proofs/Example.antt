@@ -6,7 +6,7 @@ use Rattle.codec.specs.declared.Instruction.{Instruction}
 use Rattle.codec.specs.declared.Writing.the-variants.{Wrote, Refused}
 use Rattle.codec.specs.Answers.{wrote, refusedWith, paperOfWriting}
 use Rattle.codec.specs.Forms.{allows}
-use Rattle.codec.specs.Opcodes.{entryOf}
+use Rattle.codec.specs.Opcodes.{formAt}
 use Rattle.codec.specs.Operands.{hasSib, displacementSize}
 use Rattle.codec.specs.Reads.{instructionOf}
 use Rattle.codec.specs.Fits.{sibFits, operandFits, operandIsZero, partsFit, hasBytes}
@@ -34,5 +34,5 @@ pub record WrittenExamples : Type 0 where
   pub paper : (paperOfWriting (Refused 11) (1 ∷ []) ≡ refusedWith 11 (1 ∷ [])) × (paperOfWriting (Wrote 4) (1 ∷ []) ≡ wrote 4 (1 ∷ []))
 
 pub written : WrittenExamples
-unfolding allows entryOf hasSib displacementSize sibFits operandFits operandIsZero partsFit hasBytes sibBytes displacementBytes operandBytes partsBytes bytesOf writeTo
+unfolding allows formAt hasSib displacementSize sibFits operandFits operandIsZero partsFit hasBytes sibBytes displacementBytes operandBytes partsBytes bytesOf writeTo
 written = record { longer = refl; as-long = refl; shorter = refl; no-bytes = refl; paper = (refl, refl) }

@@ -6,7 +6,7 @@ use mathlib.Core.List.{List, [], _∷_}
 use borrow.Author.Tests.{lt-ltb, ltb-true, eqb-true, eq-eqb, not-true}
 use lib.Dec.{eqb, ltb}
 use Rattle.codec.specs.Forms.{Form, isAbsent, hasOperand, allows, immediateSize, accepts}
-use Rattle.codec.specs.Opcodes.{entryOf, escape}
+use Rattle.codec.specs.Opcodes.{formAt, escape}
 use Rattle.codec.specs.Packed.{formOf}
 use Rattle.codec.specs.Operands.{hasSib, displacementSize, noOperand, Fields}
 use Rattle.codec.specs.Fits.{all, fits, sibFits, operandFits, operandIsZero, partsFit, hasBytes}
@@ -136,11 +136,11 @@ parts-true form w v p =
 pub record Bytewise (i : Instruction) : Type 0 where
   pub first : i .first ≡ escape
   pub second : i .second < 256
-  pub parts : Parts (entryOf (i .second) .form) (i .operand) (i .immediate)
+  pub parts : Parts (formAt (i .second)) (i .operand) (i .immediate)
 
 abbrev recordTests : Instruction → List Bool
 recordTests i =
-    eqb (i .first) escape ∷ fits 1 (i .second) ∷ partsFit (entryOf (i .second) .form) (i .operand) (i .immediate) ∷ []
+    eqb (i .first) escape ∷ fits 1 (i .second) ∷ partsFit (formAt (i .second)) (i .operand) (i .immediate) ∷ []
 
 pub bytewise : (i : Instruction) → hasBytes i ≡ true → Bytewise i
 unfolding hasBytes
@@ -149,19 +149,23 @@ bytewise i e =
     record {
       first = eqb-true (i .first) escape (h .0);
       second = ltb-true (i .second) 256 (h .1 .0);
-      parts = parts (entryOf (i .second) .form) (i .operand) (i .immediate) (h .1 .1 .0);
+      parts = parts (formAt (i .second)) (i .operand) (i .immediate) (h .1 .1 .0);
     }
 
 pub bytewise-true : (i : Instruction) → Bytewise i → hasBytes i ≡ true
 unfolding hasBytes
 bytewise-true i b =
     true-all (recordTests i)
-    (eq-eqb (i .first) escape (b .first), (lt-ltb (i .second) 256 (b .second), (parts-true (entryOf (i .second) .form) (i .operand) (i .immediate) (b .parts), tt)))
+    (eq-eqb (i .first) escape (b .first), (lt-ltb (i .second) 256 (b .second), (parts-true (formAt (i .second)) (i .operand) (i .immediate) (b .parts), tt)))
 
-pub bytes-operand : (i : Instruction) (n : ℕ) → formOf n ≡ entryOf (i .second) .form → (n ≡ 1 → ⊥) → hasBytes i ≡ true
+-- its form, by the form's number, is there
+pub present : (i : Instruction) (n : ℕ) → formOf n ≡ formAt (i .second) → hasBytes i ≡ true → isAbsent (formOf n) ≡ false
+present i n g e = ap isAbsent g ∙ bytewise i e .parts .listed
+
+pub bytes-operand : (i : Instruction) (n : ℕ) → formOf n ≡ formAt (i .second) → (n ≡ 1 → ⊥) → hasBytes i ≡ true
     → operandFits (i .operand) ≡ true
 bytes-operand i n g h e =
-    let f = entryOf (i .second) .form in
+    let f = formAt (i .second) in
     let w = i .operand in
-    let p : hasOperand f ≡ true = ap hasOperand (sym g) ∙ not-emms n h in
+    let p : hasOperand f ≡ true = ap hasOperand (sym g) ∙ not-emms n (present i n g e) h in
     and-both (allows f (w .mode) (w .reg) (w .rm)) (operandFits w) (simp p at (bytewise i e .parts .operand)) .1

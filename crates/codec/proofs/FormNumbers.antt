@@ -1,33 +1,71 @@
 -- What the code's tests on a form's number say of the form: rules for the functions that take one.
 use Prim.Native.Nat.{ℕ, zero, suc, _-_, _≤_, _<_}
-use mathlib.Core.Path.{_≡_, refl, subst}
-use mathlib.Core.Bool.{true, false}
+use mathlib.Core.Path.{_≡_, refl, sym, subst}
+use mathlib.Core.Bool.{Bool, true, false, not, _&&_, false≢true}
+use mathlib.Core.List.{List, [], _∷_}
 use native.Mathlib.Omega.{arith}
-use borrow.Author.Tests.{ne-eqb}
+use borrow.Author.Tests.{ne-eqb, eqb-true, not-true}
 use lib.Dec.{eqb}
-use Rattle.codec.specs.Forms.{Form, isAbsent, hasOperand, allows, immediateSize}
+use lib.ListN.{getD, drop}
+use Rattle.words.proofs.Laws.{and-both}
+use Rattle.codec.specs.Forms.{Use, Slot, reg, rm, rm/mem, Form, mmreg1·mmreg2/mem64, forms, isAbsent, hasOperand, slotAllows, slotsAllow, digitAmong, allows, immediateSize}
 use Rattle.codec.specs.Packed.{formOf}
 use Rattle.codec.proofs.Sizes.{sized-0, sized-1}
 
--- past the shifts: any operand, no immediate
-record Plain (form : Form) : Type 0 where
-  listed : isAbsent form ≡ false
-  operand : hasOperand form ≡ true
-  free : (mode reg rm : ℕ) → true ≡ allows form mode reg rm
-  bare : 0 ≡ immediateSize form
+-- a form that allows everything
+abbrev isFreeSlot : Slot → Bool
+isFreeSlot (reg file) = true
+isFreeSlot (rm file) = false
+isFreeSlot (rm/mem file size) = true
 
-plain : (k : ℕ) → Plain (formOf (suc (suc (suc (suc k)))))
+abbrev areFree : List (Use × Slot) → Bool
+areFree [] = true
+areFree ((how, x) ∷ xs) = isFreeSlot x && areFree xs
+
+abbrev noDigits : List ℕ → Bool
+noDigits [] = true
+noDigits (x ∷ xs) = false
+
+abbrev pub isFree : Form → Bool
+isFree form = areFree (form .operands) && noDigits (form .digits)
+
+slot-free : (x : Slot) (t : Bool) → isFreeSlot x ≡ true → slotAllows x t ≡ true
+slot-free (reg file) t e = refl
+slot-free (rm file) t e = absurd (false≢true e)
+slot-free (rm/mem file size) t e = refl
+
+slots-free : (xs : List (Use × Slot)) (t rest : Bool) → areFree xs ≡ true → rest ≡ true → slotsAllow xs t rest ≡ true
+slots-free [] t rest e h = h
+slots-free ((how, x) ∷ xs) t rest e h = let (a, b) = and-both (isFreeSlot x) (areFree xs) e in simp (slot-free x t a) (slots-free xs t rest b h)
+
+digits-free : (ds : List ℕ) (d : ℕ) → noDigits ds ≡ true → digitAmong ds d ≡ true
+digits-free [] d e = refl
+digits-free (x ∷ xs) d e = absurd (false≢true e)
+
+pub free-allows : (form : Form) (mode digit other : ℕ) → isFree form ≡ true → allows form mode digit other ≡ true
 unfolding allows
-plain zero = record { listed = refl; operand = refl; free = λ mode reg rm. refl; bare = refl }
-plain (suc zero) = record { listed = refl; operand = refl; free = λ mode reg rm. refl; bare = refl }
-plain (suc (suc zero)) = record { listed = refl; operand = refl; free = λ mode reg rm. refl; bare = refl }
-plain (suc (suc (suc zero))) = record { listed = refl; operand = refl; free = λ mode reg rm. refl; bare = refl }
-plain (suc (suc (suc (suc zero)))) = record { listed = refl; operand = refl; free = λ mode reg rm. refl; bare = refl }
-plain (suc (suc (suc (suc (suc zero))))) = record { listed = refl; operand = refl; free = λ mode reg rm. refl; bare = refl }
-plain (suc (suc (suc (suc (suc (suc k)))))) = record { listed = refl; operand = refl; free = λ mode reg rm. refl; bare = refl }
+free-allows form mode digit other e =
+    let (a, b) = and-both (areFree (form .operands)) (noDigits (form .digits)) e in
+    slots-free (form .operands) (eqb mode 3) _ a (digits-free (form .digits) digit b)
 
-past : (n : ℕ) → 3 < n → Plain (formOf n)
-past n h = subst (λ (k : ℕ). Plain (formOf k)) (let z : suc (suc (suc (suc (n - 4)))) ≡ n = omega arith in z) (plain (n - 4))
+-- from a number on, every form passes a test that those of the list pass
+abbrev pub allPass : (Form → Bool) → List Form → Bool
+allPass test [] = test mmreg1·mmreg2/mem64
+allPass test (x ∷ xs) = test x && allPass test xs
+
+pub form-passes-in : (test : Form → Bool) (xs : List Form) (k : ℕ) → allPass test xs ≡ true → test (getD xs k mmreg1·mmreg2/mem64) ≡ true
+form-passes-in test [] k h = h
+form-passes-in test (x ∷ xs) zero h = and-both (test x) (allPass test xs) h .0
+form-passes-in test (x ∷ xs) (suc k) h = form-passes-in test xs k (and-both (test x) (allPass test xs) h .1)
+
+-- past the shifts: any operand, no immediate
+abbrev isPlain : Form → Bool
+isPlain form = isFree form && eqb (immediateSize form) 0
+
+past : (n : ℕ) → 3 < n → isPlain (formOf n) ≡ true
+past n h =
+    subst (λ (k : ℕ). isPlain (formOf k) ≡ true) (let z : suc (suc (suc (suc (n - 4)))) ≡ n = omega arith in z)
+    (form-passes-in isPlain (drop 4 forms) (n - 4) refl)
 
 -- a shift's number is 2 or 3
 shifts : (P : ℕ → Type 0) (n : ℕ) → n ≤ 3 → 2 ≤ n → P 2 → P 3 → P n
@@ -41,17 +79,17 @@ shifts P (suc (suc (suc (suc k)))) p q a b = absurd (omega arith)
 pub with-operand : (n : ℕ) → (n ≡ 0 → ⊥) → (n ≡ 1 → ⊥) → (isAbsent (formOf n) ≡ false) × (hasOperand (formOf n) ≡ true)
 with-operand zero p q = absurd (p refl)
 with-operand (suc zero) p q = absurd (q refl)
-with-operand (suc (suc zero)) p q = (refl, refl)
-with-operand (suc (suc (suc zero))) p q = (refl, refl)
-with-operand (suc (suc (suc (suc k)))) p q = (plain k .listed, plain k .operand)
+with-operand (suc (suc k)) p q =
+    let (a, b) = and-both _ _ (form-passes-in (λ f. not (isAbsent f) && hasOperand f) (drop 2 forms) k refl) in
+    (not-true _ a, b)
 
-pub not-emms : (n : ℕ) → (n ≡ 1 → ⊥) → hasOperand (formOf n) ≡ true
-not-emms zero q = refl
-not-emms (suc n) q = with-operand (suc n) (λ e. omega arith) q .1
+pub not-emms : (n : ℕ) → isAbsent (formOf n) ≡ false → (n ≡ 1 → ⊥) → hasOperand (formOf n) ≡ true
+not-emms zero l q = absurd (false≢true (sym l))
+not-emms (suc n) l q = with-operand (suc n) (λ e. omega arith) q .1
 
 module _ (n mode reg rm : ℕ) where
   pub allowed-past : 3 < n → true ≡ allows (formOf n) mode reg rm
-  allowed-past h = past n h .free mode reg rm
+  allowed-past h = sym (free-allows (formOf n) mode reg rm (and-both (isFree (formOf n)) _ (past n h) .0))
 
   pub allowed-before : n < 2 → true ≡ allows (formOf n) mode reg rm
   unfolding allows
@@ -89,7 +127,7 @@ module _ (n mode reg rm : ℕ) where
           (simp (m, ne-eqb reg 2 a, ne-eqb reg 6 c))
 
 pub immediate-past : (n : ℕ) → 3 < n → 0 ≡ immediateSize (formOf n)
-immediate-past n h = past n h .bare
+immediate-past n h = sym (eqb-true _ _ (and-both (isFree (formOf n)) _ (past n h) .1))
 
 pub immediate-before : (n : ℕ) → n < 2 → 0 ≡ immediateSize (formOf n)
 immediate-before zero h = refl
@@ -99,4 +137,4 @@ immediate-before (suc (suc k)) h = absurd (omega arith)
 pub immediate-shift : (n : ℕ) → n ≤ 3 → 2 ≤ n → 1 ≡ immediateSize (formOf n)
 immediate-shift n p q = shifts (λ k. 1 ≡ immediateSize (formOf k)) n p q refl refl
 
-pub ruleset forms = (sized-0, sized-1, allowed-past, allowed-before, allowed-memory, allowed-2, allowed-6, allowed-4, allowed-none, immediate-past, immediate-before, immediate-shift)
+pub ruleset form-rules = (sized-0, sized-1, allowed-past, allowed-before, allowed-memory, allowed-2, allowed-6, allowed-4, allowed-none, immediate-past, immediate-before, immediate-shift)

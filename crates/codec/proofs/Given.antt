@@ -7,7 +7,7 @@ use native.Mathlib.Omega.{arith}
 use lib.Dec.{eqb}
 use Rattle.codec.specs.Refusals.{prefixed, notListed}
 use Rattle.codec.specs.Forms.{Form, isAmong, isAbsent, hasOperand, allows}
-use Rattle.codec.specs.Opcodes.{Entry, escape, prefixes}
+use Rattle.codec.specs.Opcodes.{escape, prefixes}
 use Rattle.codec.specs.Operands.{upper, middle, lower, hasSib, operandOf, noOperand, Registers}
 use Rattle.codec.specs.Reader.{Reader, refuse, reads}
 use Rattle.codec.specs.Reads.{immediateReader, displacementReader, sibReader, modrmReader, formReader, secondReader, instructionReader, refusalOf}
@@ -59,27 +59,27 @@ first-refuses first = by (isAmong first prefixes)
     by false = omega arith
 
 -- what is read names registers below 8, and its form is there, by what a table says of its second byte
-pub record Known (entry : ℕ → Entry) (i : Instruction) : Type 0 where
+pub record Known (formOf : ℕ → Form) (i : Instruction) : Type 0 where
   pub registers : Registers (i .operand)
-  pub present : isAbsent (entry (i .second) .form) ≡ false
+  pub present : isAbsent (formOf (i .second)) ≡ false
 
-module _ (entry : ℕ → Entry) where
-  form-known : (first second : ℕ) (form : Form) (t : Bool) → isAbsent form ≡ t → entry second .form ≡ form
-      → Every (Known entry) Refusal (cond t (refuse notListed) (cond (hasOperand form) (modrmReader form first second) (immediateReader form first second noOperand)))
+module _ (formOf : ℕ → Form) where
+  form-known : (first second : ℕ) (form : Form) (t : Bool) → isAbsent form ≡ t → formOf second ≡ form
+      → Every (Known formOf) Refusal (cond t (refuse notListed) (cond (hasOperand form) (modrmReader form first second) (immediateReader form first second noOperand)))
   form-known first second form true e f = omega arith
   form-known first second form false e f =
-      every-map (Given second) (Known entry) Refusal
-      (λ i g. record { registers = g .registers; present = ap (λ (k : ℕ). isAbsent (entry k .form)) (g .kept) ∙ ap isAbsent f ∙ e })
+      every-map (Given second) (Known formOf) Refusal
+      (λ i g. record { registers = g .registers; present = ap (λ (k : ℕ). isAbsent (formOf k)) (g .kept) ∙ ap isAbsent f ∙ e })
       (cond (hasOperand form) (modrmReader form first second) (immediateReader form first second noOperand))
       (every-cond (Given second) Refusal (hasOperand form) _ _ (modrm-gives form first second) (immediate-gives form first second noOperand no-registers))
 
   -- An instruction that is read is known, and one that is not is refused by 3 to 6.
-  pub reads-known : (at : ℕ) (s : List ℕ) → Holds (Known entry) Refusal (reads (instructionReader entry) at s)
+  pub reads-known : (at : ℕ) (s : List ℕ) → Holds (Known formOf) Refusal (reads (instructionReader formOf) at s)
   unfolding instructionReader secondReader formReader
   reads-known at s =
-      every (Known entry) Refusal (instructionReader entry) (
+      every (Known formOf) Refusal (instructionReader formOf) (
         omega arith,
-        λ first. every-cond (Known entry) Refusal (eqb first escape) _ _
-            (omega arith, λ second. form-known first second (entry second .form) (isAbsent (entry second .form)) refl refl)
+        λ first. every-cond (Known formOf) Refusal (eqb first escape) _ _
+            (omega arith, λ second. form-known first second (formOf second) (isAbsent (formOf second)) refl refl)
             (first-refuses first),
       ) at s

@@ -5,8 +5,8 @@ pub mod Sizes
 pub mod FormNumbers
 pub mod Readers
 pub mod Given
-pub mod Entries
 pub mod Bytes
+pub mod Entries
 pub mod Steps
 pub mod OurTable
 pub mod Facts
@@ -17,6 +17,7 @@ pub mod ReadingBack
 pub mod Ranges
 pub mod Theorems
 pub mod Exactly
+pub mod Sixes
 pub mod OpcodeBytes
 pub mod Example
 pub mod Allowed

@@ -7,7 +7,7 @@ use mathlib.Core.List.{List, [], _∷_}
 use lib.Dec.{eqb}
 use lib.ListN.{length}
 use Rattle.codec.specs.Refusals.{codeEnds, prefixed, notListed}
-use Rattle.codec.specs.Opcodes.{entryOf}
+use Rattle.codec.specs.Opcodes.{formAt}
 use Rattle.codec.specs.Reads.{readPart, immediateReader, modrmReader, formReader, refusalOf, secondReader, instructionReader}
 use Rattle.codec.specs.Answers.{Answer, good, refused}
 
@@ -44,5 +44,5 @@ pub second-bytes : secondBytes 0 256
     ∷ 0xd1 ∷ 0xd2 ∷ 0xd3 ∷ 0xd5 ∷ 0xd8 ∷ 0xd9 ∷ 0xdb ∷ 0xdc ∷ 0xdd ∷ 0xdf
     ∷ 0xe1 ∷ 0xe2 ∷ 0xe5 ∷ 0xe8 ∷ 0xe9 ∷ 0xeb ∷ 0xec ∷ 0xed ∷ 0xef
     ∷ 0xf1 ∷ 0xf2 ∷ 0xf3 ∷ 0xf5 ∷ 0xf8 ∷ 0xf9 ∷ 0xfa ∷ 0xfc ∷ 0xfd ∷ 0xfe ∷ []
-unfolding entryOf immediateReader modrmReader formReader refusalOf secondReader instructionReader
+unfolding formAt immediateReader modrmReader formReader refusalOf secondReader instructionReader
 second-bytes = refl

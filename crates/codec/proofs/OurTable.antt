@@ -9,7 +9,7 @@ use borrow.Author.Needs.{needs}
 use borrow.Author.Tests.{lt-ltb, le-ltb}
 use lib.ListN.{length, drop}
 use Rattle.codec.specs.Refusals.{codeTooLong}
-use Rattle.codec.specs.Opcodes.{entryOf}
+use Rattle.codec.specs.Opcodes.{formAt}
 use Rattle.codec.specs.Packed.{packedRows}
 use Rattle.codec.specs.Reader.{Reader, reads}
 use Rattle.codec.specs.Reads.{instructionReader, longestCode, readPart, readAt}
@@ -27,8 +27,8 @@ module _ (code : List ℕ) (at : ℕ) where
   find-ours =
       ap (λ (r : Reader). foundIn packedRows (reads r at (drop at code))) same-reader
       ∙ ap (foundIn packedRows)
-      (ap (λ (n : ℕ). reads (instructionReader entryOf) n (drop at code)) (sym (add-zero at))
-      ∙ reads-moved (instructionReader entryOf) at 0 (drop at code))
+      (ap (λ (n : ℕ). reads (instructionReader formAt) n (drop at code)) (sym (add-zero at))
+      ∙ reads-moved (instructionReader formAt) at 0 (drop at code))
 
   pub read-long : longestCode < length code → refused codeTooLong ≡ readAt code at
   unfolding readAt
@@ -40,7 +40,7 @@ module _ (code : List ℕ) (at : ℕ) where
 
   -- from what was found to the reading z
   module _ (x : Found) where
-    found-good : (z : Answer) → x ≡ foundIn packedRows (moved at z) → Holds (Known entryOf) Refusal z → x .refusal ≡ 0
+    found-good : (z : Answer) → x ≡ foundIn packedRows (moved at z) → Holds (Known formAt) Refusal z → x .refusal ≡ 0
         → (at ≤ x .next) × (good (x .instruction) (x .next - at) ≡ z)
     found-good (good i n) e h r =
         let p : x .next ≡ at + n = ap (λ (y : Found). y .next) e in
@@ -60,10 +60,10 @@ module _ (code : List ℕ) (at : ℕ) where
       found-ours z r = e ∙ ap (λ (l : List ℕ). findWith l code at) t ∙ find-ours ∙ ap (λ (y : Answer). foundIn packedRows (moved at y)) r
 
       pub read-next : x .refusal ≡ 0 → at ≤ x .next
-      read-next r = found-good (readPart (drop at code)) (found-ours _ refl) (reads-known entryOf 0 (drop at code)) r .0
+      read-next r = found-good (readPart (drop at code)) (found-ours _ refl) (reads-known formAt 0 (drop at code)) r .0
 
       pub read-on : length code ≤ longestCode → x .refusal ≡ 0 → good (x .instruction) (x .next - at) ≡ readAt code at
-      read-on h r = found-good (readPart (drop at code)) (found-ours _ refl) (reads-known entryOf 0 (drop at code)) r .1 ∙ read-fits h
+      read-on h r = found-good (readPart (drop at code)) (found-ours _ refl) (reads-known formAt 0 (drop at code)) r .1 ∙ read-fits h
 
       pub read-stop : length code ≤ longestCode → (x .refusal ≡ 0 → ⊥) → refused (x .refusal) ≡ readAt code at
       read-stop h r = found-refused (readPart (drop at code)) (found-ours _ refl) r ∙ read-fits h

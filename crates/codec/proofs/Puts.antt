@@ -13,7 +13,7 @@ use Rattle.words.specs.Number.{bytes}
 use Rattle.codec.specs.Refusals.{noBytes, bufferEnds}
 use Rattle.codec.specs.Answers.{wrote, refusedWith}
 use Rattle.codec.specs.Forms.{Form, immediateSize}
-use Rattle.codec.specs.Opcodes.{entryOf}
+use Rattle.codec.specs.Opcodes.{formAt}
 use Rattle.codec.specs.Packed.{formOf}
 use Rattle.codec.specs.Operands.{joined, hasSib, displacementSize, Sized}
 use Rattle.codec.specs.Fits.{hasBytes}
@@ -24,7 +24,7 @@ use Rattle.words.proofs.Numbers.{length-bytes}
 use Rattle.words.proofs.Laws.{sets-append}
 use Rattle.codec.proofs.Sizes.{byte-there}
 use Rattle.codec.proofs.FormNumbers.{not-emms}
-use Rattle.codec.proofs.Facts.{modrm-fields, sib-fields, bytes-operand}
+use Rattle.codec.proofs.Facts.{modrm-fields, sib-fields, bytes-operand, present}
 
 -- stores at the start of a buffer that has room for them
 sets-start : (l vs : List ℕ) → length vs ≤ length l → sets l 0 vs ≡ vs ++ drop (length vs) l
@@ -97,7 +97,7 @@ operand-put at next k w l l1 l2 b e d p q r =
     simp (r, q, e, d, p, s, sets-append)
 
 -- the record, by the number n of its form
-module _ (i : Instruction) (n : ℕ) (g : formOf n ≡ entryOf (i .second) .form) where
+module _ (i : Instruction) (n : ℕ) (g : formOf n ≡ formAt (i .second)) where
   bytes-are : bytesOf i ≡ i .first ∷ i .second ∷ partsBytes (formOf n) (i .operand) (i .immediate)
   unfolding bytesOf
   bytes-are = ap (λ (f : Form). i .first ∷ i .second ∷ partsBytes f (i .operand) (i .immediate)) (sym g)
@@ -112,10 +112,10 @@ module _ (i : Instruction) (n : ℕ) (g : formOf n ≡ entryOf (i .second) .form
   pub bare-put : (l : List ℕ) → n ≡ 1 → set (set l 0 (i .first)) 1 (i .second) ≡ sets l 0 (bytesOf i)
   bare-put l e = ap (sets l 0) (sym (bare-bytes e))
 
-  module _ (m : n ≡ 1 → ⊥) where
+  module _ (m : n ≡ 1 → ⊥) (has : hasBytes i ≡ true) where
     whole-bytes : bytesOf i ≡ i .first ∷ i .second ∷ (operandBytes (i .operand) ++ bytes (immediateSize (formOf n)) (i .immediate))
     unfolding partsBytes
-    whole-bytes = bytes-are ∙ simp (not-emms n m)
+    whole-bytes = bytes-are ∙ simp (not-emms n (present i n g has) m)
 
     whole-length : length (bytesOf i) ≡ 2 + operandSize (i .operand) + immediateSize (formOf n)
     whole-length =

@@ -4,7 +4,7 @@ use mathlib.Core.Path.{_≡_, refl, sym, subst}
 use mathlib.Core.Bool.{Bool, true, false}
 use native.Mathlib.Omega.{arith}
 use Rattle.codec.specs.Forms.{Form, hasOperand, allows, immediateSize}
-use Rattle.codec.specs.Opcodes.{entryOf, escape}
+use Rattle.codec.specs.Opcodes.{formAt, escape}
 use Rattle.codec.specs.Operands.{hasSib, displacementSize, Fields, Registers}
 use Rattle.codec.specs.Fits.{operandFits, hasBytes}
 use Rattle.codec.specs.declared.Operand.{Operand}
@@ -23,7 +23,7 @@ pub record InRange (i : Instruction) : Type 0 where
   pub first : i .first ≡ escape
   pub second : i .second < 256
   pub operand : OperandInRange (i .operand)
-  pub immediate : i .immediate < 256 ^ immediateSize (entryOf (i .second) .form)
+  pub immediate : i .immediate < 256 ^ immediateSize (formAt (i .second))
 
 fit-in-range : (w : Operand) → Fit w → OperandInRange w
 fit-in-range w f = by (hasSib (w .mode) (w .rm)) refl
@@ -54,7 +54,7 @@ parts-in-range false form w v e p =
 pub has-in-range : (i : Instruction) → hasBytes i ≡ true → InRange i
 has-in-range i e =
     let b = bytewise i e in
-    let form = entryOf (i .second) .form in
+    let form = formAt (i .second) in
     record {
       first = b .first;
       second = b .second;

@@ -9,7 +9,7 @@ use borrow.Author.Tests.{eq-eqb}
 use lib.ListN.{length, length-append}
 use Rattle.words.specs.Number.{AllBytes, bytes}
 use Rattle.codec.specs.Forms.{Form, hasOperand, allows, immediateSize}
-use Rattle.codec.specs.Opcodes.{entryOf, escape}
+use Rattle.codec.specs.Opcodes.{formAt, escape}
 use Rattle.codec.specs.Operands.{upper, middle, lower, joined, hasSib, displacementSize, operandOf, noOperand}
 use Rattle.codec.specs.Reader.{Reader, whole, byte, field, reads}
 use Rattle.codec.specs.Reads.{instructionOf, immediateReader, displacementReader, sibReader, modrmReader, formReader, secondReader, instructionReader}
@@ -133,11 +133,11 @@ module _ (form : Form) (first second : ℕ) where
 
 -- What has bytes is read from them, whatever follows.
 pub bytes-read : (i : Instruction) (rest : List ℕ) → hasBytes i ≡ true
-    → reads (instructionReader entryOf) 0 (bytesOf i ++ rest) ≡ good i (length (bytesOf i))
+    → reads (instructionReader formAt) 0 (bytesOf i ++ rest) ≡ good i (length (bytesOf i))
 unfolding instructionReader secondReader formReader bytesOf partsBytes
 bytes-read i rest e =
     let b = bytewise i e in
-    let form = entryOf (i .second) .form in
+    let form = formAt (i .second) in
     let s = partsBytes form (i .operand) (i .immediate) in
     let l : 0 + 1 + 1 + length s ≡ suc (suc (length s)) = omega arith in
     reads-yes _ _ _ (0 + 1) (i .second ∷ (s ++ rest)) (eq-eqb (i .first) escape (b .first))
@@ -172,7 +172,7 @@ pub bytes-are-bytes : (i : Instruction) → hasBytes i ≡ true → AllBytes (by
 unfolding bytesOf partsBytes
 bytes-are-bytes i e =
     let b = bytewise i e in
-    let form = entryOf (i .second) .form in
+    let form = formAt (i .second) in
     let s = partsBytes form (i .operand) (i .immediate) in
     all-cons (i .first) (i .second ∷ s) (omega (arith, b .first))
     (all-cons (i .second) s (b .second) (parts-bytes (hasOperand form) form (i .operand) (i .immediate) refl (b .parts)))

@@ -10,7 +10,7 @@ use lib.ListN.{take, drop}
 use lib.Seq.{take-add}
 use Rattle.words.specs.Number.{AllBytes, number, bytes}
 use Rattle.codec.specs.Forms.{Form, isAbsent, hasOperand, allows, immediateSize}
-use Rattle.codec.specs.Opcodes.{entryOf, escape}
+use Rattle.codec.specs.Opcodes.{formAt, escape}
 use Rattle.codec.specs.Operands.{upper, middle, lower, hasSib, displacementSize, operandOf, noOperand}
 use Rattle.codec.specs.Reader.{Reader, whole, refuse, byte, field, reads}
 use Rattle.codec.specs.Reads.{instructionOf, immediateReader, displacementReader, sibReader, modrmReader, formReader, secondReader, instructionReader}
@@ -68,9 +68,9 @@ spelled (field k next) before at s i n h b e =
     }
 
 -- after the opcode 0F and a second byte of the table
-module _ (first second : ℕ) (z : first ≡ escape) (l : second < 256) (y : isAbsent (entryOf second .form) ≡ false) where
+module _ (first second : ℕ) (z : first ≡ escape) (l : second < 256) (y : isAbsent (formAt second) ≡ false) where
   abbrev form : Form
-  form = entryOf second .form
+  form = formAt second
 
   immediate-spells : (w : Operand) (before : List ℕ)
       → cond (hasOperand form) (allows form (w .mode) (w .reg) (w .rm) && operandFits w) (operandIsZero w) ≡ true
@@ -122,21 +122,21 @@ module _ (first second : ℕ) (z : first ≡ escape) (l : second < 256) (y : isA
       (λ x. immediate-spells noOperand [] (simp x) (simp x))
 
 form-spells : (first second : ℕ) → first ≡ escape → second < 256
-    → Spells (first ∷ second ∷ []) (formReader (entryOf second .form) first second)
+    → Spells (first ∷ second ∷ []) (formReader (formAt second) first second)
 unfolding formReader
 form-spells first second z l =
-    spells-cond (isAbsent (entryOf second .form)) _ _ _ (λ y. tt) (λ y. parts-spells first second z l y)
+    spells-cond (isAbsent (formAt second)) _ _ _ (λ y. tt) (λ y. parts-spells first second z l y)
 
-instruction-spells : Spells [] (instructionReader entryOf)
+instruction-spells : Spells [] (instructionReader formAt)
 unfolding instructionReader secondReader
 instruction-spells first p =
-    spells-cond (eqb first escape) _ (secondReader entryOf first) _
+    spells-cond (eqb first escape) _ (secondReader formAt first) _
     (λ z second l. form-spells first second (eqb-true first escape z) l) (λ z. tt)
 
 -- What is read has bytes, and they are those that it was read from.
-pub read-spells : (s : List ℕ) (i : Instruction) (n : ℕ) → AllBytes s → reads (instructionReader entryOf) 0 s ≡ good i n
+pub read-spells : (s : List ℕ) (i : Instruction) (n : ℕ) → AllBytes s → reads (instructionReader formAt) 0 s ≡ good i n
     → (hasBytes i ≡ true) × (bytesOf i ≡ take n s)
 read-spells s i n b e =
-    let r = spelled (instructionReader entryOf) [] 0 s i n instruction-spells b e in
+    let r = spelled (instructionReader formAt) [] 0 s i n instruction-spells b e in
     let l : r .size ≡ n = omega (arith, r .ends) in
     (r .has, r .spelt ∙ ap (λ (k : ℕ). take k s) l)

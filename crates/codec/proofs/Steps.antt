@@ -13,7 +13,7 @@ use Rattle.words.specs.Number.{number}
 use Rattle.codec.specs.Refusals.{codeEnds, notListed, notAllowed}
 use Rattle.codec.specs.Forms.{Form, isAbsent, hasOperand, allows, immediateSize}
 use Rattle.codec.specs.Opcodes.{escape}
-use Rattle.codec.specs.Packed.{formOf, entryIn}
+use Rattle.codec.specs.Packed.{formOf, formIn}
 use Rattle.codec.specs.Operands.{upper, middle, lower, hasSib, displacementSize, operandOf, noOperand, Sized}
 use Rattle.codec.specs.Reader.{Reader, whole, refuse, byte, field, reads}
 use Rattle.codec.specs.Reads.{instructionOf, immediateReader, displacementReader, sibReader, modrmReader, formReader, secondReader, instructionReader, refusalOf}
@@ -41,19 +41,19 @@ module _ (code : List ℕ) (at : ℕ) where
   module _ (table : List ℕ) (x : Found) where
     pub first-none : x ≡ refusedAs codeEnds → length code ≤ at → x ≡ findWith table code at
     unfolding findWith instructionReader
-    first-none e q = e ∙ ap (λ (s : List ℕ). foundIn table (reads (instructionReader (entryIn table)) at s)) (sym (drop-of-length-le code q))
+    first-none e q = e ∙ ap (λ (s : List ℕ). foundIn table (reads (instructionReader (formIn table)) at s)) (sym (drop-of-length-le code q))
 
     module _ (q : at < length code) where
       abbrev first : ℕ
       first = getD code at 0
 
-      first-here : reads (instructionReader (entryIn table)) at (drop at code)
-          ≡ reads (cond (eqb first escape) (secondReader (entryIn table) first) (refuse (refusalOf first))) (at + 1) (drop (at + 1) code)
+      first-here : reads (instructionReader (formIn table)) at (drop at code)
+          ≡ reads (cond (eqb first escape) (secondReader (formIn table) first) (refuse (refusalOf first))) (at + 1) (drop (at + 1) code)
       unfolding instructionReader
-      first-here = ap (reads (instructionReader (entryIn table)) at) (drop-here code at q)
+      first-here = ap (reads (instructionReader (formIn table)) at) (drop-here code at q)
 
       pub first-on : getD code at 0 ≡ escape
-          → x ≡ foundIn table (reads (secondReader (entryIn table) (getD code at 0)) (at + 1) (drop (at + 1) code))
+          → x ≡ foundIn table (reads (secondReader (formIn table) (getD code at 0)) (at + 1) (drop (at + 1) code))
           → x ≡ findWith table code at
       unfolding findWith
       first-on e h =
@@ -70,11 +70,11 @@ module _ (code : List ℕ) (at : ℕ) where
   module _ (table : List ℕ) (first : ℕ) (x : Found) where
     -- x is what the table and the second byte give
     abbrev FindsSecond : Type 0
-    FindsSecond = x ≡ foundIn table (reads (secondReader (entryIn table) first) at (drop at code))
+    FindsSecond = x ≡ foundIn table (reads (secondReader (formIn table) first) at (drop at code))
 
     pub second-none : x ≡ refusedAs codeEnds → length code ≤ at → FindsSecond
     unfolding secondReader
-    second-none e q = e ∙ ap (λ (s : List ℕ). foundIn table (reads (secondReader (entryIn table) first) at s)) (sym (drop-of-length-le code q))
+    second-none e q = e ∙ ap (λ (s : List ℕ). foundIn table (reads (secondReader (formIn table) first) at s)) (sym (drop-of-length-le code q))
 
     module _ (q : at < length code) (entry : ℕ) (g : entry ≡ getD table (getD code at 0) 0) where
       abbrev second : ℕ
@@ -83,10 +83,10 @@ module _ (code : List ℕ) (at : ℕ) where
       abbrev form : Form
       form = formOf (entry / 2 ^ 24)
 
-      second-here : reads (secondReader (entryIn table) first) at (drop at code) ≡ reads (formReader form first second) (at + 1) (drop (at + 1) code)
+      second-here : reads (secondReader (formIn table) first) at (drop at code) ≡ reads (formReader form first second) (at + 1) (drop (at + 1) code)
       unfolding secondReader
       second-here =
-          ap (reads (secondReader (entryIn table) first) at) (drop-here code at q)
+          ap (reads (secondReader (formIn table) first) at) (drop-here code at q)
           ∙ ap (λ (e : ℕ). reads (formReader (formOf (e / 2 ^ 24)) first second) (at + 1) (drop (at + 1) code)) (sym g)
 
       pub second-absent : entry / 2 ^ 24 ≡ 0 → x ≡ refusedAs notListed → FindsSecond

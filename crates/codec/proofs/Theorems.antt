@@ -10,9 +10,9 @@ use lib.Dec.{eqb, ltb, leb}
 use lib.ListN.{length, take, drop}
 use Rattle.words.specs.Number.{AllBytes}
 use Rattle.codec.specs.Refusals.{codeTooLong, noBytes, bufferEnds}
-use Rattle.codec.specs.Opcodes.{entryOf, escape}
+use Rattle.codec.specs.Opcodes.{formAt, escape}
 use Rattle.codec.specs.Operands.{Registers}
-use Rattle.codec.specs.Packed.{entryIn}
+use Rattle.codec.specs.Packed.{formIn}
 use Rattle.codec.specs.Reader.{reads}
 use Rattle.codec.specs.Reads.{formReader, secondReader, instructionReader, refusalOf, longestCode, readPart, readAt}
 use Rattle.codec.specs.Lent.{foundIn, findWith}
@@ -89,10 +89,10 @@ pub record Local (s : List ℕ) (i : Instruction) (n : ℕ) : Type 0 where
 pub reading-is-local : (s : List ℕ) (i : Instruction) (n : ℕ) → readPart s ≡ good i n → Local s i n
 unfolding instructionReader secondReader
 reading-is-local s i n e =
-    let o = own (instructionReader entryOf) 0 s i n e in
+    let o = own (instructionReader formAt) 0 s i n e in
     let l : o .size ≡ n = omega (arith, o .ends) in
     record {
-      two = takes-two (λ first. eqb first escape) (λ first second. formReader (entryOf second .form) first second) refusalOf 0 s i n e;
+      two = takes-two (λ first. eqb first escape) (λ first second. formReader (formAt second) first second) refusalOf 0 s i n e;
       within = omega (arith, o .within);
       again = λ tail.
           ap (λ (k : ℕ). readPart (take k s ++ tail)) (sym l) ∙ o .again 0 tail ∙ ap (good i) (sym (o .ends));
@@ -105,8 +105,8 @@ reading-in-range s i n b e = has-in-range i (read-spells s i n b e .0)
 -- With any table and any code, found or refused, the registers are below 8.
 pub found-registers : (table code : List ℕ) (at : ℕ) → Registers (findWith table code at .instruction .operand)
 unfolding findWith
-found-registers table code at = by (reads (instructionReader (entryIn table)) at (drop at code)) (reads-known (entryIn table) at (drop at code))
+found-registers table code at = by (reads (instructionReader (formIn table)) at (drop at code)) (reads-known (formIn table) at (drop at code))
   where
-    by : (z : Answer) → Holds (Known (entryIn table)) Refusal z → Registers (foundIn table z .instruction .operand)
+    by : (z : Answer) → Holds (Known (formIn table)) Refusal z → Registers (foundIn table z .instruction .operand)
     by (good i n) g = g .registers
     by (refused n) g = no-registers

@@ -4,7 +4,7 @@ use mathlib.Core.List.{List, [], _∷_}
 use mathlib.Core.Bool.{Bool, true, not, _&&_, cond}
 use lib.Dec.{eqb, ltb}
 use Rattle.codec.specs.Forms.{Form, isAbsent, hasOperand, allows, immediateSize, accepts}
-use Rattle.codec.specs.Opcodes.{entryOf, escape}
+use Rattle.codec.specs.Opcodes.{formAt, escape}
 use Rattle.codec.specs.Operands.{hasSib, displacementSize}
 use Rattle.codec.specs.declared.Operand.{Operand}
 use Rattle.codec.specs.declared.Instruction.{Instruction}
@@ -62,5 +62,5 @@ unfoldable pub hasBytes : Instruction → Bool
 hasBytes instruction =
     all (eqb (instruction .first) escape
     ∷ fits 1 (instruction .second)
-    ∷ partsFit (entryOf (instruction .second) .form) (instruction .operand) (instruction .immediate)
+    ∷ partsFit (formAt (instruction .second)) (instruction .operand) (instruction .immediate)
     ∷ [])

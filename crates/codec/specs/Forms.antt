@@ -1,76 +1,140 @@
--- The forms of instructions: which parts follow the two opcode bytes, and what they may be.
+-- The forms of instructions: the operands as the manual writes them, with what each is used for; and what a form says of the parts that follow the two
+-- opcode bytes.
 use Prim.Native.Nat.{ℕ}
 use mathlib.Core.List.{List, [], _∷_}
 use mathlib.Core.Bool.{Bool, true, false, _&&_, _||_}
 use lib.Dec.{eqb}
+use Rattle.codec.specs.declared.Kind.{Kind}
+use Rattle.codec.specs.declared.Kind.the-variants.{Ordinary, Emms}
 
-pub data Form : Type 0 where
-  -- not in the table
-  absent : Form
-  -- EMMS: nothing follows
-  emms : Form
-  -- 71 and 72, 73: a register shifted by an immediate byte
-  shiftWD shiftQ : Form
-  -- MOVD from MMX, MOVD to MMX, the store form of MOVQ, its load form
-  storeD loadD storeQ loadQ : Form
-  -- every other
-  usual : Form
+pub data Use : Type 0 where
+  read written updated : Use
+
+-- the registers that a field names
+pub data File : Type 0 where
+  mmxFile integerFile : File
+
+pub data Slot : Type 0 where
+  -- the register that reg names; that rm names, at mod 11
+  reg rm : File → Slot
+  -- the register that rm names at mod 11, else so many bytes in memory
+  rm/mem : File → ℕ → Slot
+
+abbrev pub mmreg1 : Slot
+mmreg1 = reg mmxFile
+
+abbrev pub mmreg2 : Slot
+mmreg2 = rm mmxFile
+
+abbrev pub mmreg2/mem32 : Slot
+mmreg2/mem32 = rm/mem mmxFile 4
+
+abbrev pub mmreg2/mem64 : Slot
+mmreg2/mem64 = rm/mem mmxFile 8
+
+abbrev pub reg32/mem32 : Slot
+reg32/mem32 = rm/mem integerFile 4
+
+pub record Form : Type 0 where
+  -- its number in the code's table
+  pub number : ℕ
+  -- what reg may be where it is a digit of the opcode; none: anything
+  pub digits : List ℕ
+  pub operands : List (Use × Slot)
+  -- how many immediate bytes there are
+  pub immediate : ℕ
+  pub kind : Kind
+
+-- no instruction
+abbrev pub absent : Form
+absent = record { number = 0; digits = []; operands = []; immediate = 0; kind = Ordinary }
+
+abbrev pub alone : Form
+alone = record { number = 1; digits = []; operands = []; immediate = 0; kind = Emms }
+
+-- a register shifted by an immediate byte: /2 right logical, /4 right arithmetic, /6 left
+abbrev pub mmreg2·imm8/642 : Form
+mmreg2·imm8/642 = record { number = 2; digits = 6 ∷ 4 ∷ 2 ∷ []; operands = (updated, mmreg2) ∷ []; immediate = 1; kind = Ordinary }
+
+abbrev pub mmreg2·imm8/62 : Form
+mmreg2·imm8/62 = record { number = 3; digits = 6 ∷ 2 ∷ []; operands = (updated, mmreg2) ∷ []; immediate = 1; kind = Ordinary }
+
+-- an ordinary instruction of a destination and a source; the form's name has ← where the destination is not read
+abbrev of : ℕ → Use × Slot → Slot → Form
+of number destination source =
+    record { number = number; digits = []; operands = destination ∷ (read, source) ∷ []; immediate = 0; kind = Ordinary }
+
+abbrev pub reg32/mem32←mmreg1 : Form
+reg32/mem32←mmreg1 = of 4 (written, reg32/mem32) mmreg1
+
+abbrev pub mmreg1←reg32/mem32 : Form
+mmreg1←reg32/mem32 = of 5 (written, mmreg1) reg32/mem32
+
+abbrev pub mmreg2/mem64←mmreg1 : Form
+mmreg2/mem64←mmreg1 = of 6 (written, mmreg2/mem64) mmreg1
+
+abbrev pub mmreg1·mmreg2/mem32 : Form
+mmreg1·mmreg2/mem32 = of 7 (updated, mmreg1) mmreg2/mem32
+
+abbrev pub mmreg1·mmreg2/mem64 : Form
+mmreg1·mmreg2/mem64 = of 8 (updated, mmreg1) mmreg2/mem64
+
+abbrev pub mmreg1←mmreg2/mem64 : Form
+mmreg1←mmreg2/mem64 = of 9 (written, mmreg1) mmreg2/mem64
+
+-- each at its number
+abbrev pub forms : List Form
+forms = absent ∷ alone ∷ mmreg2·imm8/642 ∷ mmreg2·imm8/62 ∷ reg32/mem32←mmreg1 ∷ mmreg1←reg32/mem32 ∷ mmreg2/mem64←mmreg1 ∷ mmreg1·mmreg2/mem32 ∷ mmreg1·mmreg2/mem64 ∷ mmreg1←mmreg2/mem64 ∷ []
+
+-- What a form says
 
 abbrev pub isAbsent : Form → Bool
-isAbsent absent = true
-isAbsent emms = false
-isAbsent shiftWD = false
-isAbsent shiftQ = false
-isAbsent storeD = false
-isAbsent loadD = false
-isAbsent storeQ = false
-isAbsent loadQ = false
-isAbsent usual = false
+isAbsent form = eqb (form .number) 0
 
--- all but EMMS have a ModRM byte
+abbrev isAny : List (Use × Slot) → Bool
+isAny [] = false
+isAny (x ∷ xs) = true
+
+-- whether there is a ModRM byte
 abbrev pub hasOperand : Form → Bool
-hasOperand absent = true
-hasOperand emms = false
-hasOperand shiftWD = true
-hasOperand shiftQ = true
-hasOperand storeD = true
-hasOperand loadD = true
-hasOperand storeQ = true
-hasOperand loadQ = true
-hasOperand usual = true
+hasOperand form = isAny (form .operands)
 
 abbrev pub isAmong : ℕ → List ℕ → Bool
 isAmong value [] = false
 isAmong value (x ∷ xs) = eqb value x || isAmong value xs
 
--- the ModRM bytes of a shift have mod 11 and a listed digit
-abbrev pub isShift : List ℕ → ℕ → ℕ → Bool
-isShift digits mode reg = eqb mode 3 && isAmong reg digits
+-- a digit of the list, or anything where there is no list
+abbrev pub digitAmong : List ℕ → ℕ → Bool
+digitAmong [] digit = true
+digitAmong (x ∷ xs) digit = isAmong digit (x ∷ xs)
 
--- what a ModRM byte may be: /2 shifts right logical, /4 right arithmetic, /6 left
+-- whether an operand may be a register, at mod 11, or else in memory
+abbrev pub slotAllows : Slot → Bool → Bool
+slotAllows (reg file) register = true
+slotAllows (rm file) register = register
+slotAllows (rm/mem file bytes) register = true
+
+abbrev pub slotsAllow : List (Use × Slot) → Bool → Bool → Bool
+slotsAllow [] register rest = rest
+slotsAllow ((how, slot) ∷ xs) register rest = slotAllows slot register && slotsAllow xs register rest
+
+-- what a ModRM byte may be
 unfoldable pub allows : Form → ℕ → ℕ → ℕ → Bool
-allows absent mode reg rm = true
-allows emms mode reg rm = true
-allows shiftWD mode reg rm = isShift (2 ∷ 4 ∷ 6 ∷ []) mode reg
-allows shiftQ mode reg rm = isShift (2 ∷ 6 ∷ []) mode reg
-allows storeD mode reg rm = true
-allows loadD mode reg rm = true
-allows storeQ mode reg rm = true
-allows loadQ mode reg rm = true
-allows usual mode reg rm = true
+allows form mode digit other = slotsAllow (form .operands) (eqb mode 3) (digitAmong (form .digits) digit)
 
--- how many immediate bytes there are
 abbrev pub immediateSize : Form → ℕ
-immediateSize absent = 0
-immediateSize emms = 0
-immediateSize shiftWD = 1
-immediateSize shiftQ = 1
-immediateSize storeD = 0
-immediateSize loadD = 0
-immediateSize storeQ = 0
-immediateSize loadQ = 0
-immediateSize usual = 0
+immediateSize form = form .immediate
 
 -- what an immediate may be: any number that fits
 abbrev pub accepts : Form → ℕ → Bool
 accepts form immediate = true
+
+-- the size of the operand in memory, in bytes
+abbrev sizeIn : List (Use × Slot) → ℕ
+sizeIn [] = 0
+sizeIn ((how, reg file) ∷ xs) = sizeIn xs
+sizeIn ((how, rm file) ∷ xs) = sizeIn xs
+sizeIn ((how, rm/mem file bytes) ∷ xs) = bytes
+
+abbrev pub memorySize : Form → ℕ
+memorySize form = sizeIn (form .operands)

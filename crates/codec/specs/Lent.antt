@@ -3,7 +3,7 @@ use Prim.Native.Nat.{ℕ}
 use mathlib.Core.List.{List}
 use lib.ListN.{getD, drop}
 use Rattle.codec.specs.Forms.{Form}
-use Rattle.codec.specs.Packed.{formOf, entryIn}
+use Rattle.codec.specs.Packed.{formOf, formIn}
 use Rattle.codec.specs.Operands.{noOperand}
 use Rattle.codec.specs.Reader.{Reader, reads}
 use Rattle.codec.specs.Reads.{instructionOf, instructionReader}
@@ -34,4 +34,4 @@ foundIn table (refused refusal) = refusedAs refusal
 
 -- reading at a position of a code by what the table says
 unfoldable pub findWith : List ℕ → List ℕ → ℕ → Found
-findWith table code at = foundIn table (reads (instructionReader (entryIn table)) at (drop at code))
+findWith table code at = foundIn table (reads (instructionReader (formIn table)) at (drop at code))

@@ -1,53 +1,54 @@
--- The numbers that the code's table holds: an entry as form, operand size, lane width and operation, of a byte each.
+-- The numbers that the code's table holds: the form's number, the operand's size, nothing and the operation's number, of a byte each; of the shifts by an
+-- immediate, the form's number and the operations of /2, /4 and /6.
 use Prim.Native.Nat.{ℕ, zero, suc, _+_, _*_, _/_, _%_, _^_}
 use mathlib.Core.List.{List, [], _∷_}
-use mathlib.Core.Bool.{cond}
-use lib.Dec.{eqb}
+use mathlib.Core.Bool.{Bool, cond, _&&_}
+use lib.Dec.{eqb, ltb}
 use lib.ListN.{getD}
-use Rattle.lanes.specs.Operations.{operationOf, numbered}
-use Rattle.codec.specs.Forms.{Form, absent, emms, shiftWD, shiftQ, storeD, loadD, storeQ, loadQ, usual}
-use Rattle.codec.specs.Opcodes.{Entry, entryOf}
-
--- a form's number, with the operand's size: the usual form is 7 with four bytes, else 8
-abbrev pub formNumber : Form → ℕ → ℕ
-formNumber absent size = 0
-formNumber emms size = 1
-formNumber shiftWD size = 2
-formNumber shiftQ size = 3
-formNumber storeD size = 4
-formNumber loadD size = 5
-formNumber storeQ size = 6
-formNumber usual size = cond (eqb size 4) 7 8
-formNumber loadQ size = 9
+use Rattle.lanes.specs.Operations.{Operation, operationOf, numbered, KEEP}
+use Rattle.codec.specs.Forms.{Form, mmreg1·mmreg2/mem64, forms, memorySize}
+use Rattle.codec.specs.Opcodes.{formAt, operationAt}
 
 -- the form that a number names; past the last it is the usual one
 abbrev pub formOf : ℕ → Form
-formOf number =
-    getD (absent ∷ emms ∷ shiftWD ∷ shiftQ ∷ storeD ∷ loadD ∷ storeQ ∷ usual ∷ usual ∷ loadQ ∷ []) number usual
+formOf number = getD forms number mmreg1·mmreg2/mem64
 
-abbrev pub packed : Entry → ℕ
-packed entry =
-    formNumber (entry .form) (entry .size) * 2 ^ 24 + entry .size * 2 ^ 16 + entry .lane * 2 ^ 8
-    + numbered (entry .operation) .0
+-- the operation's number of a second byte with a digit
+abbrev numberAt : ℕ → ℕ → ℕ
+numberAt second digit = numbered (operationAt second digit) .0
+
+-- the numbers of the shifts by an immediate: 2 and 3
+abbrev pub shiftsBy : ℕ → Bool
+shiftsBy number = ltb number 4 && ltb 1 number
+
+abbrev pub packed : ℕ → ℕ
+packed second =
+    let form = formAt second in
+    form .number * 2 ^ 24
+    + cond (shiftsBy (form .number))
+    (numberAt second 2 * 2 ^ 16 + numberAt second 4 * 2 ^ 8 + numberAt second 6)
+    (memorySize form * 2 ^ 16 + numberAt second 0)
 
 -- f from, f (from + 1), .. of count numbers
-abbrev pub listed : (ℕ → ℕ) → ℕ → ℕ → List ℕ
+abbrev pub listed : {A : Type 0} → (ℕ → A) → ℕ → ℕ → List A
 listed f from zero = []
 listed f from (suc count) = f from ∷ listed f (suc from) count
 
 -- the whole table, by the second byte
 unfoldable pub packedRows : List ℕ
-packedRows = listed (λ second. packed (entryOf second)) 0 256
-
-abbrev pub unpacked : ℕ → Entry
-unpacked number =
-    record {
-      operation = operationOf (number % 256);
-      lane = number / 2 ^ 8 % 256;
-      size = number / 2 ^ 16 % 256;
-      form = formOf (number / 2 ^ 24);
-    }
+packedRows = listed packed 0 256
 
 -- what any table of such numbers says of a second byte
-abbrev pub entryIn : List ℕ → ℕ → Entry
-entryIn table second = unpacked (getD table second 0)
+abbrev pub formIn : List ℕ → ℕ → Form
+formIn table second = formOf (getD table second 0 / 2 ^ 24)
+
+-- the operation of a shift by an immediate, by the digit
+unfoldable pub shiftIn : ℕ → ℕ → Operation
+shiftIn number digit =
+    cond (eqb digit 2) (operationOf (number / 2 ^ 16 % 256))
+    (cond (eqb digit 4) (operationOf (number / 2 ^ 8 % 256))
+    (cond (eqb digit 6) (operationOf (number % 256)) KEEP))
+
+-- the operation that a number names, with what stands in reg
+unfoldable pub operationIn : ℕ → ℕ → Operation
+operationIn number reg = cond (shiftsBy (number / 2 ^ 24)) (shiftIn number reg) (operationOf (number % 256))

@@ -6,7 +6,7 @@ use lib.Dec.{eqb, ltb}
 use lib.ListN.{length, drop}
 use Rattle.codec.specs.Refusals.{codeTooLong, prefixed, notListed, notAllowed}
 use Rattle.codec.specs.Forms.{Form, isAmong, isAbsent, hasOperand, allows, immediateSize, accepts}
-use Rattle.codec.specs.Opcodes.{Entry, entryOf, escape, prefixes}
+use Rattle.codec.specs.Opcodes.{formAt, escape, prefixes}
 use Rattle.codec.specs.Operands.{upper, middle, lower, hasSib, displacementSize, operandOf, noOperand}
 use Rattle.codec.specs.Reader.{Reader, whole, refuse, byte, field, reads}
 use Rattle.codec.specs.declared.Operand.{Operand}
@@ -51,10 +51,10 @@ unfoldable pub refusalOf : ℕ → ℕ
 refusalOf first = cond (isAmong first prefixes) prefixed notListed
 
 -- from the start, by what a table says of the second byte
-module _ (entry : ℕ → Entry) where
+module _ (formOf : ℕ → Form) where
   -- the second byte
   unfoldable pub secondReader : ℕ → Reader
-  secondReader first = byte (λ second. formReader (entry second .form) first second)
+  secondReader first = byte (λ second. formReader (formOf second) first second)
 
   -- the first byte
   unfoldable pub instructionReader : Reader
@@ -62,7 +62,7 @@ module _ (entry : ℕ → Entry) where
 
 -- reading what is left of a code: the instruction and its length
 abbrev pub readPart : List ℕ → Answer
-readPart s = reads (instructionReader entryOf) 0 s
+readPart s = reads (instructionReader formAt) 0 s
 
 abbrev pub longestCode : ℕ
 longestCode = 4096

@@ -8,9 +8,9 @@ use lib.Dec.{eqb}
 use lib.ListN.{length, drop}
 use Rattle.words.specs.Number.{AllBytes}
 use Rattle.codec.specs.Refusals.{codeTooLong, codeEnds, prefixed, notListed, notAllowed}
-use Rattle.codec.specs.Forms.{isAmong, isAbsent}
-use Rattle.codec.specs.Opcodes.{entryOf, escape, prefixes}
-use Rattle.codec.specs.Operands.{upper, middle}
+use Rattle.codec.specs.Forms.{isAmong, isAbsent, hasOperand, allows}
+use Rattle.codec.specs.Opcodes.{formAt, escape, prefixes}
+use Rattle.codec.specs.Operands.{upper, middle, lower}
 use Rattle.codec.specs.Answers.{good}
 use Rattle.codec.specs.Reads.{readPart, longestCode}
 use Rattle.codec.specs.declared.Instruction.{Instruction}
@@ -37,18 +37,13 @@ abbrev pub StartsOther : List ℕ → Type 0
 StartsOther s = (first : ℕ) × Starts (first ∷ []) s × (eqb first escape ≡ false) × (isAmong first prefixes ≡ false)
 
 abbrev pub StartsUnlisted : List ℕ → Type 0
-StartsUnlisted s = (second : ℕ) × Starts (escape ∷ second ∷ []) s × (isAbsent (entryOf second .form) ≡ true)
+StartsUnlisted s = (second : ℕ) × Starts (escape ∷ second ∷ []) s × (isAbsent (formAt second) ≡ true)
 
--- 6: 71, 72 or 73 with mod not 11, or with a digit that is not listed
-pub data Shifts : ℕ → List ℕ → Type 0 where
-  words : Shifts 0x71 (2 ∷ 4 ∷ 6 ∷ [])
-  doublewords : Shifts 0x72 (2 ∷ 4 ∷ 6 ∷ [])
-  quadwords : Shifts 0x73 (2 ∷ 6 ∷ [])
-
+-- 6: the second byte is in the table, and its form does not allow the ModRM byte
 abbrev pub StartsNotAllowed : List ℕ → Type 0
 StartsNotAllowed s =
-    (second modrm : ℕ) × (digits : List ℕ) × Starts (escape ∷ second ∷ modrm ∷ []) s × Shifts second digits
-    × ((eqb (upper modrm) 3 ≡ false) ⊎ (isAmong (middle modrm) digits ≡ false))
+    (second modrm : ℕ) × Starts (escape ∷ second ∷ modrm ∷ []) s × (isAbsent (formAt second) ≡ false) × (hasOperand (formAt second) ≡ true)
+    × (allows (formAt second) (upper modrm) (middle modrm) (lower modrm) ≡ false)
 
 -- the reason for a refusal's number
 pub data Reason : List ℕ → ℕ → Type 0 where

@@ -8,7 +8,7 @@ use Rattle.words.specs.Number.{bytes}
 use Rattle.codec.specs.Refusals.{noBytes, bufferEnds}
 use Rattle.codec.specs.Answers.{Written, wrote, refusedWith}
 use Rattle.codec.specs.Forms.{Form, hasOperand, immediateSize}
-use Rattle.codec.specs.Opcodes.{entryOf}
+use Rattle.codec.specs.Opcodes.{formAt}
 use Rattle.codec.specs.Operands.{joined, hasSib, displacementSize}
 use Rattle.codec.specs.declared.Operand.{Operand}
 use Rattle.codec.specs.declared.Instruction.{Instruction}
@@ -44,7 +44,7 @@ unfoldable pub bytesOf : Instruction → List ℕ
 bytesOf instruction =
     instruction .first
     ∷ instruction .second
-    ∷ partsBytes (entryOf (instruction .second) .form) (instruction .operand) (instruction .immediate)
+    ∷ partsBytes (formAt (instruction .second)) (instruction .operand) (instruction .immediate)
 
 -- writing a record at the start of a buffer
 unfoldable pub writeTo : Instruction → List ℕ → Written

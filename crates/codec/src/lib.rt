@@ -39,6 +39,12 @@ pub struct Instruction {
     pub immediate: u32,
 }
 
+// What an instruction does to the tag mark, and which others it meets wherever they read and write.
+pub enum Kind {
+    Ordinary,
+    Emms,
+}
+
 // What reading gives: the instruction and its length, or the refusal.
 pub enum Reading {
     Read(Instruction, usize),

@@ -21,14 +21,17 @@ pub(crate) const BUFFER_ENDS: u8 = 12;
 // The first byte of every opcode.
 pub(crate) const ESCAPE: u8 = 0x0f;
 
-// The parts of a table's entry: the places of form, operand size and lane width, and how many values a part has. The operation is lowest.
+// The parts of a table's entry: the places of form and operand size, and how many values a part has. The operation is lowest.
 pub const FORM: u32 = 0x1000000;
 
 pub const SIZE: u32 = 0x10000;
 
-pub const LANE: u32 = 0x100;
-
 pub const PART: u32 = 0x100;
+
+// Of a shift by an immediate: the places of the operations with /2 and /4. That with /6 is lowest.
+pub const RIGHT_PLACE: u32 = 0x10000;
+
+pub const SIGNED_PLACE: u32 = 0x100;
 
 // The forms, by the numbers of the table: none, EMMS, the shifts by an immediate, then those with two operands.
 pub(crate) const ABSENT: u32 = 0;

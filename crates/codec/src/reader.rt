@@ -14,7 +14,7 @@ ghost use mathlib.Core.Path.{_≡_};
 ghost use Prim.Native.Nat.{_+_, _*_, _≤_};
 ghost use lib.ListN.{length, take, drop};
 ghost use Rattle.words.specs.Number.{number};
-ghost use Rattle.codec.specs.Packed.{entryIn};
+ghost use Rattle.codec.specs.Packed.{formIn};
 ghost use Rattle.codec.specs.Operands.{Sized, operandOf};
 ghost use Rattle.codec.specs.Reader.{reads};
 ghost use Rattle.codec.specs.Reads.{immediateReader, displacementReader, sibReader, modrmReader, secondReader};
@@ -175,7 +175,7 @@ fn modrm_at(code: &[u8], at: usize, opcode: Opcode) -> Found
 
 // The second byte, and what follows it by its form.
 pub(crate) fn second_at(table: &[u32; 256], code: &[u8], at: usize, first: u8) -> Found
-    ensures { λ r. ⌜ r ≡ foundIn (now (table .entry)) (reads (secondReader (entryIn (now (table .entry))) first) at (drop at (now (code .entry)))) ⌝ }
+    ensures { λ r. ⌜ r ≡ foundIn (now (table .entry)) (reads (secondReader (formIn (now (table .entry))) first) at (drop at (now (code .entry)))) ⌝ }
 {
     if code.len() <= at {
         return refused(CODE_ENDS);

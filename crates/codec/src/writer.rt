@@ -11,7 +11,7 @@ ghost use Prim.Native.Nat.{_+_, _≤_};
 ghost use lib.ListN.{length};
 ghost use lib.Seq.{sets};
 ghost use Rattle.words.specs.Number.{bytes};
-ghost use Rattle.codec.specs.Opcodes.{entryOf};
+ghost use Rattle.codec.specs.Opcodes.{formAt};
 ghost use Rattle.codec.specs.Packed.{formOf};
 ghost use Rattle.codec.specs.Operands.{joined, Fields, Sized};
 ghost use Rattle.codec.specs.Fits.{fits, sibFits, operandFits, operandIsZero, partsFit, hasBytes};
@@ -142,7 +142,7 @@ fn parts_fit(form: u32, operand: Operand, immediate: u32) -> bool
 
 // Whether any byte string reads as the record.
 pub(crate) fn has_bytes(form: u32, instruction: Instruction) -> bool
-    requires { ⌜ formOf form ≡ entryOf (instruction .second) .form ⌝ }
+    requires { ⌜ formOf form ≡ formAt (instruction .second) ⌝ }
     ensures { λ r. ⌜ r ≡ hasBytes instruction ⌝ }
 {
     if instruction.first != ESCAPE {
@@ -154,7 +154,7 @@ pub(crate) fn has_bytes(form: u32, instruction: Instruction) -> bool
 
 // How many bytes the record has.
 pub(crate) fn size_of(form: u32, instruction: Instruction) -> usize
-    requires { ⌜ formOf form ≡ entryOf (instruction .second) .form ⌝ }
+    requires { ⌜ (formOf form ≡ formAt (instruction .second)) × (hasBytes instruction ≡ true) ⌝ }
     ensures { λ r. ⌜ r ≡ length (bytesOf instruction) ⌝ }
 {
     if form == EMMS {
@@ -225,7 +225,7 @@ fn put_operand(buffer: &mut [u8], at: usize, operand: Operand) -> usize
 
 // The bytes of a record that has bytes, at the start of a buffer that has room for them.
 pub(crate) fn put(buffer: &mut [u8], form: u32, instruction: Instruction)
-    requires { ⌜ (formOf form ≡ entryOf (instruction .second) .form) × ((length (bytesOf instruction) ≤ length (now buffer)) × (hasBytes instruction ≡ true)) ⌝ }
+    requires { ⌜ (formOf form ≡ formAt (instruction .second)) × ((length (bytesOf instruction) ≤ length (now buffer)) × (hasBytes instruction ≡ true)) ⌝ }
     ensures { λ _. ⌜ now (buffer .exit) ≡ sets (now (buffer .entry)) 0 (bytesOf instruction) ⌝ }
 {
     buffer[0] = instruction.first;

@@ -11,7 +11,7 @@ use Rattle.codec.specs.declared.Reading.{Reading}
 use Rattle.codec.specs.declared.Reading.the-variants as reading
 use Rattle.codec.specs.Answers.{paperOfReading}
 use Rattle.codec.specs.Reads.{readAt}
-use Rattle.manual.specs.declared.Kind.{Kind}
+use Rattle.codec.specs.declared.Kind.{Kind}
 use Rattle.manual.specs.State.{State, isTooLong}
 use Rattle.manual.specs.Places.{Place}
 use Rattle.manual.specs.Steps.{Outcome, refusedWith, instructionAt, stepAt}

@@ -7,9 +7,9 @@ use borrow.Author.Needs.{needs}
 use borrow.Author.Tests.{le-ltb}
 use lib.ListN.{length, drop}
 use Rattle.reorder.specs.Result.{caseOf}
-use Rattle.codec.specs.Opcodes.{Entry, entryOf}
+use Rattle.codec.specs.Opcodes.{formAt}
 use Rattle.codec.specs.Operands.{Registers}
-use Rattle.codec.specs.Packed.{packedRows, unpacked}
+use Rattle.codec.specs.Packed.{packedRows}
 use Rattle.codec.specs.Reads.{longestCode, readPart}
 use Rattle.codec.specs.Lent.{foundIn, findWith}
 use Rattle.codec.specs.declared.Found.{Found}
@@ -19,8 +19,8 @@ use Rattle.codec.proofs.Given.{Known, Refusal, reads-known}
 use Rattle.codec.proofs.OurTable.{found-ours}
 use Rattle.codec.proofs.Theorems.{found-registers}
 use Rattle.manual.specs.State.{State, longestMemory}
-use Rattle.manual.specs.Effects.{unlessMarked, directly}
-use Rattle.manual.specs.Instructions.{effectBy, effectAt, execute}
+use Rattle.manual.specs.Effects.{Effect, unlessMarked, directly}
+use Rattle.manual.specs.Instructions.{effectOf, execute}
 use Rattle.manual.specs.Steps.{concluded, refusedWith, resultOf, stepAt}
 use Rattle.manual.specs.Runs.{read}
 use Rattle.manual.proofs.Turns.{instruction-here}
@@ -29,7 +29,7 @@ use Rattle.machine.specs.declared.gathering.Marks.{Marks}
 use Rattle.machine.specs.declared.gathering.Work.{Work}
 use Rattle.machine.specs.State.{stateOf}
 use Rattle.machine.specs.Works.{machineOf, barredBy, effectIn, Listed, performed, Does, Gathered, refusedWork}
-use Rattle.machine.proofs.Listing.{row-found, row-listed}
+use Rattle.machine.proofs.Listing.{row-listed, effect-is}
 use Rattle.machine.proofs.Soundness.{sound-refusal}
 use Rattle.machine.proofs.Testing.{unbarred-by, barred-by}
 
@@ -41,12 +41,12 @@ module _ (table code : List ℕ) (at : ℕ) (x : Found) (ours : table ≡ packed
   pub names-registers : Registers (x .instruction .operand)
   names-registers = subst (λ (y : Found). Registers (y .instruction .operand)) (sym e) (found-registers table code at)
 
-  pub is-listed : x .refusal ≡ 0 → Listed (unpacked (x .entry))
-  is-listed h = by (readPart (drop at code)) refl (reads-known entryOf 0 (drop at code))
+  pub is-listed : x .refusal ≡ 0 → Listed (x .entry)
+  is-listed h = by (readPart (drop at code)) refl (reads-known formAt 0 (drop at code))
     where
-      by : (z : Answer) → readPart (drop at code) ≡ z → Holds (Known entryOf) Refusal z → Listed (unpacked (x .entry))
+      by : (z : Answer) → readPart (drop at code) ≡ z → Holds (Known formAt) Refusal z → Listed (x .entry)
       by (good i n) r g =
-          subst (λ (y : Found). Listed (unpacked (y .entry))) (sym (found-is (good i n) r)) (row-listed (drop at code) i n r)
+          subst (λ (y : Found). Listed (y .entry)) (sym (found-is (good i n) r)) (row-listed (i .second) (g .present))
       by (refused n) r g =
           let f : x .refusal ≡ n = ap (λ (y : Found). y .refusal) (found-is (refused n) r) in
           absurd (omega (arith, g .0))
@@ -77,17 +77,17 @@ module _ (table code : List ℕ) (at : ℕ) (x : Found) (ours : table ≡ packed
     -- an instruction was found
     module _ (passed : x .refusal ≡ 0) where
       step-found : stepAt code at s ≡ concluded at (x .next) s (unlessMarked (marks .em) (marks .ts) (marks .pending) (directly (effectIn (x .entry) (x .instruction)) s))
-      unfolding execute effectAt
-      step-found = by (readPart (drop at code)) refl (reads-known entryOf 0 (drop at code))
+      unfolding execute
+      step-found = by (readPart (drop at code)) refl (reads-known formAt 0 (drop at code))
         where
-          by : (z : Answer) → readPart (drop at code) ≡ z → Holds (Known entryOf) Refusal z
+          by : (z : Answer) → readPart (drop at code) ≡ z → Holds (Known formAt) Refusal z
               → stepAt code at s ≡ concluded at (x .next) s (unlessMarked (marks .em) (marks .ts) (marks .pending) (directly (effectIn (x .entry) (x .instruction)) s))
           by (good i n) r g =
               step-reads (good i n) r
               ∙ ap (concluded at (at + n) s)
-              (marks-first s (effectBy (entryOf (i .second) .form) (entryOf (i .second)) (i .operand) (i .immediate)))
-              ∙ ap (λ (y : Entry). concluded at (at + n) s (unlessMarked (marks .em) (marks .ts) (marks .pending) (directly (effectBy (y .form) y (i .operand) (i .immediate)) s)))
-              (sym (row-found (drop at code) i n r))
+              (marks-first s (effectOf i))
+              ∙ ap (λ (y : Effect). concluded at (at + n) s (unlessMarked (marks .em) (marks .ts) (marks .pending) (directly y s)))
+              (sym (effect-is i (g .registers)))
               ∙ ap (λ (y : Found). concluded at (y .next) s (unlessMarked (marks .em) (marks .ts) (marks .pending) (directly (effectIn (y .entry) (y .instruction)) s)))
               (sym (found-is (good i n) r))
           by (refused n) r g =

@@ -12,7 +12,7 @@ use lib.Dec.{eqb, ltb}
 use lib.ListN.{length, getD}
 use Rattle.reorder.specs.Result.{Result, done, refused}
 use Rattle.reorder.specs.Footprint as places
-use Rattle.manual.specs.declared.Kind.{Kind}
+use Rattle.codec.specs.declared.Kind.{Kind}
 use Rattle.manual.specs.Places.{Place, mmx, integer, byte}
 use Rattle.manual.specs.Kinds.{KindsMeet}
 use Rattle.manual.specs.Footprints.{Meets}

@@ -15,12 +15,12 @@ use Rattle.reorder.specs.Block.{rearranged}
 use Rattle.reorder.proofs.Permutation.{permutation-order}
 use Rattle.reorder.proofs.Turning.{turns, keeps-unturned}
 use Rattle.codec.specs.Forms.{allows}
-use Rattle.codec.specs.Opcodes.{entryOf}
+use Rattle.codec.specs.Opcodes.{formAt, operationAt}
 use Rattle.codec.specs.Operands.{hasSib, displacementSize}
 use Rattle.codec.specs.Reads.{immediateReader, displacementReader, sibReader, modrmReader, formReader, secondReader, instructionReader, readAt}
 use Rattle.manual.specs.Addresses.{displacementOf, baseOf, addressOf, address}
 use Rattle.manual.specs.Locations.{rmOf}
-use Rattle.manual.specs.Instructions.{effectAt, execute, footprint}
+use Rattle.manual.specs.Instructions.{effectOf, execute, footprint}
 use Rattle.manual.specs.Steps.{instructionAt}
 use Rattle.manual.specs.Runs.{read, runOf}
 use Rattle.manual.specs.Footprints.{footprintAt, footprintInRun, Meets}
@@ -58,7 +58,7 @@ pub record Found : Type 0 where
 
 -- (footprints are taken where a run of so many instructions comes to, so these compute runs)
 pub found : Found
-unfolding lane build register clamp clampUnsigned packed pairwise sumUnsigned operate allows entryOf hasSib displacementSize immediateReader displacementReader sibReader modrmReader formReader secondReader instructionReader readAt displacementOf baseOf addressOf address rmOf effectAt execute footprint instructionAt read runOf footprintAt overlap share meet
+unfolding lane build register clamp clampUnsigned packed pairwise sumUnsigned operate allows formAt operationAt hasSib displacementSize immediateReader displacementReader sibReader modrmReader formReader secondReader instructionReader readAt displacementOf baseOf addressOf address rmOf effectOf execute footprint instructionAt read runOf footprintAt overlap share meet
 found = record { pairs = refl; unturned = refl; turned = refl }
 
 -- the allowed order is one, and keeps every pair that meets

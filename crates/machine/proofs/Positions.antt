@@ -9,7 +9,7 @@ use Rattle.reorder.specs.Result.{Result, done, refused, andThen}
 use Rattle.reorder.specs.Footprint as places
 use Rattle.reorder.specs.Run.{Reading, positionReached, stateReached}
 use Rattle.codec.specs.declared.Instruction.{Instruction}
-use Rattle.manual.specs.declared.Kind.{Kind}
+use Rattle.codec.specs.declared.Kind.{Kind}
 use Rattle.manual.specs.State.{State}
 use Rattle.manual.specs.Places.{Place, byte}
 use Rattle.manual.specs.Instructions.{footprint}

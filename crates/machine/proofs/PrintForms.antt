@@ -1,24 +1,24 @@
 -- The footprint that no control mark stops, by the form's number: each form has its shape. Rules for what the code makes of a form.
-use mathlib.Core.Path.{_≡_, refl}
+use mathlib.Core.Path.{_≡_, sym, subst}
 use mathlib.Core.Logic.{_⊎_, inl, inr}
-use Prim.Native.Nat.{ℕ, _/_, _^_, _≤_, _<_}
+use Prim.Native.Nat.{ℕ, _/_, _%_, _^_, _≤_, _<_}
 use borrow.Author.Needs.{needs}
-use Rattle.lanes.specs.Operations.{operate}
+use Rattle.lanes.specs.Operations.{Operation, operate}
 use Rattle.reorder.specs.Result.{done, refused}
-use Rattle.codec.specs.Forms.{Form, shiftWD, shiftQ, storeD, loadD, storeQ, loadQ, usual}
-use Rattle.codec.specs.Packed.{formOf, unpacked}
+use Rattle.codec.specs.Forms.{Form, reg32/mem32←mmreg1, mmreg1←reg32/mem32, mmreg2/mem64←mmreg1, mmreg1·mmreg2/mem32, mmreg1·mmreg2/mem64, mmreg1←mmreg2/mem64, memorySize}
+use Rattle.codec.specs.Packed.{formOf, operationIn}
 use Rattle.codec.specs.declared.Instruction.{Instruction}
-use Rattle.manual.specs.declared.Kind.the-variants.{Ordinary, Emms}
+use Rattle.codec.specs.declared.Kind.the-variants.{Ordinary, Emms}
 use Rattle.manual.specs.State.{State}
 use Rattle.manual.specs.Locations.{Location, rmOf, placesOf}
-use Rattle.manual.specs.Instructions.{whole, lowHalf, effectBy}
+use Rattle.manual.specs.Instructions.{effectBy}
 use Rattle.machine.specs.declared.Places.{Places}
 use Rattle.machine.specs.declared.Footprint.{Footprint}
 use Rattle.machine.specs.declared.reaches.Reach.{Reach}
 use Rattle.machine.specs.declared.reaches.Reach.the-variants.{Inside, Refused}
 use Rattle.machine.specs.PrintShapes.{nowhere, beside, reachOf, storing, loading, computing, unmarkedPrint}
-use Rattle.machine.specs.Works.{effectIn, Listed}
-use Rattle.machine.proofs.Numbering.{TwoOperands, is-storeD, is-loadD, is-storeQ, is-loadQ, is-usual, two-operands, Shifting, shifts-WD, shifts-Q, shifting-form}
+use Rattle.machine.specs.Works.{effectIn, fileIn, otherOf, Listed}
+use Rattle.machine.proofs.Numbering.{TwoOperands, is-storeD, is-loadD, is-storeQ, is-usualD, is-loadQ, is-usual, two-operands, Shifting, shifts-WD, shifts-Q, shifting-form}
 use Rattle.machine.proofs.PrintShaping.{shaped, stores, loads, computes}
 
 -- the forms with two operands, by their numbers
@@ -30,45 +30,61 @@ abbrev Loads : ℕ → Type 0
 Loads n = (n ≡ 5) ⊎ (n ≡ 9)
 
 abbrev Sorted : ℕ → Type 0
-Sorted n = (Stores n ⊎ Loads n) ⊎ (formOf n ≡ usual)
+Sorted n = (Stores n ⊎ Loads n) ⊎ ((formOf n ≡ mmreg1·mmreg2/mem32) ⊎ (formOf n ≡ mmreg1·mmreg2/mem64))
 
 sorted : (n : ℕ) → 4 ≤ n → Sorted n
-sorted n h = by (formOf n) refl (two-operands n h)
+sorted n h = by (two-operands n h)
   where
-    by : (form : Form) → formOf n ≡ form → TwoOperands n form → Sorted n
-    by storeD f (is-storeD e) = inl (inl (inl e))
-    by loadD f (is-loadD e) = inl (inr (inl e))
-    by storeQ f (is-storeQ e) = inl (inl (inr e))
-    by loadQ f (is-loadQ e) = inl (inr (inr e))
-    by usual f (is-usual g) = inr f
+    by : TwoOperands n → Sorted n
+    by (is-storeD e f) = inl (inl (inl e))
+    by (is-loadD e f) = inl (inr (inl e))
+    by (is-storeQ e f) = inl (inl (inr e))
+    by (is-usualD e f) = inr (inl f)
+    by (is-loadQ e f) = inl (inr (inr e))
+    by (is-usual g f) = inr (inr f)
 
 -- what they read and write
 module _ (s : State) (entry : ℕ) (i : Instruction) where
   abbrev form : ℕ
   form = entry / 2 ^ 24
 
+  abbrev named : Operation
+  named = operationIn entry (i .operand .reg)
+
+  abbrev other : Form → Location
+  other f = rmOf (fileIn (f .operands)) (memorySize f) (i .operand)
+
   abbrev x : Location
-  x = rmOf (unpacked entry) (i .operand)
+  x = otherOf form (i .operand)
+
+  -- a form's footprint has a shape
+  abbrev ShapesAs : (ℕ → Places → Footprint) → Form → Type 0
+  ShapesAs shape f = unmarkedPrint (effectBy f named i) s ≡ shaped shape (reachOf (other f) (placesOf s (other f)))
 
   abbrev Shapes : (ℕ → Places → Footprint) → ℕ → Type 0
-  Shapes shape n = unmarkedPrint (effectBy (formOf n) (unpacked entry) (i .operand) (i .immediate)) s ≡ shaped shape (reachOf x (placesOf s x))
+  Shapes shape n = ShapesAs shape (formOf n)
 
   abbrev register : ℕ
   register = i .operand .reg
 
+  -- what a move leaves of a number
+  abbrev copied : ℕ → ℕ
+  copied v = operate named v v
+
   print-stores : (n : ℕ) → Stores n → Shapes (storing register) n
   unfolding unmarkedPrint
-  print-stores n (inl e) = simp e (stores s register x lowHalf (placesOf s x))
-  print-stores n (inr e) = simp e (stores s register x whole (placesOf s x))
+  print-stores n (inl e) = subst (Shapes (storing register)) (sym e) (stores s register (other reg32/mem32←mmreg1) (λ v. copied v % 2 ^ 32) (placesOf s (other reg32/mem32←mmreg1)))
+  print-stores n (inr e) = subst (Shapes (storing register)) (sym e) (stores s register (other mmreg2/mem64←mmreg1) copied (placesOf s (other mmreg2/mem64←mmreg1)))
 
   print-loads : (n : ℕ) → Loads n → Shapes (loading register) n
   unfolding unmarkedPrint
-  print-loads n (inl e) = simp e (loads s register x whole (placesOf s x))
-  print-loads n (inr e) = simp e (loads s register x whole (placesOf s x))
+  print-loads n (inl e) = subst (Shapes (loading register)) (sym e) (loads s register (other mmreg1←reg32/mem32) copied (placesOf s (other mmreg1←reg32/mem32)))
+  print-loads n (inr e) = subst (Shapes (loading register)) (sym e) (loads s register (other mmreg1←mmreg2/mem64) copied (placesOf s (other mmreg1←mmreg2/mem64)))
 
-  print-usual : (n : ℕ) → formOf n ≡ usual → Shapes (computing register) n
+  print-usual : (n : ℕ) → (formOf n ≡ mmreg1·mmreg2/mem32) ⊎ (formOf n ≡ mmreg1·mmreg2/mem64) → Shapes (computing register) n
   unfolding unmarkedPrint
-  print-usual n e = simp e (computes s register x (operate (unpacked entry .operation)) (placesOf s x))
+  print-usual n (inl e) = subst (ShapesAs (computing register)) (sym e) (computes s register (other mmreg1·mmreg2/mem32) (operate named) (placesOf s (other mmreg1·mmreg2/mem32)))
+  print-usual n (inr e) = subst (ShapesAs (computing register)) (sym e) (computes s register (other mmreg1·mmreg2/mem64) (operate named) (placesOf s (other mmreg1·mmreg2/mem64)))
 
   module _ (r : Reach) (reached : r ≡ reachOf x (placesOf s x)) where
     module _ (f : Footprint) (m : ℕ) (p : Places) (inside : r ≡ Inside m p) where
@@ -97,12 +113,12 @@ module _ (s : State) (entry : ℕ) (i : Instruction) where
 
   -- one operand, and none
   shifted : (f : Form) (p : Places) → Shifting f → p ≡ beside (i .operand .rm) nowhere
-      → done (record { reads = p; writes = p; kind = Ordinary }) ≡ unmarkedPrint (effectBy f (unpacked entry) (i .operand) (i .immediate)) s
+      → done (record { reads = p; writes = p; kind = Ordinary }) ≡ unmarkedPrint (effectBy f named i) s
   unfolding unmarkedPrint
-  shifted shiftWD p shifts-WD e = simp e
-  shifted shiftQ p shifts-Q e = simp e
+  shifted f p (shifts-WD g) e = simp (e, g)
+  shifted f p (shifts-Q g) e = simp (e, g)
 
-  pub print-shift : (p : Places) → Listed (unpacked entry) → form < 4 → (form ≡ 1 → ⊥) → p ≡ beside (i .operand .rm) nowhere
+  pub print-shift : (p : Places) → Listed entry → form < 4 → (form ≡ 1 → ⊥) → p ≡ beside (i .operand .rm) nowhere
       → done (record { reads = p; writes = p; kind = Ordinary }) ≡ unmarkedPrint (effectIn entry i) s
   print-shift p l h o e = shifted (formOf form) p (shifting-form form h o (l .present)) e
 

@@ -2,13 +2,12 @@
 use mathlib.Core.Path.{_≡_, refl}
 use mathlib.Core.Bool.{Bool, true, false, not}
 use mathlib.Core.List.{List, []}
-use Prim.Native.Nat.{ℕ, zero, suc, _+_, _/_, _^_, _≤_, _<_}
+use Prim.Native.Nat.{ℕ, zero, suc, _+_, _/_, _%_, _^_, _≤_, _<_}
 use native.Mathlib.Omega.{arith}
 use borrow.Author.Needs.{needs}
 use borrow.Author.Tests.{eq-eqb, ne-eqb, not-true, not-false}
 use lib.Dec.{leb}
 use lib.ListN.{length}
-use Rattle.codec.specs.Packed.{unpacked}
 use Rattle.codec.specs.declared.Operand.{Operand}
 use Rattle.manual.specs.Refusals.{outsideMemory}
 use Rattle.manual.specs.State.{State}
@@ -20,7 +19,8 @@ use Rattle.machine.specs.declared.reaches.Reach.the-variants.{Inside, Re
 use Rattle.machine.specs.Prints.{mmxNumber, integerNumber, numbersOf, mask, setOf}
 use Rattle.machine.specs.PrintShapes.{nowhere, beside, through, reachOf}
 use Rattle.machine.proofs.Ranges.{count-bytes}
-use Rattle.machine.proofs.Numbering.{integer-form, mmx-form}
+use Rattle.machine.proofs.Numbering.{small, integer-form, mmx-form}
+use Rattle.machine.specs.Works.{otherOf, Listed}
 
 no-mmx : (size a : ℕ) → numbersOf mmxNumber (bytesFrom a size) ≡ []
 no-mmx zero a = refl
@@ -55,23 +55,27 @@ module _ (integers : List ℕ) (w : Operand) (size room a : ℕ) (there : a ≡ 
 -- in a register
 module _ (s : State) (entry : ℕ) (w : Operand) where
   abbrev there : Reach
-  there = reachOf (rmOf (unpacked entry) w) (placesOf s (rmOf (unpacked entry) w))
+  there = reachOf (otherOf (entry / 2 ^ 24) w) (placesOf s (otherOf (entry / 2 ^ 24) w))
 
   module _ (p : Places) (register : w .mode ≡ 3) where
     pub reach-integer : (b : ℕ) → 4 ≤ entry / 2 ^ 24 → entry / 2 ^ 24 ≤ 5 → b ≡ 2 ^ (w .rm) → p ≡ through b nowhere → Inside 0 p ≡ there
     unfolding rmOf
-    reach-integer b f g e h = simp (eq-eqb (w .mode) 3 register, integer-form (entry / 2 ^ 24) (w .rm) f g, h, e)
+    reach-integer b f g e h = simp (eq-eqb (w .mode) 3 register, integer-form (entry / 2 ^ 24) f g, h, e)
 
     pub reach-mmx : 5 < entry / 2 ^ 24 → p ≡ beside (w .rm) nowhere → Inside 0 p ≡ there
     unfolding rmOf
-    reach-mmx f h = simp (eq-eqb (w .mode) 3 register, mmx-form (entry / 2 ^ 24) (w .rm) f, h)
+    reach-mmx f h = simp (eq-eqb (w .mode) 3 register, mmx-form (entry / 2 ^ 24) f, h)
 
-  pub reach-memory : (r : Reach) → (w .mode ≡ 3 → ⊥)
-      → r ≡ reachOf (memory (addressOf w) (unpacked entry .size)) (tested (length (s .memory)) (unpacked entry .size) (address (s .integers) (addressOf w)))
-      → r ≡ there
-  unfolding rmOf
-  reach-memory r m h = simp (ne-eqb (w .mode) 3 m) h
+  module _ (l : Listed entry) (two : 4 ≤ entry / 2 ^ 24) where
+    pub reach-size : 0 < entry / 2 ^ 16 % 256
+    reach-size = omega (arith, l .sized two, small (entry / 2 ^ 24) two .some)
+
+    pub reach-memory : (r : Reach) → (w .mode ≡ 3 → ⊥)
+        → r ≡ reachOf (memory (addressOf w) (entry / 2 ^ 16 % 256)) (tested (length (s .memory)) (entry / 2 ^ 16 % 256) (address (s .integers) (addressOf w)))
+        → r ≡ there
+    unfolding rmOf
+    reach-memory r m h = simp (ne-eqb (w .mode) 3 m, ← l .sized two) h
 
 pub ruleset print-bytes = (needs, reach-outside, reach-inside)
 
-pub ruleset print-reaching = (needs, reach-integer, reach-mmx, reach-memory)
+pub ruleset print-reaching = (needs, reach-integer, reach-mmx, reach-size, reach-memory)

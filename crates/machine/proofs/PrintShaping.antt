@@ -6,12 +6,12 @@ use borrow.Author.Needs.{needs}
 use lib.Bits.{or-zero-l}
 use Rattle.reorder.specs.Result.{Result, done, refused, andThen, mapResult}
 use Rattle.reorder.specs.Footprint.{footprintIn}
-use Rattle.manual.specs.declared.Kind.the-variants.{Ordinary}
+use Rattle.codec.specs.declared.Kind.the-variants.{Ordinary}
 use Rattle.manual.specs.State.{State}
 use Rattle.manual.specs.Places.{Place, mmx, integer, look}
 use Rattle.manual.specs.Locations.{Location, mmxRegister}
 use Rattle.manual.specs.Effects.{Effect, planOn, via}
-use Rattle.manual.specs.Instructions.{both, move}
+use Rattle.manual.proofs.Direct.{both, move}
 use Rattle.manual.proofs.Direct.{one}
 use Rattle.machine.specs.declared.Places.{Places}
 use Rattle.machine.specs.declared.Footprint.{Footprint}

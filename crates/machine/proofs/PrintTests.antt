@@ -4,23 +4,23 @@ use mathlib.Core.List.{List}
 use Prim.Native.Nat.{ℕ, _≤_, _<_}
 use borrow.Author.Needs.{needs}
 use borrow.Author.Tests.{lt-ltb, le-ltb}
-use lib.ListN.{length}
+use lib.ListN.{length, getD}
 use Rattle.reorder.specs.Result.{Result, refused, mapResult}
 use Rattle.reorder.specs.Plan.{Plan}
 use Rattle.reorder.specs.Footprint.{footprintIn}
 use Rattle.codec.specs.Answers.{paperOfReading}
-use Rattle.codec.specs.Opcodes.{Entry, entryOf}
-use Rattle.codec.specs.Packed.{unpacked}
+use Rattle.codec.specs.Operands.{Registers}
+use Rattle.codec.specs.Packed.{packedRows}
 use Rattle.codec.specs.Reads.{readAt}
 use Rattle.codec.specs.declared.Instruction.{Instruction}
 use Rattle.codec.specs.declared.Reading.{Reading}
 use Rattle.codec.specs.declared.Reading.the-variants as reading
-use Rattle.manual.specs.declared.Kind.{Kind}
+use Rattle.codec.specs.declared.Kind.{Kind}
 use Rattle.manual.specs.Refusals.{memoryTooLong}
 use Rattle.manual.specs.State.{State, longestMemory}
 use Rattle.manual.specs.Places.{Place, look}
-use Rattle.manual.specs.Effects.{unlessMarked, via}
-use Rattle.manual.specs.Instructions.{effectBy, effectAt, effectOf, footprint}
+use Rattle.manual.specs.Effects.{Effect, unlessMarked, via}
+use Rattle.manual.specs.Instructions.{effectOf, footprint}
 use Rattle.manual.specs.Steps.{instructionAt}
 use Rattle.manual.specs.Footprints.{footprintAt}
 use Rattle.manual.proofs.Direct.{past-marks}
@@ -31,7 +31,7 @@ use Rattle.machine.specs.Prints.{print, printAt, paperOfFootprint}
 use Rattle.machine.specs.PrintShapes.{unmarkedPrint}
 use Rattle.machine.specs.Works.{barredBy, effectIn, Listed}
 use Rattle.machine.proofs.Testing.{unbarred-by, barred-by}
-use Rattle.machine.proofs.Listing.{read-registers, read-listed}
+use Rattle.machine.proofs.Listing.{effect-is, read-registers, read-listed}
 
 -- the control marks
 module _ (machine : Machine) (memory : List ℕ) (i : Instruction) where
@@ -49,14 +49,13 @@ module _ (machine : Machine) (memory : List ℕ) (i : Instruction) where
     pub print-barred : (bar ≡ 0 → ⊥) → refused bar ≡ mapResult print (footprint i here)
     print-barred h = ap refused found ∙ sym (by-marks ∙ barred-by (machine .em) (machine .ts) (machine .pending) _ (λ e. h (found ∙ e)))
 
-    pub print-unbarred : (entry : ℕ) (r : Printed) → bar ≡ 0 → unpacked entry ≡ entryOf (i .second)
+    pub print-unbarred : (entry : ℕ) (r : Printed) → bar ≡ 0 → Registers (i .operand) → entry ≡ getD packedRows (i .second) 0
         → paperOfFootprint r ≡ unmarkedPrint (effectIn entry i) here → paperOfFootprint r ≡ mapResult print (footprint i here)
-    unfolding effectAt
-    print-unbarred entry r h e p =
-        p ∙ ap (λ (y : Entry). unmarkedPrint (effectBy (y .form) y (i .operand) (i .immediate)) here) e
+    print-unbarred entry r h names e p =
+        p ∙ ap (λ (y : ℕ). unmarkedPrint (effectIn y i) here) e ∙ ap (λ (y : Effect). unmarkedPrint y here) (effect-is i names)
         ∙ sym (by-marks ∙ unbarred-by (machine .em) (machine .ts) (machine .pending) _ (sym found ∙ h))
 
-pub entry-listed : (entry second : ℕ) → unpacked entry ≡ entryOf second → Listed (entryOf second) → Listed (unpacked entry)
+pub entry-listed : (entry second : ℕ) → entry ≡ getD packedRows second 0 → Listed (getD packedRows second 0) → Listed entry
 entry-listed entry second e l = subst Listed (sym e) l
 
 -- the position

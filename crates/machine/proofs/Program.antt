@@ -10,8 +10,8 @@ use Rattle.reorder.specs.Footprint as places
 use Rattle.reorder.specs.Run.{finished, positionReached, stateReached}
 use Rattle.reorder.specs.Block.{rearranged}
 use Rattle.reorder.proofs.Permutation.{order-below}
-use Rattle.manual.specs.declared.Kind.{Kind}
-use Rattle.manual.specs.declared.Kind.the-variants.{Ordinary}
+use Rattle.codec.specs.declared.Kind.{Kind}
+use Rattle.codec.specs.declared.Kind.the-variants.{Ordinary}
 use Rattle.manual.specs.State.{State}
 use Rattle.manual.specs.Places.{Place}
 use Rattle.manual.specs.Runs.{read, runOf}

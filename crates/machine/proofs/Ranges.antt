@@ -3,7 +3,7 @@ use mathlib.Core.Path.{_≡_, refl, sym, ap, subst}
 use mathlib.Core.Logic.{_↔_}
 use mathlib.Core.Bool.{Bool, true, false, cond}
 use mathlib.Core.List.{List, [], _∷_, _++_, append-nil, map, List·Memᴰ as In, List·Memᴰ·head as here, List·Memᴰ·tail as later}
-use Prim.Native.Nat.{ℕ, zero, suc, _+_, _≤_, _<_}
+use Prim.Native.Nat.{ℕ, zero, suc, _+_, _/_, _%_, _^_, _≤_, _<_}
 use native.Mathlib.Decide.{decLt}
 use native.Mathlib.Omega.{arith}
 use lib.ListN.{length, getD}
@@ -11,20 +11,23 @@ use Rattle.lanes.specs.Operations.{Operation, operate}
 use Rattle.reorder.specs.Result.{Result, done, refused, andThen, mapResult}
 use Rattle.reorder.specs.Plan.{Plan}
 use Rattle.reorder.specs.Footprint.{Footprint, footprintIn}
-use Rattle.codec.specs.Forms.{Form, absent, emms, shiftWD, shiftQ, storeD, loadD, storeQ, loadQ, usual}
-use Rattle.codec.specs.Opcodes.{Entry, entryOf}
+use Rattle.codec.specs.Forms.{mmxFile, integerFile, Form}
+use Rattle.codec.specs.Opcodes.{operationAt}
+use Rattle.codec.specs.Packed.{formOf, packedRows}
+use Rattle.codec.proofs.Entries.{form-is}
 use Rattle.codec.specs.declared.Operand.{Operand}
 use Rattle.codec.specs.declared.Instruction.{Instruction}
-use Rattle.manual.specs.declared.Kind.{Kind}
-use Rattle.manual.specs.declared.Kind.the-variants.{Ordinary, Emms}
+use Rattle.codec.specs.declared.Kind.{Kind}
+use Rattle.codec.specs.declared.Kind.the-variants.{Ordinary, Emms}
 use Rattle.manual.specs.Refusals.{outsideMemory}
 use Rattle.manual.specs.State.{State}
 use Rattle.manual.specs.Places.{Place, mmx, integer, look}
 use Rattle.manual.specs.Addresses.{address}
-use Rattle.manual.specs.Locations.{Location, mmxRegister, integerRegister, memory, rmOf, regOf, bytesFrom, fits, placesOf}
+use Rattle.manual.specs.Locations.{Location, mmxRegister, integerRegister, memory, rmOf, bytesFrom, fits, placesOf}
 use Rattle.manual.specs.Effects.{addressRegistersOf, unlessMarked, planOn, via, footprintOf}
-use Rattle.manual.specs.Instructions.{both, move, bare, whole, lowHalf, shiftBy, shiftOf, effectBy, effectAt, footprint}
-use Rattle.manual.proofs.Direct.{one}
+use Rattle.manual.specs.Instructions.{effectBy, effectOf, footprint}
+use Rattle.manual.proofs.Direct.{both, move, bare, one}
+use Rattle.machine.proofs.Numbering.{TwoOperands, is-storeD, is-loadD, is-storeQ, is-usualD, is-loadQ, is-usual, two-operands}
 use Rattle.machine.specs.Prints.{bytesOf}
 
 -- the numbers of the list are those from its first one on, as many as there are
@@ -113,9 +116,6 @@ module _ (s : State) where
       unmarked (s .em) (s .ts) (s .pending) (via (move f d x)) _
       (moved f d x (placesOf s x) (placesOf s d) (ranged-places s x) (ranged-places s d))
 
-  ranged-shift : (count : ℕ) (operation : Operation) (register : Location) → RangedPrint (footprintOf (shiftBy count operation register) s)
-  ranged-shift count operation register = ranged-move (λ x. operate operation x count) register register
-
   joined : (f : ℕ → ℕ → ℕ) (k : ℕ) (x : Location) (ps : Result (List Place)) → Ranged ps
       → RangedPrint (ofPlan (via (both f (mmxRegister k) x))
       (andThen (mapResult (λ qs. mmx k ∷ qs) (one ps)) (λ source. done (planOn (both f (mmxRegister k) x) source (mmx k ∷ [])))))
@@ -132,18 +132,35 @@ module _ (s : State) where
   ranged-bare kind =
       unmarked (s .em) (s .ts) (s .pending) [] _ (record { reads = no-bytes; writes = no-bytes })
 
-  module _ (entry : Entry) (w : Operand) (immediate : ℕ) where
-    ranged-form : (form : Form) → RangedPrint (footprintOf (effectBy form entry w immediate) s)
-    ranged-form absent = ranged-bare Ordinary
-    ranged-form emms = ranged-bare Emms
-    ranged-form shiftWD = ranged-shift immediate (shiftOf (entry .lane) (w .reg)) (mmxRegister (w .rm))
-    ranged-form shiftQ = ranged-shift immediate (shiftOf (entry .lane) (w .reg)) (mmxRegister (w .rm))
-    ranged-form storeD = ranged-move lowHalf (rmOf entry w) (regOf w)
-    ranged-form loadD = ranged-move whole (regOf w) (rmOf entry w)
-    ranged-form storeQ = ranged-move whole (rmOf entry w) (regOf w)
-    ranged-form loadQ = ranged-move whole (regOf w) (rmOf entry w)
-    ranged-form usual = ranged-both (operate (entry .operation)) (w .reg) (rmOf entry w)
+  -- each form, by its number
+  module _ (o : Operation) (i : Instruction) where
+    abbrev w : Operand
+    w = i .operand
+
+    abbrev Of : Form → Type 0
+    Of form = RangedPrint (footprintOf (effectBy form o i) s)
+
+    -- what a move leaves of a number
+    abbrev copied : ℕ → ℕ
+    copied v = operate o v v
+
+    ranged-two : (n : ℕ) → TwoOperands n → Of (formOf n)
+    ranged-two n (is-storeD e f) = subst Of (sym f) (ranged-move (λ v. copied v % 2 ^ 32) (rmOf integerFile 4 w) (mmxRegister (w .reg)))
+    ranged-two n (is-loadD e f) = subst Of (sym f) (ranged-move copied (mmxRegister (w .reg)) (rmOf integerFile 4 w))
+    ranged-two n (is-storeQ e f) = subst Of (sym f) (ranged-move copied (rmOf mmxFile 8 w) (mmxRegister (w .reg)))
+    ranged-two n (is-usualD e f) = subst Of (sym f) (ranged-both (operate o) (w .reg) (rmOf mmxFile 4 w))
+    ranged-two n (is-loadQ e f) = subst Of (sym f) (ranged-move copied (mmxRegister (w .reg)) (rmOf mmxFile 8 w))
+    ranged-two n (is-usual g f) = subst Of (sym f) (ranged-both (operate o) (w .reg) (rmOf mmxFile 8 w))
+
+    ranged-form : (n : ℕ) → Of (formOf n)
+    ranged-form zero = ranged-bare Ordinary
+    ranged-form (suc zero) = ranged-bare Emms
+    ranged-form (suc (suc zero)) = ranged-move (λ v. operate o v (i .immediate)) (mmxRegister (w .rm)) (mmxRegister (w .rm))
+    ranged-form (suc (suc (suc zero))) = ranged-move (λ v. operate o v (i .immediate)) (mmxRegister (w .rm)) (mmxRegister (w .rm))
+    ranged-form (suc (suc (suc (suc n)))) = ranged-two (suc (suc (suc (suc n)))) (two-operands (suc (suc (suc (suc n)))) (omega arith))
 
   pub ranged : (i : Instruction) → RangedPrint (footprint i s)
-  unfolding footprint effectAt
-  ranged i = let entry = entryOf (i .second) in ranged-form entry (i .operand) (i .immediate) (entry .form)
+  unfolding footprint effectOf
+  ranged i =
+      subst (Of (operationAt (i .second) (i .operand .reg)) i) (form-is (i .second))
+      (ranged-form (operationAt (i .second) (i .operand .reg)) i (getD packedRows (i .second) 0 / 2 ^ 24))

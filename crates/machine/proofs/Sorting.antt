@@ -5,65 +5,84 @@ use mathlib.Core.List.{List}
 use Prim.Native.Nat.{ℕ, _+_, _/_, _%_, _^_, _≤_, _<_}
 use native.Mathlib.Omega.{arith}
 use borrow.Author.Needs.{needs}
-use borrow.Author.Tests.{eq-eqb, ne-eqb, eqb-true, eqb-false, le-leb, not-true, not-false}
+use borrow.Author.Tests.{eq-eqb, ne-eqb, eqb-true, eqb-false, le-leb, lt-ltb, le-ltb, not-true, not-false}
 use lib.Dec.{eqb, leb}
 use lib.ListN.{length, getD}
-use Rattle.lanes.specs.Operations.{Operation, operationOf, operate}
-use Rattle.words.specs.Number.{number}
+use Rattle.lanes.specs.Operations.{Operation, operationOf, operate, MOVE}
 use Rattle.words.specs.Buffer.{loaded, stored}
 use Rattle.words.proofs.Laws.{loaded-bytewise, stored-bytewise}
 use Rattle.reorder.specs.Result.{Result, done, refused, andThen}
-use Rattle.codec.specs.Forms.{Form, emms, shiftWD, shiftQ, storeD, loadD, storeQ, loadQ, usual}
-use Rattle.codec.specs.Opcodes.{Entry}
+use Rattle.codec.specs.Forms.{File, mmxFile, integerFile, Form, reg32/mem32←mmreg1, mmreg1←reg32/mem32, mmreg2/mem64←mmreg1, mmreg1·mmreg2/mem32, mmreg1·mmreg2/mem64, mmreg1←mmreg2/mem64, memorySize}
 use Rattle.codec.specs.Operands.{Registers}
-use Rattle.codec.specs.Packed.{formOf, unpacked}
+use Rattle.codec.specs.Packed.{formOf, shiftIn, operationIn}
 use Rattle.codec.specs.declared.Operand.{Operand}
 use Rattle.codec.specs.declared.Instruction.{Instruction}
-use Rattle.manual.specs.declared.Kind.the-variants.{Ordinary, Emms}
+use Rattle.codec.specs.declared.Kind.the-variants.{Ordinary, Emms}
 use Rattle.manual.specs.Refusals.{outsideMemory}
 use Rattle.manual.specs.State.{State, withMemory}
-use Rattle.manual.specs.Places.{mmx}
 use Rattle.manual.specs.Kinds.{marked}
 use Rattle.manual.specs.Addresses.{address, addressOf}
-use Rattle.manual.specs.Locations.{Location, mmxRegister, integerRegister, memory, rmOf, regOf, registerOf}
+use Rattle.manual.specs.Locations.{Location, mmxRegister, integerRegister, memory, registerIn, rmOf}
 use Rattle.manual.specs.Effects.{directly}
-use Rattle.manual.specs.Instructions.{whole, lowHalf, shiftOf, effectBy}
+use Rattle.manual.specs.Instructions.{effectBy}
 use Rattle.manual.specs.Steps.{concluded}
 use Rattle.manual.proofs.Direct.{valueAt, putAt, move-direct, both-direct}
 use Rattle.machine.specs.declared.gathering.Marks.{Marks}
 use Rattle.machine.specs.declared.gathering.Work.{Work}
 use Rattle.machine.specs.State.{stateOf}
-use Rattle.machine.specs.Works.{machineOf, effectIn, Listed, performed, Sound, Does, refusedWork}
+use Rattle.machine.specs.Works.{machineOf, effectIn, fileIn, otherOf, isMove, Listed, performed, Sound, Does, refusedWork}
 use Rattle.machine.proofs.Soundness.{operation, store, integerMove, empties, sound-operation, sound-store, sound-integer, sound-empties, sound-refusal}
-use Rattle.machine.proofs.Numbering.{Computing, computes-loadD, computes-loadQ, computes-usual, computing, mmx-form, Shifting, shifts-WD, shifts-Q, shifting-form}
+use Rattle.machine.proofs.Numbering.{Computing, computes-loadD, computes-loadQ, computes-usualD, computes-usual, computing, small, integer-form, mmx-form, Shifting, shifts-WD, shifts-Q, shifting-form, shift-past}
 
-module _ (s : State) (entry : Entry) (w : Operand) (immediate : ℕ) where
+module _ (s : State) (o : Operation) (i : Instruction) where
+  abbrev own : Operand
+  own = i .operand
+
+  -- what a form's effect leaves, and the operand that r/m names
+  abbrev leftBy : Form → Result State
+  leftBy form = directly (effectBy form o i) s
+
+  abbrev other : Form → Location
+  other form = rmOf (fileIn (form .operands)) (memorySize form) own
+
   -- a shift by an immediate gives its register's number, shifted
-  shifts : (form : Form) → Shifting form
-      → directly (effectBy form entry w immediate) s
-      ≡ putAt s (mmxRegister (w .rm)) (operate (shiftOf (entry .lane) (w .reg)) (getD (s .mmx) (w .rm) 0) immediate)
-  shifts shiftWD shifts-WD = refl
-  shifts shiftQ shifts-Q = refl
+  shifts : (form : Form) → Shifting form → leftBy form ≡ putAt s (mmxRegister (own .rm)) (operate o (getD (s .mmx) (own .rm) 0) (i .immediate))
+  shifts form (shifts-WD e) = ap leftBy e
+  shifts form (shifts-Q e) = ap leftBy e
 
-  -- a store gives the register's number, or its low half
-  stores-D : directly (effectBy storeD entry w immediate) s ≡ putAt s (rmOf entry w) (getD (s .mmx) (w .reg) 0 % 2 ^ 32)
-  stores-D = move-direct s lowHalf (rmOf entry w) (regOf w)
+  module _ (m : o ≡ MOVE) where
+    -- a store gives the register's number, or its low half
+    stores-D : (form : Form) → form ≡ reg32/mem32←mmreg1 → leftBy form ≡ putAt s (other form) (getD (s .mmx) (own .reg) 0 % 2 ^ 32)
+    unfolding operate
+    stores-D form e =
+        ap (λ (f : Form). directly (effectBy f o i) s) e
+        ∙ ap (λ (p : Operation). directly (effectBy reg32/mem32←mmreg1 p i) s) m
+        ∙ move-direct s (λ x. x % 2 ^ 32) (other reg32/mem32←mmreg1) (mmxRegister (own .reg))
+        ∙ ap (λ (f : Form). putAt s (other f) (getD (s .mmx) (own .reg) 0 % 2 ^ 32)) (sym e)
 
-  stores-Q : directly (effectBy storeQ entry w immediate) s ≡ putAt s (rmOf entry w) (getD (s .mmx) (w .reg) 0)
-  stores-Q = move-direct s whole (rmOf entry w) (regOf w)
+    stores-Q : (form : Form) → form ≡ mmreg2/mem64←mmreg1 → leftBy form ≡ putAt s (other form) (getD (s .mmx) (own .reg) 0)
+    unfolding operate
+    stores-Q form e =
+        ap (λ (f : Form). directly (effectBy f o i) s) e
+        ∙ ap (λ (p : Operation). directly (effectBy mmreg2/mem64←mmreg1 p i) s) m
+        ∙ move-direct s (λ x. x) (other mmreg2/mem64←mmreg1) (mmxRegister (own .reg))
+        ∙ ap (λ (f : Form). putAt s (other f) (getD (s .mmx) (own .reg) 0)) (sym e)
 
   -- the other forms give the operation's, as a load moves
-  computes : (form : Form) → Computing form → entry .form ≡ form → Listed entry
-      → directly (effectBy form entry w immediate) s
-      ≡ andThen (valueAt s (rmOf entry w)) (λ v. putAt s (mmxRegister (w .reg)) (operate (entry .operation) (getD (s .mmx) (w .reg) 0) v))
+  abbrev computedAs : Operation → Form → Result State
+  computedAs p form = andThen (valueAt s (other form)) (λ v. putAt s (mmxRegister (own .reg)) (operate p (getD (s .mmx) (own .reg) 0) v))
+
+  loads : (form : Form) → o ≡ MOVE → directly (effectBy form MOVE i) s ≡ computedAs MOVE form → leftBy form ≡ computedAs o form
+  loads form m h = ap (λ (p : Operation). directly (effectBy form p i) s) m ∙ h ∙ ap (λ (p : Operation). computedAs p form) (sym m)
+
+  computes : (form : Form) → Computing form → (isMove form ≡ true → o ≡ MOVE) → leftBy form ≡ computedAs o form
   unfolding operate
-  computes loadD computes-loadD e l =
-      move-direct s whole (regOf w) (rmOf entry w)
-      ∙ ap (λ (o : Operation). andThen (valueAt s (rmOf entry w)) (λ v. putAt s (mmxRegister (w .reg)) (operate o (getD (s .mmx) (w .reg) 0) v))) (sym (l .moves-D e))
-  computes loadQ computes-loadQ e l =
-      move-direct s whole (regOf w) (rmOf entry w)
-      ∙ ap (λ (o : Operation). andThen (valueAt s (rmOf entry w)) (λ v. putAt s (mmxRegister (w .reg)) (operate o (getD (s .mmx) (w .reg) 0) v))) (sym (l .moves-Q e))
-  computes usual computes-usual e l = both-direct s (operate (entry .operation)) (w .reg) (rmOf entry w)
+  computes form (computes-loadD e) m =
+      loads form (m (ap isMove e)) (ap (λ (f : Form). directly (effectBy f MOVE i) s) e ∙ move-direct s (λ x. x) (mmxRegister (own .reg)) (other mmreg1←reg32/mem32) ∙ ap (computedAs MOVE) (sym e))
+  computes form (computes-loadQ e) m =
+      loads form (m (ap isMove e)) (ap (λ (f : Form). directly (effectBy f MOVE i) s) e ∙ move-direct s (λ x. x) (mmxRegister (own .reg)) (other mmreg1←mmreg2/mem64) ∙ ap (computedAs MOVE) (sym e))
+  computes form (computes-usualD e) m = ap leftBy e ∙ both-direct s (operate o) (own .reg) (other mmreg1·mmreg2/mem32) ∙ ap (computedAs o) (sym e)
+  computes form (computes-usual e) m = ap leftBy e ∙ both-direct s (operate o) (own .reg) (other mmreg1·mmreg2/mem64) ∙ ap (computedAs o) (sym e)
 
 -- an instruction by the table's number for it, over lent registers and memory
 module _ (registers integers m : List ℕ) (entry : ℕ) (i : Instruction) (next : ℕ) where
@@ -73,176 +92,192 @@ module _ (registers integers m : List ℕ) (entry : ℕ) (i : Instruction) (next
   abbrev formIn : ℕ
   formIn = entry / 2 ^ 24
 
+  abbrev form : Form
+  form = formOf formIn
+
   abbrev w : Operand
   w = i .operand
 
-  -- what the effect of the form that is named by the number leaves, and what the work leaves
-  of-form : (form : Form) (work : Work) (left : Marks → Result State) → formOf formIn ≡ form → Sound work
-      → ((marks : Marks) → directly (effectBy form (unpacked entry) w (i .immediate)) (state marks) ≡ left marks)
+  abbrev named : Operation
+  named = operationIn entry (w .reg)
+
+  -- what the effect leaves, and what the work leaves
+  of-work : (work : Work) (left : Marks → Result State) → Sound work
+      → ((marks : Marks) → directly (effectIn entry i) (state marks) ≡ left marks)
       → ((marks : Marks) (at : ℕ) → performed work at (state marks) ≡ concluded at next (state marks) (left marks))
       → Does work registers integers m (effectIn entry i) next
-  of-form form work left e sound leaves performs =
-      record {
-        sound = sound;
-        does = λ marks at.
-            performs marks at
-            ∙ sym (ap (concluded at next (state marks)) (ap (λ (f : Form). directly (effectBy f (unpacked entry) w (i .immediate)) (state marks)) e ∙ leaves marks));
-      }
+  of-work work left sound leaves performs =
+      record { sound = sound; does = λ marks at. performs marks at ∙ sym (ap (concluded at next (state marks)) (leaves marks)) }
 
   pub does-emms : formIn ≡ 1 → Does (empties next) registers integers m (effectIn entry i) next
   unfolding performed
   does-emms e =
-      of-form emms (empties next) (λ marks. done (marked Emms (state marks))) (ap formOf e) (sound-empties next) (λ marks. refl) (λ marks at. refl)
+      of-work (empties next) (λ marks. done (marked Emms (state marks))) (sound-empties next)
+      (λ marks. ap (λ (n : ℕ). directly (effectBy (formOf n) named i) (state marks)) e) (λ marks at. refl)
 
   -- the shifts by an immediate
-  pub does-shift : (number : ℕ) → formIn < 4 → (formIn ≡ 1 → ⊥) → operationOf number ≡ shiftOf (entry / 2 ^ 8 % 256) (w .reg) → Registers w → Listed (unpacked entry)
-      → Does (operation number (w .rm) (i .immediate) next) registers integers m (effectIn entry i) next
-  unfolding performed
-  does-shift number h other e r l =
-      of-form (formOf formIn) (operation number (w .rm) (i .immediate) next)
-      (λ marks. putAt (state marks) (mmxRegister (w .rm)) (operate (operationOf number) (getD registers (w .rm) 0) (i .immediate))) refl
-      (sound-operation number (w .rm) (i .immediate) next (r .rm))
+  pub does-shift : (number′ : ℕ) → formIn < 4 → (formIn ≡ 1 → ⊥) → operationOf number′ ≡ shiftIn entry (w .reg) → Registers w → Listed entry
+      → Does (operation number′ (w .rm) (i .immediate) next) registers integers m (effectIn entry i) next
+  unfolding performed operationIn
+  does-shift number′ h other e r l =
+      let some : 1 < formIn = shift-past formIn other (l .present) in
+      let same : named ≡ operationOf number′ = simp (lt-ltb formIn 4 h, lt-ltb 1 formIn some) (sym e) in
+      of-work (operation number′ (w .rm) (i .immediate) next)
+      (λ marks. putAt (state marks) (mmxRegister (w .rm)) (operate (operationOf number′) (getD registers (w .rm) 0) (i .immediate)))
+      (sound-operation number′ (w .rm) (i .immediate) next (r .rm))
       (λ marks.
-      shifts (state marks) (unpacked entry) w (i .immediate) (formOf formIn) (shifting-form formIn h other (l .present))
-      ∙ ap (λ (o : Operation). putAt (state marks) (mmxRegister (w .rm)) (operate o (getD registers (w .rm) 0) (i .immediate))) (sym e))
+      shifts (state marks) named i form (shifting-form formIn h other (l .present))
+      ∙ ap (λ (o : Operation). putAt (state marks) (mmxRegister (w .rm)) (operate o (getD registers (w .rm) 0) (i .immediate))) same)
       (λ marks at. refl)
 
-  -- a computation with what its source comes to
-  abbrev computedBy : Marks → Result ℕ → Result State
-  computedBy marks source =
-      andThen source (λ v. putAt (state marks) (mmxRegister (w .reg)) (operate (operationOf (entry % 256)) (getD registers (w .reg) 0) v))
+  -- the forms with two operands
+  module _ (two : 4 ≤ formIn) (r : Registers w) (l : Listed entry) where
+    plain : named ≡ operationOf (entry % 256)
+    unfolding operationIn
+    plain = simp (le-ltb formIn 4 two)
 
-  of-source : (work : Work) (source : Result ℕ) → Computing (formOf formIn) → Listed (unpacked entry) → Sound work
-      → ((marks : Marks) → valueAt (state marks) (rmOf (unpacked entry) w) ≡ source)
-      → ((marks : Marks) (at : ℕ) → performed work at (state marks) ≡ concluded at next (state marks) (computedBy marks source))
-      → Does work registers integers m (effectIn entry i) next
-  of-source work source c l sound h performs =
-      of-form (formOf formIn) work (λ marks. computedBy marks source) refl sound
-      (λ marks. computes (state marks) (unpacked entry) w (i .immediate) (formOf formIn) c refl l ∙ ap (computedBy marks) (h marks))
-      performs
+    moves : isMove form ≡ true → named ≡ MOVE
+    moves e = plain ∙ l .moves e
 
-  computed : (v : ℕ) → Computing (formOf formIn) → Registers w → Listed (unpacked entry)
-      → ((marks : Marks) → valueAt (state marks) (rmOf (unpacked entry) w) ≡ done v)
-      → Does (operation (entry % 256) (w .reg) v next) registers integers m (effectIn entry i) next
-  unfolding performed
-  computed v c r l h =
-      of-source (operation (entry % 256) (w .reg) v next) (done v) c l (sound-operation (entry % 256) (w .reg) v next (r .reg)) h (λ marks at. refl)
+    -- a computation with what its source comes to
+    abbrev computedBy : Marks → Result ℕ → Result State
+    computedBy marks source =
+        andThen source (λ v. putAt (state marks) (mmxRegister (w .reg)) (operate (operationOf (entry % 256)) (getD registers (w .reg) 0) v))
 
-  -- at mod 11
-  module _ (register : w .mode ≡ 3) (r : Registers w) (l : Listed (unpacked entry)) where
-    other-register : (form : Form) → formOf formIn ≡ form → rmOf (unpacked entry) w ≡ registerOf form (w .rm)
-    unfolding rmOf
-    other-register form e = simp (eq-eqb (w .mode) 3 register) (ap (λ (f : Form). registerOf f (w .rm)) e)
+    of-source : (work : Work) (source : Result ℕ) → Computing form → Sound work
+        → ((marks : Marks) → valueAt (state marks) (otherOf formIn w) ≡ source)
+        → ((marks : Marks) (at : ℕ) → performed work at (state marks) ≡ concluded at next (state marks) (computedBy marks source))
+        → Does work registers integers m (effectIn entry i) next
+    of-source work source c sound h performs =
+        of-work work (λ marks. computedBy marks source) sound
+        (λ marks.
+        computes (state marks) named i form c moves
+        ∙ ap (λ (o : Operation). computedAs (state marks) named i o form) plain
+        ∙ ap (computedBy marks) (h marks))
+        performs
 
-    pub does-registers : 6 < formIn → Does (operation (entry % 256) (w .reg) (getD registers (w .rm) 0) next) registers integers m (effectIn entry i) next
-    does-registers h =
-        computed (getD registers (w .rm) 0) (computing formIn (omega arith) (λ e. omega arith) (λ e. omega arith)) r l
-        (λ marks. ap (valueAt (state marks)) (other-register (formOf formIn) refl ∙ mmx-form formIn (w .rm) (omega arith)))
-
-    pub does-from-integer : (v : ℕ) → 4 ≤ formIn → formIn ≤ 6 → (formIn ≡ 4 → ⊥) → (formIn ≡ 6 → ⊥) → v ≡ getD integers (w .rm) 0
+    computed : (v : ℕ) → Computing form → ((marks : Marks) → valueAt (state marks) (otherOf formIn w) ≡ done v)
         → Does (operation (entry % 256) (w .reg) v next) registers integers m (effectIn entry i) next
-    does-from-integer v h g p q e =
-        let five : formIn ≡ 5 = omega arith in
-        computed v (computing formIn h p q) r l
-        (λ marks. ap (valueAt (state marks)) (other-register loadD (ap formOf five)) ∙ ap done (sym e))
-
-    pub does-to-integer : formIn ≡ 4 → Does (integerMove (w .rm) (getD registers (w .reg) 0) next) registers integers m (effectIn entry i) next
     unfolding performed
-    does-to-integer f =
-        of-form storeD (integerMove (w .rm) (getD registers (w .reg) 0) next)
-        (λ marks. putAt (state marks) (integerRegister (w .rm)) (getD registers (w .reg) 0 % 2 ^ 32)) (ap formOf f)
-        (sound-integer (w .rm) (getD registers (w .reg) 0) next (r .rm))
-        (λ marks.
-        stores-D (state marks) (unpacked entry) w (i .immediate)
-        ∙ ap (λ (x : Location). putAt (state marks) x (getD registers (w .reg) 0 % 2 ^ 32)) (other-register storeD (ap formOf f)))
-        (λ marks at. refl)
+    computed v c h =
+        of-source (operation (entry % 256) (w .reg) v next) (done v) c (sound-operation (entry % 256) (w .reg) v next (r .reg)) h (λ marks at. refl)
 
-    pub does-to-mmx : formIn ≡ 6 → Does (operation 12 (w .rm) (getD registers (w .reg) 0) next) registers integers m (effectIn entry i) next
-    unfolding performed operate
-    does-to-mmx f =
-        of-form storeQ (operation 12 (w .rm) (getD registers (w .reg) 0) next)
-        (λ marks. putAt (state marks) (mmxRegister (w .rm)) (getD registers (w .reg) 0)) (ap formOf f)
-        (sound-operation 12 (w .rm) (getD registers (w .reg) 0) next (r .rm))
-        (λ marks.
-        stores-Q (state marks) (unpacked entry) w (i .immediate)
-        ∙ ap (λ (x : Location). putAt (state marks) x (getD registers (w .reg) 0)) (other-register storeQ (ap formOf f)))
-        (λ marks at. refl)
+    stores-D-here : formIn ≡ 4 → (marks : Marks) → directly (effectIn entry i) (state marks) ≡ putAt (state marks) (otherOf formIn w) (getD registers (w .reg) 0 % 2 ^ 32)
+    stores-D-here f marks = stores-D (state marks) named i (moves (ap (λ (n : ℕ). isMove (formOf n)) f)) form (ap formOf f)
 
-  -- at the other values of mod: the operand is in memory, at an address that is tested
-  module _ (other : w .mode ≡ 3 → ⊥) (r : Registers w) (l : Listed (unpacked entry)) (a : ℕ) (there : a ≡ address integers (addressOf w)) (t : Bool)
-      (tested : t ≡ leb (a + entry / 2 ^ 16 % 256) (length m)) where
-    abbrev size : ℕ
-    size = entry / 2 ^ 16 % 256
+    stores-Q-here : formIn ≡ 6 → (marks : Marks) → directly (effectIn entry i) (state marks) ≡ putAt (state marks) (otherOf formIn w) (getD registers (w .reg) 0)
+    stores-Q-here f marks = stores-Q (state marks) named i (moves (ap (λ (n : ℕ). isMove (formOf n)) f)) form (ap formOf f)
 
-    other-memory : rmOf (unpacked entry) w ≡ memory (addressOf w) size
-    unfolding rmOf
-    other-memory = simp (ne-eqb (w .mode) 3 other)
+    -- at mod 11
+    module _ (register : w .mode ≡ 3) where
+      other-register : (file : File) → fileIn (form .operands) ≡ file → otherOf formIn w ≡ registerIn file (w .rm)
+      unfolding rmOf
+      other-register file e = simp (eq-eqb (w .mode) 3 register) (ap (λ (f : File). registerIn f (w .rm)) e)
 
-    -- an operand that is there
-    module _ (n : not t ≡ false) where
-      fits : leb (a + size) (length m) ≡ true
-      fits = sym tested ∙ not-false t n
+      pub does-registers : 6 < formIn → Does (operation (entry % 256) (w .reg) (getD registers (w .rm) 0) next) registers integers m (effectIn entry i) next
+      does-registers h =
+          computed (getD registers (w .rm) 0) (computing formIn two (λ e. omega arith) (λ e. omega arith))
+          (λ marks. ap (valueAt (state marks)) (other-register mmxFile (mmx-form formIn (omega arith))))
 
-      loads : (marks : Marks) → valueAt (state marks) (rmOf (unpacked entry) w) ≡ done (loaded m a size)
-      loads marks =
-          ap (valueAt (state marks)) other-memory ∙ simp (← there, fits, loaded-bytewise, le-leb size 8 (l .small))
-
-      stores : (v : ℕ) (marks : Marks) → putAt (state marks) (rmOf (unpacked entry) w) v ≡ done (marked Ordinary (withMemory (state marks) (stored m a size v)))
-      stores v marks =
-          ap (λ (x : Location). putAt (state marks) x v) other-memory ∙ simp (← there, fits, stored-bytewise, le-leb size 8 (l .small))
-
-      pub does-load : (v : ℕ) → 4 ≤ formIn → (formIn ≡ 4 → ⊥) → (formIn ≡ 6 → ⊥) → v ≡ loaded m a size
+      pub does-from-integer : (v : ℕ) → formIn ≤ 6 → (formIn ≡ 4 → ⊥) → (formIn ≡ 6 → ⊥) → v ≡ getD integers (w .rm) 0
           → Does (operation (entry % 256) (w .reg) v next) registers integers m (effectIn entry i) next
-      does-load v h p q e = computed v (computing formIn h p q) r l (λ marks. loads marks ∙ ap done (sym e))
+      does-from-integer v g p q e =
+          computed v (computing formIn two p q)
+          (λ marks. ap (valueAt (state marks)) (other-register integerFile (integer-form formIn two (omega arith))) ∙ ap done (sym e))
 
-      of-store : (form : Form) (v : ℕ) → formOf formIn ≡ form
-          → ((marks : Marks) → directly (effectBy form (unpacked entry) w (i .immediate)) (state marks) ≡ putAt (state marks) (rmOf (unpacked entry) w) v)
-          → Does (store size a v next) registers integers m (effectIn entry i) next
+      pub does-to-integer : formIn ≡ 4 → Does (integerMove (w .rm) (getD registers (w .reg) 0) next) registers integers m (effectIn entry i) next
       unfolding performed
-      of-store form v f gives =
-          of-form form (store size a v next) (λ marks. done (marked Ordinary (withMemory (state marks) (stored m a size v)))) f
-          (sound-store size a v next) (λ marks. gives marks ∙ stores v marks) (λ marks at. refl)
+      does-to-integer f =
+          of-work (integerMove (w .rm) (getD registers (w .reg) 0) next)
+          (λ marks. putAt (state marks) (integerRegister (w .rm)) (getD registers (w .reg) 0 % 2 ^ 32))
+          (sound-integer (w .rm) (getD registers (w .reg) 0) next (r .rm))
+          (λ marks.
+          stores-D-here f marks
+          ∙ ap (λ (x : Location). putAt (state marks) x (getD registers (w .reg) 0 % 2 ^ 32)) (other-register integerFile (integer-form formIn two (omega arith))))
+          (λ marks at. refl)
 
-      pub does-store-D : formIn ≡ 4 → Does (store size a (getD registers (w .reg) 0 % 2 ^ 32) next) registers integers m (effectIn entry i) next
-      does-store-D f =
-          of-store storeD (getD registers (w .reg) 0 % 2 ^ 32) (ap formOf f) (λ marks. stores-D (state marks) (unpacked entry) w (i .immediate))
+      pub does-to-mmx : formIn ≡ 6 → Does (operation 12 (w .rm) (getD registers (w .reg) 0) next) registers integers m (effectIn entry i) next
+      unfolding performed operate
+      does-to-mmx f =
+          of-work (operation 12 (w .rm) (getD registers (w .reg) 0) next)
+          (λ marks. putAt (state marks) (mmxRegister (w .rm)) (getD registers (w .reg) 0))
+          (sound-operation 12 (w .rm) (getD registers (w .reg) 0) next (r .rm))
+          (λ marks.
+          stores-Q-here f marks
+          ∙ ap (λ (x : Location). putAt (state marks) x (getD registers (w .reg) 0)) (other-register mmxFile (mmx-form formIn (omega arith))))
+          (λ marks at. refl)
 
-      pub does-store-Q : formIn ≡ 6 → Does (store size a (getD registers (w .reg) 0) next) registers integers m (effectIn entry i) next
-      does-store-Q f =
-          of-store storeQ (getD registers (w .reg) 0) (ap formOf f) (λ marks. stores-Q (state marks) (unpacked entry) w (i .immediate))
+    -- at the other values of mod: the operand is in memory, at an address that is tested
+    module _ (other : w .mode ≡ 3 → ⊥) (a : ℕ) (there : a ≡ address integers (addressOf w)) (t : Bool)
+        (tested : t ≡ leb (a + entry / 2 ^ 16 % 256) (length m)) where
+      abbrev size : ℕ
+      size = entry / 2 ^ 16 % 256
 
-    -- an operand that is outside
-    module _ (n : not t ≡ true) where
-      far : leb (a + size) (length m) ≡ false
-      far = sym tested ∙ not-true t n
+      at-most : size ≤ 8
+      at-most = omega (arith, l .sized two, small formIn two .most)
 
-      unloaded : (marks : Marks) → valueAt (state marks) (rmOf (unpacked entry) w) ≡ refused outsideMemory
-      unloaded marks = ap (valueAt (state marks)) other-memory ∙ simp (← there, far)
+      other-memory : otherOf formIn w ≡ memory (addressOf w) size
+      unfolding rmOf
+      other-memory = simp (ne-eqb (w .mode) 3 other) (ap (memory (addressOf w)) (sym (l .sized two)))
 
-      unstored : (v : ℕ) (marks : Marks) → putAt (state marks) (rmOf (unpacked entry) w) v ≡ refused outsideMemory
-      unstored v marks = ap (λ (x : Location). putAt (state marks) x v) other-memory ∙ simp (← there, far)
+      -- an operand that is there
+      module _ (n : not t ≡ false) where
+        fits : leb (a + size) (length m) ≡ true
+        fits = sym tested ∙ not-false t n
 
-      of-refusal : (form : Form) (v : ℕ) → formOf formIn ≡ form
-          → ((marks : Marks) → directly (effectBy form (unpacked entry) w (i .immediate)) (state marks) ≡ putAt (state marks) (rmOf (unpacked entry) w) v)
-          → Does (refusedWork outsideMemory) registers integers m (effectIn entry i) next
-      unfolding performed
-      of-refusal form v f gives =
-          of-form form (refusedWork outsideMemory) (λ marks. refused outsideMemory) f (sound-refusal outsideMemory (λ e. omega arith))
-          (λ marks. gives marks ∙ unstored v marks) (λ marks at. refl)
+        loads-here : (marks : Marks) → valueAt (state marks) (otherOf formIn w) ≡ done (loaded m a size)
+        loads-here marks = ap (valueAt (state marks)) other-memory ∙ simp (← there, fits, loaded-bytewise, le-leb size 8 at-most)
 
-      pub does-outside : (work : Work) → work ≡ refusedWork outsideMemory → 4 ≤ formIn → Does work registers integers m (effectIn entry i) next
-      unfolding performed
-      does-outside work e h =
-          subst (λ (x : Work). Does x registers integers m (effectIn entry i) next) (sym e) (by (eqb formIn 4) (eqb formIn 6) refl refl)
-        where
-          by : (b c : Bool) → eqb formIn 4 ≡ b → eqb formIn 6 ≡ c → Does (refusedWork outsideMemory) registers integers m (effectIn entry i) next
-          by true c p q =
-              of-refusal storeD (getD registers (w .reg) 0 % 2 ^ 32) (ap formOf (eqb-true formIn 4 p)) (λ marks. stores-D (state marks) (unpacked entry) w (i .immediate))
-          by false true p q =
-              of-refusal storeQ (getD registers (w .reg) 0) (ap formOf (eqb-true formIn 6 q)) (λ marks. stores-Q (state marks) (unpacked entry) w (i .immediate))
-          by false false p q =
-              of-source (refusedWork outsideMemory) (refused outsideMemory) (computing formIn h (eqb-false formIn 4 p) (eqb-false formIn 6 q)) l
-              (sound-refusal outsideMemory (λ z. omega arith)) unloaded (λ marks at. refl)
+        stores-here : (v : ℕ) (marks : Marks) → putAt (state marks) (otherOf formIn w) v ≡ done (marked Ordinary (withMemory (state marks) (stored m a size v)))
+        stores-here v marks =
+            ap (λ (x : Location). putAt (state marks) x v) other-memory ∙ simp (← there, fits, stored-bytewise, le-leb size 8 at-most)
+
+        pub does-load : (v : ℕ) → (formIn ≡ 4 → ⊥) → (formIn ≡ 6 → ⊥) → v ≡ loaded m a size
+            → Does (operation (entry % 256) (w .reg) v next) registers integers m (effectIn entry i) next
+        does-load v p q e = computed v (computing formIn two p q) (λ marks. loads-here marks ∙ ap done (sym e))
+
+        of-store : (v : ℕ) → ((marks : Marks) → directly (effectIn entry i) (state marks) ≡ putAt (state marks) (otherOf formIn w) v)
+            → Does (store size a v next) registers integers m (effectIn entry i) next
+        unfolding performed
+        of-store v gives =
+            of-work (store size a v next) (λ marks. done (marked Ordinary (withMemory (state marks) (stored m a size v))))
+            (sound-store size a v next) (λ marks. gives marks ∙ stores-here v marks) (λ marks at. refl)
+
+        pub does-store-D : formIn ≡ 4 → Does (store size a (getD registers (w .reg) 0 % 2 ^ 32) next) registers integers m (effectIn entry i) next
+        does-store-D f = of-store (getD registers (w .reg) 0 % 2 ^ 32) (stores-D-here f)
+
+        pub does-store-Q : formIn ≡ 6 → Does (store size a (getD registers (w .reg) 0) next) registers integers m (effectIn entry i) next
+        does-store-Q f = of-store (getD registers (w .reg) 0) (stores-Q-here f)
+
+      -- an operand that is outside
+      module _ (n : not t ≡ true) where
+        far : leb (a + size) (length m) ≡ false
+        far = sym tested ∙ not-true t n
+
+        unloaded : (marks : Marks) → valueAt (state marks) (otherOf formIn w) ≡ refused outsideMemory
+        unloaded marks = ap (valueAt (state marks)) other-memory ∙ simp (← there, far)
+
+        unstored : (v : ℕ) (marks : Marks) → putAt (state marks) (otherOf formIn w) v ≡ refused outsideMemory
+        unstored v marks = ap (λ (x : Location). putAt (state marks) x v) other-memory ∙ simp (← there, far)
+
+        of-refusal : (v : ℕ) → ((marks : Marks) → directly (effectIn entry i) (state marks) ≡ putAt (state marks) (otherOf formIn w) v)
+            → Does (refusedWork outsideMemory) registers integers m (effectIn entry i) next
+        unfolding performed
+        of-refusal v gives =
+            of-work (refusedWork outsideMemory) (λ marks. refused outsideMemory) (sound-refusal outsideMemory (λ e. omega arith))
+            (λ marks. gives marks ∙ unstored v marks) (λ marks at. refl)
+
+        pub does-outside : (work : Work) → work ≡ refusedWork outsideMemory → Does work registers integers m (effectIn entry i) next
+        unfolding performed
+        does-outside work e =
+            subst (λ (x : Work). Does x registers integers m (effectIn entry i) next) (sym e) (by (eqb formIn 4) (eqb formIn 6) refl refl)
+          where
+            by : (b c : Bool) → eqb formIn 4 ≡ b → eqb formIn 6 ≡ c → Does (refusedWork outsideMemory) registers integers m (effectIn entry i) next
+            by true c p q = of-refusal (getD registers (w .reg) 0 % 2 ^ 32) (stores-D-here (eqb-true formIn 4 p))
+            by false true p q = of-refusal (getD registers (w .reg) 0) (stores-Q-here (eqb-true formIn 6 q))
+            by false false p q =
+                of-source (refusedWork outsideMemory) (refused outsideMemory) (computing formIn two (eqb-false formIn 4 p) (eqb-false formIn 6 q))
+                (sound-refusal outsideMemory (λ z. omega arith)) unloaded (λ marks at. refl)
 
 pub ruleset sorting = (needs, does-emms, does-shift, does-registers, does-from-integer, does-to-integer, does-to-mmx)
 

@@ -4,7 +4,7 @@ use Prim.Native.Nat.{ℕ, _^_}
 use lib.Bits.{bitOr}
 use Rattle.reorder.specs.Result.{Result, done, refused, mapResult}
 use Rattle.reorder.specs.Footprint.{footprintIn}
-use Rattle.manual.specs.declared.Kind.the-variants.{Ordinary}
+use Rattle.codec.specs.declared.Kind.the-variants.{Ordinary}
 use Rattle.manual.specs.State.{State}
 use Rattle.manual.specs.Places.{Place, look}
 use Rattle.manual.specs.Locations.{Location, registersBehind}

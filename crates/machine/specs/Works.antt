@@ -1,17 +1,18 @@
 -- The parts of the code's step in the words of the definitions: lent registers with marks are a machine, what is left to do leaves a state, and
 -- how a step ended is an outcome. Only the contracts of the code's own functions use them.
 use mathlib.Core.Path.{_≡_}
-use mathlib.Core.Bool.{Bool, cond}
-use mathlib.Core.List.{List}
-use Prim.Native.Nat.{ℕ, _%_, _^_, _≤_, _<_}
+use mathlib.Core.Bool.{Bool, true, false, cond}
+use mathlib.Core.List.{List, [], _∷_}
+use Prim.Native.Nat.{ℕ, _/_, _%_, _^_, _≤_, _<_}
 use lib.Dec.{eqb}
 use Rattle.lanes.specs.Operations.{operationOf, operate, MOVE}
 use Rattle.words.specs.Buffer.{stored}
-use Rattle.codec.specs.Forms.{absent, loadD, loadQ}
-use Rattle.codec.specs.Opcodes.{Entry}
-use Rattle.codec.specs.Packed.{unpacked}
+use Rattle.codec.specs.Forms.{Use, read, written, updated, File, mmxFile, Slot, reg, rm, rm/mem, Form, memorySize}
+use Rattle.codec.specs.Packed.{formOf, operationIn}
+use Rattle.codec.specs.declared.Operand.{Operand}
+use Rattle.manual.specs.Locations.{Location, rmOf}
 use Rattle.codec.specs.declared.Instruction.{Instruction}
-use Rattle.manual.specs.declared.Kind.the-variants.{Ordinary, Emms}
+use Rattle.codec.specs.declared.Kind.the-variants.{Ordinary, Emms}
 use Rattle.manual.specs.Refusals.{invalidOpcode, notAvailable, isPending}
 use Rattle.manual.specs.State.{State, withMemory}
 use Rattle.manual.specs.Places.{mmx, integer, look, put}
@@ -36,15 +37,34 @@ barredBy em ts pending = cond em invalidOpcode (cond ts notAvailable (cond pendi
 
 -- the effect of an instruction by the table's number for it
 abbrev pub effectIn : ℕ → Instruction → Effect
-effectIn number i = let entry = unpacked number in effectBy (entry .form) entry (i .operand) (i .immediate)
+effectIn number i = effectBy (formOf (number / 2 ^ 24)) (operationIn number (i .operand .reg)) i
 
--- what is said of every entry that is read: its form is there, its operand has one to 8 bytes, and a load moves
-pub record Listed (entry : Entry) : Type 0 where
-  pub present : entry .form ≡ absent → ⊥
-  pub sized : 0 < entry .size
-  pub small : entry .size ≤ 8
-  pub moves-D : entry .form ≡ loadD → entry .operation ≡ MOVE
-  pub moves-Q : entry .form ≡ loadQ → entry .operation ≡ MOVE
+-- the registers that r/m may name, by a form's operands
+abbrev pub fileIn : List (Use × Slot) → File
+fileIn [] = mmxFile
+fileIn ((how, reg file) ∷ xs) = fileIn xs
+fileIn ((how, rm file) ∷ xs) = file
+fileIn ((how, rm/mem file size) ∷ xs) = file
+
+-- the operand of r/m, by the form's number
+abbrev pub otherOf : ℕ → Operand → Location
+otherOf number w = rmOf (fileIn (formOf number .operands)) (memorySize (formOf number)) w
+
+-- whether the destination is not read
+abbrev isWritten : List (Use × Slot) → Bool
+isWritten [] = false
+isWritten ((written, x) ∷ xs) = true
+isWritten ((read, x) ∷ xs) = false
+isWritten ((updated, x) ∷ xs) = false
+
+abbrev pub isMove : Form → Bool
+isMove form = isWritten (form .operands)
+
+-- what is said of every number that is read: its form is there; it has the operand's size, and a move moves
+pub record Listed (number : ℕ) : Type 0 where
+  pub present : number / 2 ^ 24 ≡ 0 → ⊥
+  pub sized : 4 ≤ number / 2 ^ 24 → number / 2 ^ 16 % 256 ≡ memorySize (formOf (number / 2 ^ 24))
+  pub moves : isMove (formOf (number / 2 ^ 24)) ≡ true → operationOf (number % 256) ≡ MOVE
 
 -- what is left to do, by the code's numbers
 abbrev pub toOperate : ℕ

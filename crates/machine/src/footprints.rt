@@ -9,6 +9,7 @@ use crate::numbers::MEMORY_TOO_LONG;
 use crate::reaches;
 use crate::reaches::Reach;
 use codec::Instruction;
+use codec::Kind;
 use codec::Reading;
 use codec::numbers::EMMS;
 use codec::numbers::FORM;
@@ -16,13 +17,12 @@ use codec::numbers::LOAD_D;
 use codec::numbers::LOAD_Q;
 use codec::numbers::STORE_D;
 use codec::numbers::STORE_Q;
-use manual::Kind;
 ghost use mathlib.Core.Path.{_≡_};
 ghost use Prim.Native.Nat.{_/_, _^_, _≤_, _<_};
+ghost use lib.ListN.{getD};
 ghost use Rattle.reorder.specs.Result.{mapResult};
 ghost use Rattle.codec.specs.Operands.{Registers};
-ghost use Rattle.codec.specs.Opcodes.{entryOf};
-ghost use Rattle.codec.specs.Packed.{unpacked};
+ghost use Rattle.codec.specs.Packed.{packedRows};
 ghost use Rattle.manual.specs.Instructions.{footprint};
 ghost use Rattle.machine.specs.State.{stateOf};
 ghost use Rattle.machine.specs.Prints.{print, printAt, paperOfFootprint};
@@ -74,7 +74,7 @@ fn computed(register: u8, registers: u8, places: Places) -> Footprint
 
 // An instruction with two operands.
 fn two_operands(machine: Machine, entry: u32, instruction: Instruction, memory: &[u8]) -> Printed
-    requires { ⌜ Registers (instruction .operand) × (Listed (unpacked entry) × (4 ≤ entry / 2 ^ 24)) ⌝ }
+    requires { ⌜ Registers (instruction .operand) × (Listed entry × (4 ≤ entry / 2 ^ 24)) ⌝ }
     ensures { λ r. ⌜ paperOfFootprint r ≡ unmarkedPrint (effectIn entry instruction) (stateOf machine (now (memory .entry))) ⌝ }
 {
     let operand = instruction.operand;
@@ -94,7 +94,7 @@ fn two_operands(machine: Machine, entry: u32, instruction: Instruction, memory: 
 
 // An instruction that the control marks let pass.
 fn unmarked(machine: Machine, entry: u32, instruction: Instruction, memory: &[u8]) -> Printed
-    requires { ⌜ Registers (instruction .operand) × Listed (unpacked entry) ⌝ }
+    requires { ⌜ Registers (instruction .operand) × Listed entry ⌝ }
     ensures { λ r. ⌜ paperOfFootprint r ≡ unmarkedPrint (effectIn entry instruction) (stateOf machine (now (memory .entry))) ⌝ }
 {
     let form = entry / FORM;
@@ -118,7 +118,7 @@ fn unmarked(machine: Machine, entry: u32, instruction: Instruction, memory: &[u8
 
 // What the table says of a second byte.
 fn entry_for(second: u8) -> u32
-    ensures { λ r. ⌜ unpacked r ≡ entryOf second ⌝ }
+    ensures { λ r. ⌜ r ≡ getD packedRows second 0 ⌝ }
 {
     let table = codec::table();
     table[second as usize]
@@ -126,7 +126,7 @@ fn entry_for(second: u8) -> u32
 
 // An instruction that is read: the control marks first.
 fn of_instruction(machine: Machine, instruction: Instruction, memory: &[u8]) -> Printed
-    requires { ⌜ Registers (instruction .operand) × Listed (entryOf (instruction .second)) ⌝ }
+    requires { ⌜ Registers (instruction .operand) × Listed (getD packedRows (instruction .second) 0) ⌝ }
     ensures { λ r. ⌜ paperOfFootprint r ≡ mapResult print (footprint instruction (stateOf machine (now (memory .entry)))) ⌝ }
 {
     let bar = gathering::barred(machine.em, machine.ts, machine.pending);

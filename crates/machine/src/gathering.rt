@@ -8,7 +8,6 @@ use crate::shifts;
 use codec::Instruction;
 use codec::numbers::EMMS;
 use codec::numbers::FORM;
-use codec::numbers::LANE;
 use codec::numbers::PART;
 use codec::numbers::REGISTER;
 use codec::numbers::SIZE;
@@ -20,7 +19,7 @@ ghost use Prim.Native.Nat.{_+_, _/_, _^_, _≤_};
 ghost use lib.Dec.{leb};
 ghost use lib.ListN.{length};
 ghost use Rattle.codec.specs.Operands.{Registers};
-ghost use Rattle.codec.specs.Packed.{unpacked, packedRows};
+ghost use Rattle.codec.specs.Packed.{packedRows};
 ghost use Rattle.codec.specs.Reads.{longestCode};
 ghost use Rattle.manual.specs.State.{longestMemory};
 ghost use Rattle.machine.specs.Works.{barredBy, effectIn, Listed, Does, Gathered, refusedWork};
@@ -108,7 +107,7 @@ fn in_memory(
     next: usize,
     memory: &[u8],
 ) -> Work
-    requires { ⌜ Registers (instruction .operand) × (Listed (unpacked entry) × ((instruction .operand .mode ≡ 3 → ⊥) × (4 ≤ entry / 2 ^ 24))) ⌝ }
+    requires { ⌜ Registers (instruction .operand) × (Listed entry × ((instruction .operand .mode ≡ 3 → ⊥) × (4 ≤ entry / 2 ^ 24))) ⌝ }
     ensures { λ r. ⌜ Does r (now (mmx .entry)) (now (integers .entry)) (now (memory .entry)) (effectIn entry instruction) next ⌝ }
 {
     let operand = instruction.operand;
@@ -161,7 +160,7 @@ fn sorted(
     next: usize,
     memory: &[u8],
 ) -> Work
-    requires { ⌜ Registers (instruction .operand) × Listed (unpacked entry) ⌝ }
+    requires { ⌜ Registers (instruction .operand) × Listed entry ⌝ }
     ensures { λ r. ⌜ Does r (now (mmx .entry)) (now (integers .entry)) (now (memory .entry)) (effectIn entry instruction) next ⌝ }
 {
     let operand = instruction.operand;
@@ -180,7 +179,7 @@ fn sorted(
         }
         return Work {
             what: OPERATE,
-            number: shifts::shift_number((entry / LANE % PART) as u8, operand.reg),
+            number: shifts::shift_number(entry, operand.reg),
             place: other,
             value: instruction.immediate as u64,
             next: next,

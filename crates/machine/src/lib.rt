@@ -11,7 +11,7 @@ mod shifts;
 mod starting;
 mod stepping;
 
-use manual::Kind;
+use codec::Kind;
 pub use meetings::meets;
 
 // The registers and marks. The memory is lent to each call beside them.

@@ -1,7 +1,7 @@
 // Whether two footprints meet: by a place that one writes and the other reads or writes, or by their kinds.
 use crate::Footprint;
 use crate::Places;
-use manual::Kind;
+use codec::Kind;
 ghost use mathlib.Core.Path.{_≡_};
 ghost use Rattle.manual.specs.Kinds.{kindsMeet};
 ghost use Rattle.machine.specs.Prints.{overlap, share, meet};

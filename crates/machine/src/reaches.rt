@@ -14,12 +14,11 @@ use codec::numbers::SIZE;
 ghost use mathlib.Core.Path.{_≡_};
 ghost use Prim.Native.Nat.{_/_, _^_, _≤_, _<_};
 ghost use Rattle.codec.specs.Operands.{Registers};
-ghost use Rattle.codec.specs.Packed.{unpacked};
 ghost use Rattle.manual.specs.Addresses.{addressOf, address};
-ghost use Rattle.manual.specs.Locations.{memory, rmOf, tested, placesOf};
+ghost use Rattle.manual.specs.Locations.{memory, tested, placesOf};
 ghost use Rattle.machine.specs.State.{stateOf};
 ghost use Rattle.machine.specs.PrintShapes.{beside, through, reachOf};
-ghost use Rattle.machine.specs.Works.{Listed};
+ghost use Rattle.machine.specs.Works.{otherOf, Listed};
 
 // No places.
 pub(crate) const NOWHERE: Places = Places {
@@ -81,8 +80,8 @@ fn reach_bytes(integers: &[u32; 8], operand: Operand, size: usize, room: usize) 
 
 // The operand that r/m names: MOVD's register is an integer register.
 pub(crate) fn reach_operand(machine: Machine, entry: u32, operand: Operand, memory: &[u8]) -> Reach
-    requires { ⌜ Registers operand × (Listed (unpacked entry) × (4 ≤ entry / 2 ^ 24)) ⌝ }
-    ensures { λ r. ⌜ r ≡ reachOf (rmOf (unpacked entry) operand) (placesOf (stateOf machine (now (memory .entry))) (rmOf (unpacked entry) operand)) ⌝ }
+    requires { ⌜ Registers operand × (Listed entry × (4 ≤ entry / 2 ^ 24)) ⌝ }
+    ensures { λ r. ⌜ r ≡ reachOf (otherOf (entry / 2 ^ 24) operand) (placesOf (stateOf machine (now (memory .entry))) (otherOf (entry / 2 ^ 24) operand)) ⌝ }
 {
     if operand.mode != REGISTER {
         let integers = machine.integers;

@@ -1,54 +1,26 @@
-// The operations of the shifts by an immediate, 71 to 73.
+// The operations of the shifts by an immediate, 71 to 73: the table's number has one for each digit.
 use codec::numbers::LEFT;
+use codec::numbers::PART;
 use codec::numbers::RIGHT;
+use codec::numbers::RIGHT_PLACE;
 use codec::numbers::RIGHT_SIGNED;
+use codec::numbers::SIGNED_PLACE;
 use lanes::KEEP;
-use lanes::PSLLD;
-use lanes::PSLLQ;
-use lanes::PSLLW;
-use lanes::PSRAD;
-use lanes::PSRAW;
-use lanes::PSRLD;
-use lanes::PSRLQ;
-use lanes::PSRLW;
 ghost use mathlib.Core.Path.{_≡_};
 ghost use Rattle.lanes.specs.Operations.{operationOf};
-ghost use Rattle.manual.specs.Instructions.{ofWidth, shiftOf};
+ghost use Rattle.codec.specs.Packed.{shiftIn};
 
-// The lanes' widths.
-const WORD_BITS: u8 = 16;
-
-const DOUBLEWORD_BITS: u8 = 32;
-
-const QUADWORD_BITS: u8 = 64;
-
-// Of a word, doubleword and quadword operation, the one for the width.
-fn of_width(lane: u8, word: u8, doubleword: u8, quadword: u8) -> u8
-    ensures { λ r. ⌜ operationOf r ≡ ofWidth lane (operationOf word) (operationOf doubleword) (operationOf quadword) ⌝ }
-{
-    if lane == WORD_BITS {
-        return word;
-    }
-    if lane == DOUBLEWORD_BITS {
-        return doubleword;
-    }
-    if lane == QUADWORD_BITS {
-        return quadword;
-    }
-    KEEP
-}
-
-pub(crate) fn shift_number(lane: u8, digit: u8) -> u8
-    ensures { λ r. ⌜ operationOf r ≡ shiftOf lane digit ⌝ }
+pub(crate) fn shift_number(entry: u32, digit: u8) -> u8
+    ensures { λ r. ⌜ operationOf r ≡ shiftIn entry digit ⌝ }
 {
     if digit == RIGHT {
-        return of_width(lane, PSRLW, PSRLD, PSRLQ);
+        return (entry / RIGHT_PLACE % PART) as u8;
     }
     if digit == RIGHT_SIGNED {
-        return of_width(lane, PSRAW, PSRAD, KEEP);
+        return (entry / SIGNED_PLACE % PART) as u8;
     }
     if digit == LEFT {
-        return of_width(lane, PSLLW, PSLLD, PSLLQ);
+        return (entry % PART) as u8;
     }
     KEEP
 }

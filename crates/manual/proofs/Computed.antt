@@ -11,13 +11,13 @@ use Rattle.lanes.specs.Operations.{operate}
 use Rattle.reorder.specs.Run.{finished}
 use Rattle.reorder.specs.Block.{rearranged}
 use Rattle.codec.specs.Forms.{allows}
-use Rattle.codec.specs.Opcodes.{entryOf}
+use Rattle.codec.specs.Opcodes.{formAt, operationAt}
 use Rattle.codec.specs.Operands.{hasSib, displacementSize}
 use Rattle.codec.specs.Reads.{immediateReader, displacementReader, sibReader, modrmReader, formReader, refusalOf, secondReader, instructionReader, readAt}
 use Rattle.codec.specs.Fits.{all}
 use Rattle.manual.specs.Addresses.{displacementOf, baseOf, indexOf, addressOf, address}
 use Rattle.manual.specs.Locations.{rmOf}
-use Rattle.manual.specs.Instructions.{shiftOf, effectAt, execute, footprint}
+use Rattle.manual.specs.Instructions.{effectOf, execute, footprint}
 use Rattle.manual.specs.Steps.{instructionAt, stepAt}
 use Rattle.manual.specs.Runs.{read, runOf}
 use Rattle.manual.specs.Footprints.{footprintAt, footprintInRun, Meets}
@@ -44,7 +44,7 @@ pub record Computed : Type 0 where
   pub forbidden : runOf (rearranged read example.block example.forbidden) 4096 example.start ≡ finished 17 5 example.spoilt
 
 pub computed : Computed
-unfolding lane build register signed wrap clamp clampSigned clampUnsigned packed pairwise sum sumSigned sumUnsigned greater productHigh productSum pack unpack shift left right rightSigned operate allows entryOf hasSib displacementSize immediateReader displacementReader sibReader modrmReader formReader refusalOf secondReader instructionReader readAt flatten displacementOf baseOf indexOf addressOf address rmOf shiftOf effectAt execute footprint instructionAt stepAt read runOf footprintAt
+unfolding lane build register signed wrap clamp clampSigned clampUnsigned packed pairwise sum sumSigned sumUnsigned greater productHigh productSum pack unpack shift left right rightSigned operate allows formAt operationAt hasSib displacementSize immediateReader displacementReader sibReader modrmReader formReader refusalOf secondReader instructionReader readAt flatten displacementOf baseOf indexOf addressOf address rmOf effectOf execute footprint instructionAt stepAt read runOf footprintAt
 computed =
     record {
       plates = tt;

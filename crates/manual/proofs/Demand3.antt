@@ -20,7 +20,7 @@ use Rattle.reorder.proofs.Along.{Comes, comes-to}
 use Rattle.codec.specs.Reads.{longestCode}
 use Rattle.codec.specs.Refusals.{codeTooLong}
 use Rattle.codec.specs.declared.Instruction.{Instruction}
-use Rattle.manual.specs.declared.Kind.{Kind}
+use Rattle.codec.specs.declared.Kind.{Kind}
 use Rattle.manual.specs.Refusals.{memoryTooLong}
 use Rattle.manual.specs.State.{State, Frozen, frozen, longestMemory, isTooLong}
 use Rattle.manual.specs.Places.{Place, look, put}

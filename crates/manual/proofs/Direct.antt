@@ -12,7 +12,7 @@ use Rattle.words.specs.Bytewise.{gets}
 use Rattle.words.proofs.Laws.{length-gets}
 use Rattle.reorder.specs.Result.{Result, done, refused, andThen, mapResult}
 use Rattle.reorder.specs.Plan.{looks, puts, perform}
-use Rattle.manual.specs.declared.Kind.the-variants.{Ordinary}
+use Rattle.codec.specs.declared.Kind.the-variants.{Ordinary}
 use Rattle.manual.specs.Refusals.{invalidOpcode, notAvailable, isPending, outsideMemory}
 use Rattle.manual.specs.State.{State, withMemory}
 use Rattle.manual.specs.Places.{Place, mmx, integer, byte, look, put}
@@ -20,7 +20,31 @@ use Rattle.manual.specs.Kinds.{marked}
 use Rattle.manual.specs.Addresses.{Address, address}
 use Rattle.manual.specs.Locations.{Location, mmxRegister, integerRegister, memory, bytesFrom, fits, placesOf}
 use Rattle.manual.specs.Effects.{Effect, width, valueIn, contentsOf, unlessMarked, planOn, placed, directly, perform as performs}
-use Rattle.manual.specs.Instructions.{both, move}
+use Rattle.codec.specs.declared.Kind.{Kind}
+
+-- the destination becomes a number made from the destination and the source
+abbrev pub both : (ℕ → ℕ → ℕ) → Location → Location → Effect
+both f destination source =
+    record {
+      takes = destination ∷ source ∷ [];
+      gives = destination ∷ [];
+      value = λ values. done (f (getD values 0 0) (getD values 1 0) ∷ []);
+      kind = Ordinary;
+    }
+
+-- the destination becomes a number made from the source alone
+abbrev pub move : (ℕ → ℕ) → Location → Location → Effect
+move f destination source =
+    record {
+      takes = source ∷ [];
+      gives = destination ∷ [];
+      value = λ values. done (f (getD values 0 0) ∷ []);
+      kind = Ordinary;
+    }
+
+-- no operand
+abbrev pub bare : Kind → Effect
+bare kind = record { takes = []; gives = []; value = λ values. done []; kind = kind }
 
 -- what keeps every refusal keeps those of the control marks
 pub past-marks : {A B : Type 0} (f : Result A → Result B) → ((n : ℕ) → f (refused n) ≡ refused n) → (em ts pending : Bool) (o : Result A)

@@ -7,12 +7,9 @@ use Prim.Native.Nat.{ℕ, _+_}
 use borrow.Author.Tests.{leb-false, lt-leb}
 use lib.ListN.{length}
 use Rattle.reorder.specs.Result.{Result, done, refused, andThen, mapResult, caseOf}
-use Rattle.reorder.specs.Plan.{looks, perform}
-use Rattle.codec.specs.Forms.{Form, absent, emms, shiftWD, shiftQ, storeD, loadD, storeQ, loadQ, usual}
-use Rattle.codec.specs.Opcodes.{Entry, entryOf}
+use Rattle.reorder.specs.Plan.{perform}
 use Rattle.codec.specs.Answers as found
 use Rattle.codec.specs.Reads.{readAt}
-use Rattle.codec.specs.declared.Operand.{Operand}
 use Rattle.codec.specs.declared.Instruction.{Instruction}
 use Rattle.codec.proofs.Exactly.{reading-exactly}
 use Rattle.manual.specs.Refusals.{memoryTooLong, outsideMemory}
@@ -21,8 +18,8 @@ use Rattle.manual.specs.Places.{Place, look, put}
 use Rattle.manual.specs.Kinds.{marked}
 use Rattle.manual.specs.Addresses.{address}
 use Rattle.manual.specs.Locations.{Location, mmxRegister, integerRegister, memory, fits, bytesFrom, placesOf}
-use Rattle.manual.specs.Effects.{placesOfAll, valuesIn, planOn, directly, plan, unlessMarked}
-use Rattle.manual.specs.Instructions.{effectBy, effectAt, effectOf, execute}
+use Rattle.manual.specs.Effects.{placesOfAll, planOn, directly, plan, unlessMarked}
+use Rattle.manual.specs.Instructions.{effectOf, execute}
 use Rattle.manual.specs.Steps.{refusedWith, resultOf, concluded, instructionAt, stepAt}
 use Rattle.manual.specs.Reasons.{Stands, Outside, Reason, one, reading, seven, eight, nine, ten}
 
@@ -79,19 +76,6 @@ refused-all s (y ∷ ys) n e = first (placesOf s y) refl (refused-all s ys n) e
         let same : m ≡ n = cc in
         record { number = sym same ∙ o .0; operand = y; among = here refl; outside = o .1 }
 
--- what an instruction computes is never refused
-makes : (form : Form) (entry : Entry) (w : Operand) (immediate : ℕ) (values : List ℕ)
-    → (out : List ℕ) × (effectBy form entry w immediate .value values ≡ done out)
-makes absent entry w immediate values = (_, refl)
-makes emms entry w immediate values = (_, refl)
-makes shiftWD entry w immediate values = (_, refl)
-makes shiftQ entry w immediate values = (_, refl)
-makes storeD entry w immediate values = (_, refl)
-makes loadD entry w immediate values = (_, refl)
-makes storeQ entry w immediate values = (_, refl)
-makes loadQ entry w immediate values = (_, refl)
-makes usual entry w immediate values = (_, refl)
-
 -- One instruction
 
 module _ (i : Instruction) (s : State) where
@@ -109,14 +93,12 @@ module _ (i : Instruction) (s : State) where
     outside : Outside s operand
 
   refused-unmarked : (n : ℕ) → directly (effectOf i) s ≡ refused n → OperandOutside n
-  unfolding effectAt
+  unfolding effectOf
   refused-unmarked n h = by source target refl refl h
     where
+      -- what an instruction computes is never refused
       made : (from to : List Place) → perform look put marked s (done (planOn (effectOf i) from to)) ≡ refused n → ⊥
-      made from to h =
-          let entry = entryOf (i .second) in
-          let (out, e) = makes (entry .form) entry (i .operand) (i .immediate) (valuesIn (effectOf i .takes) (looks look s from)) in
-          false≢true (cc (rw e at h))
+      made from to h = false≢true (cc)
 
       by : (a b : Result (List Place)) → source ≡ a → target ≡ b
           → perform look put marked s (andThen a (λ from. mapResult (planOn (effectOf i) from) b)) ≡ refused n → OperandOutside n

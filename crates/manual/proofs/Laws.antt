@@ -7,8 +7,8 @@ use lib.ListN.{getD, length-set}
 use lib.Seq.{getD-set-other, set-comm}
 use Rattle.reorder.specs.Result.{andThen, mapResult}
 use Rattle.reorder.proofs.Places.{Laws, Local}
-use Rattle.manual.specs.declared.Kind.{Kind}
-use Rattle.manual.specs.declared.Kind.the-variants.{Ordinary, Emms}
+use Rattle.codec.specs.declared.Kind.{Kind}
+use Rattle.codec.specs.declared.Kind.the-variants.{Ordinary, Emms}
 use Rattle.manual.specs.State.{State, frozen}
 use Rattle.manual.specs.Places.{Place, mmx, integer, byte, look, put}
 use Rattle.manual.specs.Kinds.{marked, KindsMeet}

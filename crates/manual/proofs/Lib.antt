@@ -10,8 +10,8 @@ pub mod Bounds
 pub mod Demand3
 pub mod Endings
 pub mod Uses
-pub mod Meeting
 pub mod Direct
+pub mod Meeting
 pub mod Headings
 pub mod Plates
 pub mod Edges

@@ -10,8 +10,8 @@ use Rattle.reorder.specs.Result.{Result, done}
 use Rattle.reorder.specs.Footprint as places
 use Rattle.reorder.proofs.Meeting.{meets-symmetric}
 use Rattle.codec.specs.declared.Instruction.{Instruction}
-use Rattle.manual.specs.declared.Kind.{Kind}
-use Rattle.manual.specs.declared.Kind.the-variants.{Ordinary, Emms}
+use Rattle.codec.specs.declared.Kind.{Kind}
+use Rattle.codec.specs.declared.Kind.the-variants.{Ordinary, Emms}
 use Rattle.manual.specs.State.{State}
 use Rattle.manual.specs.Places.{Place, mmx, integer, byte}
 use Rattle.manual.specs.Kinds.{KindsMeet}

@@ -10,23 +10,23 @@ use Rattle.reorder.specs.Footprint.{Footprint, footprintOf as ofPlan, footprint
 use Rattle.reorder.specs.Run.{Reading}
 use Rattle.reorder.proofs.Swapping.{completed as planned}
 use Rattle.reorder.proofs.Honest.{Alike, asked-reads, honest, untouched}
-use Rattle.codec.specs.Forms.{Form, absent, emms, shiftWD, shiftQ, storeD, loadD, storeQ, loadQ, usual}
-use Rattle.codec.specs.Opcodes.{Entry, entryOf}
-use Rattle.codec.specs.declared.Operand.{Operand}
+use Rattle.codec.specs.Forms.{absent}
+use Rattle.codec.specs.Opcodes.{Line, lines, formAt, operationAt}
 use Rattle.codec.specs.declared.Instruction.{Instruction}
-use Rattle.codec.proofs.Bytes.{numberIs, byte-with}
+use Rattle.codec.proofs.Bytes.{found-has}
 use borrow.Author.Tests.{eqb-true}
 use lib.Dec.{eqb}
-use Rattle.manual.specs.declared.Kind.{Kind}
-use Rattle.manual.specs.declared.Kind.the-variants.{Ordinary, Emms}
+use Rattle.codec.specs.declared.Kind.{Kind}
+use Rattle.codec.specs.declared.Kind.the-variants.{Ordinary, Emms}
 use Rattle.manual.specs.State.{State, withTag, frozen}
 use Rattle.manual.specs.Places.{Place, look, put}
 use Rattle.manual.specs.Kinds.{marked, KindsMeet}
 use Rattle.manual.specs.Effects.{Effect, placesOfAll, planOn, unlessMarked, via, plan, perform}
-use Rattle.manual.specs.Instructions.{bare, effectBy, effectAt, effectOf, execute, footprint}
+use Rattle.manual.specs.Instructions.{effectBy, effectOf, execute, footprint}
 use Rattle.manual.specs.Steps.{Outcome, completed, refusedWith, concluded, instructionAt, stepAt}
 use Rattle.manual.specs.Footprints.{footprintAt}
 use Rattle.manual.proofs.Laws.{laws, local}
+use Rattle.manual.proofs.Direct.{bare}
 
 -- the places whose contents an instruction goes by in a state, whether it is refused or not
 abbrev pub askedBy : Instruction → State → List Place
@@ -98,34 +98,28 @@ plan-kind e s pl h = marks (s .em) (s .ts) (s .pending) h
     marks false false true h = absurd (false≢true (cc))
     marks false false false h = placed (placesOfAll s (e .takes)) (placesOfAll s (e .gives)) h
 
--- the form of EMMS has its kind, and no other
-form-tag : (form : Form) (entry : Entry) (w : Operand) (immediate : ℕ) → tagOf (effectBy form entry w immediate .kind) ≡ not (numberIs 1 form)
-form-tag absent entry w immediate = refl
-form-tag emms entry w immediate = refl
-form-tag shiftWD entry w immediate = refl
-form-tag shiftQ entry w immediate = refl
-form-tag storeD entry w immediate = refl
-form-tag loadD entry w immediate = refl
-form-tag storeQ entry w immediate = refl
-form-tag loadQ entry w immediate = refl
-form-tag usual entry w immediate = refl
-
--- 77 has that form, and no other second byte
-emms-byte : (second : ℕ) → numberIs 1 (entryOf second .form) ≡ eqb second 0x77
-unfolding entryOf
-emms-byte second = by (eqb second 0x77) (numberIs 1 (entryOf second .form)) refl refl
+-- 77 has the kind of EMMS, and no other second byte
+byte-tag : (second : ℕ) → tagOf (formAt second .kind) ≡ not (eqb second 0x77)
+unfolding formAt
+byte-tag second = by (eqb second 0x77) refl
   where
-    by : (t u : Bool) → eqb second 0x77 ≡ t → numberIs 1 (entryOf second .form) ≡ u → u ≡ t
-    by true u e f = sym f ∙ ap (λ (k : ℕ). numberIs 1 (entryOf k .form)) (eqb-true second 0x77 e)
-    by false false e f = refl
-    by false true e f = absurd (false≢true (ap (λ (v : Bool). v || false) (sym e) ∙ byte-with (numberIs 1) refl second f))
+    other : (x : Line) → eqb second 0x77 ≡ false → eqb second (x .second) ≡ true → (tagOf (x .form .kind) || eqb (x .second) 0x77) ≡ true → tagOf (x .form .kind) ≡ true
+    other x n e h = go (tagOf (x .form .kind)) h
+      where
+        go : (t : Bool) → (t || eqb (x .second) 0x77) ≡ true → t ≡ true
+        go true h = refl
+        go false h = absurd (false≢true (sym n ∙ ap (λ (k : ℕ). eqb k 0x77) (eqb-true second (x .second) e) ∙ h))
+
+    by : (t : Bool) → eqb second 0x77 ≡ t → tagOf (formAt second .kind) ≡ not t
+    by true e = ap (λ (k : ℕ). tagOf (formAt k .kind)) (eqb-true second 0x77 e)
+    by false n =
+        found-has (λ x. x .form) absent (λ f. tagOf (f .kind) ≡ true) (λ x. eqb second (x .second)) (λ x. tagOf (x .form .kind) || eqb (x .second) 0x77)
+        refl (λ x e h. other x n e h) lines refl
 
 -- so an instruction is of EMMS's kind exactly where its second byte is 77
 kind-tag : (i : Instruction) → tagOf (effectOf i .kind) ≡ not (eqb (i .second) 0x77)
-unfolding effectAt
-kind-tag i =
-    let entry = entryOf (i .second) in
-    form-tag (entry .form) entry (i .operand) (i .immediate) ∙ ap not (emms-byte (i .second))
+unfolding effectOf
+kind-tag i = byte-tag (i .second)
 
 -- and its footprint has its kind
 pub printed-kind : (i : Instruction) (s : State) (f : Footprint Place Kind) → footprint i s ≡ done f → tagOf (f .kind) ≡ not (eqb (i .second) 0x77)
@@ -153,9 +147,9 @@ tag-after i s t e =
 
 -- "EMMS sets it empty and changes nothing else": what it leaves is the state with the tag mark empty, unless a control mark refuses it
 pub emms-leaves : (i : Instruction) (s : State) → i .second ≡ 0x77 → execute i s ≡ unlessMarked (s .em) (s .ts) (s .pending) (done (withTag s false))
-unfolding execute effectAt entryOf
+unfolding execute effectOf formAt
 emms-leaves i s e =
-    ap (λ (second : ℕ). perform (effectAt second (i .operand) (i .immediate)) s) e ∙ marks (s .em) (s .ts) (s .pending)
+    ap (λ (second : ℕ). perform (effectBy (formAt second) (operationAt second (i .operand .reg)) i) s) e ∙ marks (s .em) (s .ts) (s .pending)
   where
     marks : (em ts pending : Bool)
         → performed look put marked s (unlessMarked em ts pending (done (planOn (bare Emms) [] []))) ≡ unlessMarked em ts pending (done (withTag s false))

@@ -8,7 +8,7 @@ use Rattle.words.specs.Number.{number, bytes}
 use Rattle.reorder.specs.Result.{Result, done, refused, andThen, mapResult}
 use Rattle.reorder.specs.Plan.{Plan, execBy}
 use Rattle.reorder.specs.Footprint.{Footprint, footprintBy}
-use Rattle.manual.specs.declared.Kind.{Kind}
+use Rattle.codec.specs.declared.Kind.{Kind}
 use Rattle.manual.specs.Refusals.{invalidOpcode, notAvailable, isPending}
 use Rattle.manual.specs.State.{State}
 use Rattle.manual.specs.Places.{Place, integer, look, put}

@@ -4,7 +4,7 @@ use Prim.Native.Nat.{ℕ}
 use Rattle.reorder.specs.Result.{Result, andThen}
 use Rattle.reorder.specs.Footprint as places
 use Rattle.reorder.specs.Run.{positionReached, stateReached}
-use Rattle.manual.specs.declared.Kind.{Kind}
+use Rattle.codec.specs.declared.Kind.{Kind}
 use Rattle.manual.specs.State.{State}
 use Rattle.manual.specs.Places.{Place}
 use Rattle.manual.specs.Kinds.{KindsMeet}

@@ -1,8 +1,8 @@
 -- The kinds of instruction: what each does to the tag mark, and which kinds meet.
 use mathlib.Core.Path.{_≡_}
 use mathlib.Core.Bool.{Bool, true, false}
-use Rattle.manual.specs.declared.Kind.{Kind}
-use Rattle.manual.specs.declared.Kind.the-variants.{Ordinary, Emms}
+use Rattle.codec.specs.declared.Kind.{Kind}
+use Rattle.codec.specs.declared.Kind.the-variants.{Ordinary, Emms}
 use Rattle.manual.specs.State.{State, withTag}
 
 -- every completed instruction but EMMS sets the tag mark valid; EMMS sets it empty

@@ -1,5 +1,5 @@
--- The manual's rules, each after what it builds on: the state, its places and kinds, where an operand is, what each instruction takes and gives, the
--- manual's headings, one step, the run, footprints.
+-- The manual's rules, each after what it builds on: the state, its places and kinds, where an operand is, what each instruction takes and gives,
+-- one step, the run, footprints.
 pub mod State
 pub mod Refusals
 pub mod Places
@@ -8,7 +8,6 @@ pub mod Addresses
 pub mod Locations
 pub mod Effects
 pub mod Instructions
-pub mod Contents
 pub mod Steps
 pub mod Reasons
 pub mod Runs

@@ -5,9 +5,9 @@ use Prim.Native.Nat.{ℕ, zero, suc, _+_}
 use lib.Dec.{eqb, leb}
 use lib.ListN.{length}
 use Rattle.reorder.specs.Result.{Result, done, refused}
-use Rattle.codec.specs.Forms.{Form, absent, emms, shiftWD, shiftQ, storeD, loadD, storeQ, loadQ, usual}
-use Rattle.codec.specs.Opcodes.{Entry}
+use Rattle.codec.specs.Forms.{File, mmxFile, integerFile, Slot, reg, rm, rm/mem}
 use Rattle.codec.specs.declared.Operand.{Operand}
+use Rattle.codec.specs.declared.Instruction.{Instruction}
 use Rattle.manual.specs.Refusals.{outsideMemory}
 use Rattle.manual.specs.State.{State}
 use Rattle.manual.specs.Places.{Place, mmx, integer, byte}
@@ -18,26 +18,18 @@ pub data Location : Type 0 where
   mmxRegister integerRegister : ℕ → Location
   memory : Address → ℕ → Location
 
--- the register that rm names at mod 11: MOVD's is an integer register
-abbrev pub registerOf : Form → ℕ → Location
-registerOf absent k = mmxRegister k
-registerOf emms k = mmxRegister k
-registerOf shiftWD k = mmxRegister k
-registerOf shiftQ k = mmxRegister k
-registerOf storeD k = integerRegister k
-registerOf loadD k = integerRegister k
-registerOf storeQ k = mmxRegister k
-registerOf loadQ k = mmxRegister k
-registerOf usual k = mmxRegister k
+abbrev pub registerIn : File → ℕ → Location
+registerIn mmxFile k = mmxRegister k
+registerIn integerFile k = integerRegister k
 
--- the operand that r/m names
-unfoldable pub rmOf : Entry → Operand → Location
-rmOf entry w =
-    cond (eqb (w .mode) 3) (registerOf (entry .form) (w .rm)) (memory (addressOf w) (entry .size))
+-- the operand that r/m names: a register at mod 11, else so many bytes in memory
+unfoldable pub rmOf : File → ℕ → Operand → Location
+rmOf file size w = cond (eqb (w .mode) 3) (registerIn file (w .rm)) (memory (addressOf w) size)
 
--- the operand that reg names
-abbrev pub regOf : Operand → Location
-regOf w = mmxRegister (w .reg)
+abbrev pub locate : Instruction → Slot → Location
+locate i (reg file) = registerIn file (i .operand .reg)
+locate i (rm file) = registerIn file (i .operand .rm)
+locate i (rm/mem file size) = rmOf file size (i .operand)
 
 -- the bytes from an address on, so many: the operand itself never wraps
 abbrev pub bytesFrom : ℕ → ℕ → List Place

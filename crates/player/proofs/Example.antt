@@ -8,10 +8,10 @@ use lib.Dec.{ltb}
 use lib.ListN.{length, replicate, take}
 use Rattle.words.specs.Buffer.{loaded}
 use Rattle.reorder.proofs.Permutation.{from}
-use Rattle.codec.specs.Opcodes.{entryOf}
+use Rattle.codec.specs.Opcodes.{formAt, operationAt}
 use Rattle.codec.specs.Reads.{immediateReader, formReader, secondReader, instructionReader}
 use Rattle.manual.specs.State.{isTooLong}
-use Rattle.manual.specs.Instructions.{effectAt, execute}
+use Rattle.manual.specs.Instructions.{effectOf, execute}
 use Rattle.manual.specs.Runs.{read, runOf}
 use Rattle.manual.proofs.Computed.{computed}
 use Rattle.machine.specs.Starts.{startOf}
@@ -84,12 +84,12 @@ pub every-field : pageText (marked 0x09)
     ∷ "A0 A1 A2 A3 A4 A5 A6 A7 A8 A9 AA AB AC AD AE AF"
     ∷ "B0"
     ∷ [])
-unfolding loaded mayHold size holds left wellFormed contentsOf pageOf startOf entryOf immediateReader formReader secondReader instructionReader effectAt execute read runOf stateText runIn wellFormedText pageText reportText answer firstLine registerLines mmxLines integerLines tagsLine memoryLine byteLines decimal digits places
+unfolding loaded mayHold size holds left wellFormed contentsOf pageOf startOf formAt operationAt immediateReader formReader secondReader instructionReader effectOf execute read runOf stateText runIn wellFormedText pageText reportText answer firstLine registerLines mmxLines integerLines tagsLine memoryLine byteLines decimal digits places
 every-field = refl
 
 -- TS, and pending
 pub other-marks : map (λ marks. take 9 (pageText (marked marks))) (0x02 ∷ 0x04 ∷ []) ≡ ascii "refused 8" ∷ ascii "refused 9" ∷ []
-unfolding loaded mayHold size holds left wellFormed contentsOf pageOf startOf entryOf immediateReader formReader secondReader instructionReader effectAt execute read runOf stateText runIn wellFormedText pageText reportText answer firstLine decimal digits places
+unfolding loaded mayHold size holds left wellFormed contentsOf pageOf startOf formAt operationAt immediateReader formReader secondReader instructionReader effectOf execute read runOf stateText runIn wellFormedText pageText reportText answer firstLine decimal digits places
 other-marks = refl
 
 -- a stray byte: 13 alone

@@ -1,5 +1,5 @@
 -- `fields::allowed` meets its contract: each answer is a rule on the form's number.
-use Rattle.codec.proofs.FormNumbers.{forms}
+use Rattle.codec.proofs.FormNumbers.{form-rules}
 use Rattle.codec.proofs.fields.allowed.Statement.{statement}
 use Rattle.codec.proofs.fields.allowed.Tie as tie
 
@@ -7,10 +7,10 @@ pub allowed-spec : {M : Type 1} → statement M
 allowed-spec =
     tie.close
     (tie.spec
-    (λ c. search forms)
-    (λ c. search forms)
-    (λ c. search forms)
-    (λ c. search forms)
-    (λ c. search forms)
-    (λ c. search forms)
-    (λ c. search forms))
+    (λ c. search form-rules)
+    (λ c. search form-rules)
+    (λ c. search form-rules)
+    (λ c. search form-rules)
+    (λ c. search form-rules)
+    (λ c. search form-rules)
+    (λ c. search form-rules))

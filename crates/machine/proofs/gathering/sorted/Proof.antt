@@ -10,7 +10,6 @@ sorted-spec =
     (λ c. search sorting)
     (λ c. search sorting)
     (λ c. search sorting)
-    (λ c. search sorting)
     (λ c κs. search sorting)
     (λ c. search sorting)
     (λ c. search sorting)

@@ -7,10 +7,10 @@ pub shift-number-spec : {M : Type 1} → statement M
 shift-number-spec =
     tie.close
     (tie.spec
-    (λ c κs. search shifting)
     (λ c. search shifting)
-    (λ c κs. search shifting)
     (λ c. search shifting)
-    (λ c κs. search shifting)
+    (λ c. search shifting)
+    (λ c. search shifting)
+    (λ c. search shifting)
     (λ c. search shifting)
     (λ c. search shifting))
