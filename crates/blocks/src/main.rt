@@ -13,7 +13,7 @@ use machine::Taken;
 const BUDGET: u32 = 4096;
 
 // One byte more than a code and a memory may have.
-const TOO_LONG_CODE: usize = codec::numbers::LONGEST_CODE + 1;
+const TOO_LONG_CODE: usize = codec::refusals::LONGEST_CODE + 1;
 
 const TOO_LONG_MEMORY: usize = machine::numbers::LONGEST_MEMORY + 1;
 

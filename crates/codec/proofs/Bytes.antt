@@ -1,35 +1,48 @@
--- What the list says of every second byte: a test that all its lines pass is passed by what is found.
+-- What is found in a list: what every line passes is passed by the line found. So it is said of every second byte, and of every form's number.
 use Prim.Native.Nat.{ℕ, _≤_}
 use mathlib.Core.Path.{_≡_, refl}
-use mathlib.Core.Bool.{Bool, true, false, cond, _&&_}
+use mathlib.Core.Bool.{Bool, true, false, cond, _&&_, _||_}
 use mathlib.Core.List.{List, [], _∷_}
 use native.Mathlib.Omega.{arith}
-use borrow.Author.Tests.{ltb-true, eqb-true}
+use borrow.Author.Tests.{ltb-true, le-ltb, eqb-true}
 use lib.Dec.{eqb, ltb}
-use Rattle.codec.specs.Forms.{Form, absent}
-use Rattle.codec.specs.Opcodes.{Line, lines, find, formAt}
+use Rattle.codec.specs.Forms.{Form, absent, mmreg1·mmreg2/mem64, forms}
+use Rattle.codec.specs.Contents.{Line, lines}
+use Rattle.codec.specs.Opcodes.{find, formAt}
+use Rattle.codec.specs.Table.{formOf}
 use Rattle.words.proofs.Laws.{and-both}
 
-abbrev pub allLines : (Line → Bool) → List Line → Bool
-allLines test [] = true
-allLines test (x ∷ xs) = test x && allLines test xs
+abbrev pub allPass : {A : Type 0} → (A → Bool) → List A → Bool
+allPass test [] = true
+allPass test (x ∷ xs) = test x && allPass test xs
 
--- what holds of every line that may be found, and of none, holds of what is found
-module _ {A : Type 0} (part : Line → A) (default : A) (Q : A → Type 0) (passes test : Line → Bool) (none : Q default)
-    (one : (x : Line) → passes x ≡ true → test x ≡ true → Q (part x)) where
-  pub found-has : (xs : List Line) → allLines test xs ≡ true → Q (find passes part default xs)
+-- what holds of everything in the list that may be found, and of what there is of none, holds of what is found
+module _ {A B : Type 0} (part : A → B) (default : B) (Q : B → Type 0) (passes test : A → Bool) (none : Q default)
+    (one : (x : A) → passes x ≡ true → test x ≡ true → Q (part x)) where
+  pub found-has : (xs : List A) → allPass test xs ≡ true → Q (find passes part default xs)
   found-has [] h = none
-  found-has (x ∷ xs) h = let (a, b) = and-both (test x) (allLines test xs) h in by (passes x) refl a (found-has xs b)
+  found-has (x ∷ xs) h = let (a, b) = and-both (test x) (allPass test xs) h in by (passes x) refl a (found-has xs b)
     where
       by : (t : Bool) → passes x ≡ t → test x ≡ true → Q (find passes part default xs) → Q (cond t (part x) (find passes part default xs))
       by true e h q = one x e h
       by false e h q = q
 
 -- the form of a second byte passes a test of forms
-pub form-passes : (test : Form → Bool) → test absent ≡ true → allLines (λ x. test (x .form)) lines ≡ true → (second : ℕ) → test (formAt second) ≡ true
+pub form-passes : (test : Form → Bool) → test absent ≡ true → allPass (λ x. test (x .form)) lines ≡ true → (second : ℕ) → test (formAt second) ≡ true
 unfolding formAt
 form-passes test z h second =
     found-has (λ x. x .form) absent (λ f. test f ≡ true) (λ x. eqb second (x .second)) (λ x. test (x .form)) z (λ x e q. q) lines h
+
+-- the form of a number from `first` on passes a test
+pub number-passes : (test : Form → Bool) (first n : ℕ) → first ≤ n → test mmreg1·mmreg2/mem64 ≡ true
+    → allPass (λ form. ltb (form .number) first || test form) forms ≡ true → test (formOf n) ≡ true
+number-passes test first n p z h =
+    found-has (λ form. form) mmreg1·mmreg2/mem64 (λ f. test f ≡ true) (λ form. eqb n (form .number)) (λ form. ltb (form .number) first || test form) z one forms h
+  where
+    one : (form : Form) → eqb n (form .number) ≡ true → (ltb (form .number) first || test form) ≡ true → test form ≡ true
+    one form e h =
+        let past : ltb (form .number) first ≡ false = le-ltb (form .number) first (omega (arith, eqb-true n (form .number) e)) in
+        simp past at h
 
 -- no line has a second byte past 255
 pub form-beyond : (second : ℕ) → 256 ≤ second → formAt second ≡ absent

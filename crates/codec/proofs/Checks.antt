@@ -8,7 +8,7 @@ use borrow.Author.Tests.{lt-ltb, eq-eqb, ne-eqb, le-ltb}
 use lib.Dec.{eqb, ltb}
 use Rattle.codec.specs.Forms.{Form, allows, immediateSize}
 use Rattle.codec.specs.Opcodes.{formAt, escape}
-use Rattle.codec.specs.Packed.{formOf}
+use Rattle.codec.specs.Table.{formOf}
 use Rattle.codec.specs.Operands.{hasSib, displacementSize, Sized}
 use Rattle.codec.specs.Fits.{fits, sibFits, operandFits, operandIsZero, partsFit, hasBytes}
 use Rattle.codec.specs.declared.Operand.{Operand}

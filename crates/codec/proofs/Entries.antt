@@ -10,7 +10,7 @@ use lib.Dec.{eqb, ltb}
 use lib.ListN.{length, getD, List·getD-eq-default}
 use Rattle.lanes.specs.Operations.{KEEP}
 use Rattle.codec.specs.Opcodes.{formAt, operationAt, escape}
-use Rattle.codec.specs.Packed.{formOf, packed, listed, packedRows, formIn, shiftIn, operationIn}
+use Rattle.codec.specs.Table.{formOf, entryAt, listed, opcodeTable, formIn, shiftIn, operationIn}
 use Rattle.codec.specs.Forms.{absent}
 use Rattle.codec.specs.Reader.{refuse, byte}
 use Rattle.codec.specs.Reads.{formReader, secondReader, instructionReader, refusalOf}
@@ -35,51 +35,51 @@ pub agree : {A : Type 0} (f g : ℕ → A) (z : A) (count k : ℕ) → listed f 
 agree f g z count k e h =
     ap f (sym (zero-add k)) ∙ sym (getD-listed f z 0 count k h) ∙ ap (λ l. getD l k z) e ∙ getD-listed g z 0 count k h ∙ ap g (zero-add k)
 
-pub packed-row : (second : ℕ) → second < 256 → getD packedRows second 0 ≡ packed second
-unfolding packedRows
-packed-row second h = at-byte packed 0 second h
+pub table-entry : (second : ℕ) → second < 256 → getD opcodeTable second 0 ≡ entryAt second
+unfolding opcodeTable
+table-entry second h = at-byte entryAt 0 second h
 
-past-rows : (second : ℕ) → 256 ≤ second → getD packedRows second 0 ≡ 0
-unfolding packedRows
-past-rows second h =
-    let g : length (listed packed 0 256) ≤ second = subst (λ (n : ℕ). n ≤ second) (sym (length-listed packed 0 256)) h in
-    List·getD-eq-default (listed packed 0 256) 0 g
+table-past : (second : ℕ) → 256 ≤ second → getD opcodeTable second 0 ≡ 0
+unfolding opcodeTable
+table-past second h =
+    let g : length (listed entryAt 0 256) ≤ second = subst (λ (n : ℕ). n ≤ second) (sym (length-listed entryAt 0 256)) h in
+    List·getD-eq-default (listed entryAt 0 256) 0 g
 
 -- the 256 forms, and the operations with each of eight digits, come back from their numbers
-forms-back : listed (λ k. formOf (packed k / 2 ^ 24)) 0 256 ≡ listed formAt 0 256
+forms-back : listed (λ k. formOf (entryAt k / 2 ^ 24)) 0 256 ≡ listed formAt 0 256
 unfolding formAt operationAt
 forms-back = refl
 
-operations-back : listed (λ k. operationIn (packed (k / 8)) (k % 8)) 0 2048 ≡ listed (λ k. operationAt (k / 8) (k % 8)) 0 2048
+operations-back : listed (λ k. operationIn (entryAt (k / 8)) (k % 8)) 0 2048 ≡ listed (λ k. operationAt (k / 8) (k % 8)) 0 2048
 unfolding formAt operationAt operationIn shiftIn
 operations-back = refl
 
 -- It has the form of every number.
-pub form-is : (second : ℕ) → formIn packedRows second ≡ formAt second
+pub form-is : (second : ℕ) → formIn opcodeTable second ≡ formAt second
 form-is second = by (ltb second 256) refl
   where
-    by : (t : Bool) → ltb second 256 ≡ t → formIn packedRows second ≡ formAt second
+    by : (t : Bool) → ltb second 256 ≡ t → formIn opcodeTable second ≡ formAt second
     by true e =
         let h = ltb-true second 256 e in
-        ap (λ (x : ℕ). formOf (x / 2 ^ 24)) (packed-row second h)
-        ∙ agree (λ k. formOf (packed k / 2 ^ 24)) formAt absent 256 second forms-back h
+        ap (λ (x : ℕ). formOf (x / 2 ^ 24)) (table-entry second h)
+        ∙ agree (λ k. formOf (entryAt k / 2 ^ 24)) formAt absent 256 second forms-back h
     by false e =
         let h = ltb-false second 256 e in
-        ap (λ (x : ℕ). formOf (x / 2 ^ 24)) (past-rows second h) ∙ sym (form-beyond second h)
+        ap (λ (x : ℕ). formOf (x / 2 ^ 24)) (table-past second h) ∙ sym (form-beyond second h)
 
 -- It has the operation of every second byte, with every reg.
-pub operation-is : (second digit : ℕ) → second < 256 → digit < 8 → operationIn (getD packedRows second 0) digit ≡ operationAt second digit
+pub operation-is : (second digit : ℕ) → second < 256 → digit < 8 → operationIn (getD opcodeTable second 0) digit ≡ operationAt second digit
 operation-is second digit h g =
     let k = second * 8 + digit in
     let a : k / 8 ≡ second = omega arith in
     let b : k % 8 ≡ digit = omega arith in
-    ap (λ (x : ℕ). operationIn x digit) (packed-row second h)
-    ∙ ap₂ (λ (x y : ℕ). operationIn (packed x) y) (sym a) (sym b)
-    ∙ agree (λ k. operationIn (packed (k / 8)) (k % 8)) (λ k. operationAt (k / 8) (k % 8)) KEEP 2048 k operations-back (omega arith)
+    ap (λ (x : ℕ). operationIn x digit) (table-entry second h)
+    ∙ ap₂ (λ (x y : ℕ). operationIn (entryAt x) y) (sym a) (sym b)
+    ∙ agree (λ k. operationIn (entryAt (k / 8)) (k % 8)) (λ k. operationAt (k / 8) (k % 8)) KEEP 2048 k operations-back (omega arith)
     ∙ ap₂ operationAt a b
 
 -- So it asks for the same bytes as the list.
-pub same-reader : instructionReader (formIn packedRows) ≡ instructionReader formAt
+pub same-reader : instructionReader (formIn opcodeTable) ≡ instructionReader formAt
 unfolding instructionReader secondReader
 same-reader =
     λ i. byte (λ first. cond (eqb first escape) (byte (λ second. formReader (form-is second i) first second)) (refuse (refusalOf first)))

@@ -18,19 +18,19 @@ use Rattle.codec.specs.Opcodes.{formAt, escape, prefixes}
 use Rattle.codec.specs.Operands.{upper, middle, lower, hasSib, noOperand}
 use Rattle.codec.specs.Reader.{Reader, whole, refuse, byte, field, reads}
 use Rattle.codec.specs.Reads.{immediateReader, displacementReader, sibReader, modrmReader, formReader, secondReader, instructionReader, refusalOf, readPart, longestCode, readAt}
-use Rattle.codec.specs.Reasons.{EndsInside, StartsPrefixed, StartsOther, StartsUnlisted, StartsNotAllowed, Reason, three, four, five, six, ReasonAt, two, left}
+use Rattle.codec.specs.Reasons.{EndsInside, StartsPrefixed, StartsOther, StartsUnlisted, StartsNotAllowed, Reason, three, four, five, six, ReasonAt, two, reading}
 use Rattle.codec.specs.Fits.{hasBytes}
 use Rattle.codec.specs.Writes.{bytesOf, writeTo}
 use Rattle.codec.specs.declared.Operand.{Operand}
 use Rattle.codec.specs.declared.Instruction.{Instruction}
-use Rattle.codec.specs.Answers.{Answer, good, refused, wrote, refusedWith}
+use Rattle.codec.specs.Answers.{Decoded, good, refused, wrote, refusedWith}
 use Rattle.codec.proofs.Bytes.{form-passes}
 use Rattle.codec.proofs.Readers.{field-reads, reads-yes, reads-no}
 use Rattle.codec.proofs.Theorems.{reading-is-local}
 
 -- A refusal other than 3 stays, whatever follows
 
-cond-refused : (t : Bool) (x : Answer) (n : ℕ) → cond t x (refused codeEnds) ≡ refused n → ¬ (n ≡ codeEnds) → (t ≡ true) × (x ≡ refused n)
+cond-refused : (t : Bool) (x : Decoded) (n : ℕ) → cond t x (refused codeEnds) ≡ refused n → ¬ (n ≡ codeEnds) → (t ≡ true) × (x ≡ refused n)
 cond-refused true x n e other = (refl, e)
 cond-refused false x n e other = absurd (other (cc))
 
@@ -121,7 +121,7 @@ module _ (form : Form) (first second : ℕ) where
 pub is-inside : (s : List ℕ) → EndsInside s → readPart s ≡ refused codeEnds
 is-inside s x = by (readPart s) refl
   where
-    by : (z : Answer) → readPart s ≡ z → z ≡ refused codeEnds
+    by : (z : Decoded) → readPart s ≡ z → z ≡ refused codeEnds
     by (good i n) e =
         let l = reading-is-local s i n e in
         let same : readPart (s ++ x .more) ≡ good i n =
@@ -281,11 +281,11 @@ reading-exactly code at n = (λ e. by (ltb longestCode (length code)) refl e, ba
     by true t e =
         let same : codeTooLong ≡ n = cc in
         subst (ReasonAt code at) same (two (ltb-true longestCode (length code) t))
-    by false t e = left (ltb-false longestCode (length code) t) (given-exactly (drop at code) n .0 e)
+    by false t e = reading (ltb-false longestCode (length code) t) (given-exactly (drop at code) n .0 e)
 
     back : (code : List ℕ) (at n : ℕ) → ReasonAt code at n → readAt code at ≡ refused n
     back code at n (two h) = simp (lt-ltb longestCode (length code) h)
-    back code at n (left h r) = simp (le-ltb longestCode (length code) h) (is-given (drop at code) n r)
+    back code at n (reading h r) = simp (le-ltb longestCode (length code) h) (is-given (drop at code) n r)
 
 -- 12 is given exactly when the record has bytes, and the buffer is shorter.
 pub twelve-exactly : (i : Instruction) (buffer : List ℕ)

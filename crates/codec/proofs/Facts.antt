@@ -5,9 +5,9 @@ use mathlib.Core.Bool.{Bool, true, false, not, cond, _&&_, false≢true}
 use mathlib.Core.List.{List, [], _∷_}
 use borrow.Author.Tests.{lt-ltb, ltb-true, eqb-true, eq-eqb, not-true}
 use lib.Dec.{eqb, ltb}
-use Rattle.codec.specs.Forms.{Form, isAbsent, hasOperand, allows, immediateSize, accepts}
+use Rattle.codec.specs.Forms.{Form, isAbsent, hasOperand, allows, immediateSize}
 use Rattle.codec.specs.Opcodes.{formAt, escape}
-use Rattle.codec.specs.Packed.{formOf}
+use Rattle.codec.specs.Table.{formOf}
 use Rattle.codec.specs.Operands.{hasSib, displacementSize, noOperand, Fields}
 use Rattle.codec.specs.Fits.{all, fits, sibFits, operandFits, operandIsZero, partsFit, hasBytes}
 use Rattle.codec.specs.declared.Operand.{Operand}
@@ -117,7 +117,6 @@ abbrev partTests : Form → Operand → ℕ → List Bool
 partTests form w v =
     not (isAbsent form)
     ∷ cond (hasOperand form) (allows form (w .mode) (w .reg) (w .rm) && operandFits w) (operandIsZero w)
-    ∷ accepts form v
     ∷ fits (immediateSize form) v
     ∷ []
 
@@ -125,12 +124,12 @@ pub parts : (form : Form) (w : Operand) (v : ℕ) → partsFit form w v ≡ true
 unfolding partsFit
 parts form w v e =
     let h = all-true (partTests form w v) e in
-    record { listed = not-true (isAbsent form) (h .0); operand = h .1 .0; immediate = ltb-true _ _ (h .1 .1 .1 .0) }
+    record { listed = not-true (isAbsent form) (h .0); operand = h .1 .0; immediate = ltb-true _ _ (h .1 .1 .0) }
 
 parts-true : (form : Form) (w : Operand) (v : ℕ) → Parts form w v → partsFit form w v ≡ true
 unfolding partsFit
 parts-true form w v p =
-    true-all (partTests form w v) (ap not (p .listed), (p .operand, (refl, (lt-ltb _ _ (p .immediate), tt))))
+    true-all (partTests form w v) (ap not (p .listed), (p .operand, (lt-ltb _ _ (p .immediate), tt)))
 
 -- a record that has bytes
 pub record Bytewise (i : Instruction) : Type 0 where

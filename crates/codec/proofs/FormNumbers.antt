@@ -6,10 +6,10 @@ use mathlib.Core.List.{List, [], _∷_}
 use native.Mathlib.Omega.{arith}
 use borrow.Author.Tests.{ne-eqb, eqb-true, not-true}
 use lib.Dec.{eqb}
-use lib.ListN.{getD, drop}
 use Rattle.words.proofs.Laws.{and-both}
-use Rattle.codec.specs.Forms.{Use, Slot, reg, rm, rm/mem, Form, mmreg1·mmreg2/mem64, forms, isAbsent, hasOperand, slotAllows, slotsAllow, digitAmong, allows, immediateSize}
-use Rattle.codec.specs.Packed.{formOf}
+use Rattle.codec.specs.Forms.{Use, Slot, reg, rm, rm/mem, Form, isAbsent, hasOperand, slotAllows, slotsAllow, digitAmong, allows, immediateSize}
+use Rattle.codec.specs.Table.{formOf}
+use Rattle.codec.proofs.Bytes.{number-passes}
 use Rattle.codec.proofs.Sizes.{sized-0, sized-1}
 
 -- a form that allows everything
@@ -48,24 +48,12 @@ free-allows form mode digit other e =
     let (a, b) = and-both (areFree (form .operands)) (noDigits (form .digits)) e in
     slots-free (form .operands) (eqb mode 3) _ a (digits-free (form .digits) digit b)
 
--- from a number on, every form passes a test that those of the list pass
-abbrev pub allPass : (Form → Bool) → List Form → Bool
-allPass test [] = test mmreg1·mmreg2/mem64
-allPass test (x ∷ xs) = test x && allPass test xs
-
-pub form-passes-in : (test : Form → Bool) (xs : List Form) (k : ℕ) → allPass test xs ≡ true → test (getD xs k mmreg1·mmreg2/mem64) ≡ true
-form-passes-in test [] k h = h
-form-passes-in test (x ∷ xs) zero h = and-both (test x) (allPass test xs) h .0
-form-passes-in test (x ∷ xs) (suc k) h = form-passes-in test xs k (and-both (test x) (allPass test xs) h .1)
-
 -- past the shifts: any operand, no immediate
 abbrev isPlain : Form → Bool
 isPlain form = isFree form && eqb (immediateSize form) 0
 
 past : (n : ℕ) → 3 < n → isPlain (formOf n) ≡ true
-past n h =
-    subst (λ (k : ℕ). isPlain (formOf k) ≡ true) (let z : suc (suc (suc (suc (n - 4)))) ≡ n = omega arith in z)
-    (form-passes-in isPlain (drop 4 forms) (n - 4) refl)
+past n h = number-passes isPlain 4 n h refl refl
 
 -- a shift's number is 2 or 3
 shifts : (P : ℕ → Type 0) (n : ℕ) → n ≤ 3 → 2 ≤ n → P 2 → P 3 → P n
@@ -75,12 +63,15 @@ shifts P (suc (suc zero)) p q a b = a
 shifts P (suc (suc (suc zero))) p q a b = b
 shifts P (suc (suc (suc (suc k)))) p q a b = absurd (omega arith)
 
+two-up : (n : ℕ) → (n ≡ 0 → ⊥) → (n ≡ 1 → ⊥) → 2 ≤ n
+two-up zero p q = absurd (p refl)
+two-up (suc zero) p q = absurd (q refl)
+two-up (suc (suc k)) p q = omega arith
+
 -- the second byte is in the table, and an operand follows it
 pub with-operand : (n : ℕ) → (n ≡ 0 → ⊥) → (n ≡ 1 → ⊥) → (isAbsent (formOf n) ≡ false) × (hasOperand (formOf n) ≡ true)
-with-operand zero p q = absurd (p refl)
-with-operand (suc zero) p q = absurd (q refl)
-with-operand (suc (suc k)) p q =
-    let (a, b) = and-both _ _ (form-passes-in (λ f. not (isAbsent f) && hasOperand f) (drop 2 forms) k refl) in
+with-operand n p q =
+    let (a, b) = and-both _ _ (number-passes (λ f. not (isAbsent f) && hasOperand f) 2 n (two-up n p q) refl refl) in
     (not-true _ a, b)
 
 pub not-emms : (n : ℕ) → isAbsent (formOf n) ≡ false → (n ≡ 1 → ⊥) → hasOperand (formOf n) ≡ true

@@ -9,9 +9,9 @@ use lib.ListN.{length}
 use Rattle.codec.specs.Refusals.{codeEnds, prefixed, notListed}
 use Rattle.codec.specs.Opcodes.{formAt}
 use Rattle.codec.specs.Reads.{readPart, immediateReader, modrmReader, formReader, refusalOf, secondReader, instructionReader}
-use Rattle.codec.specs.Answers.{Answer, good, refused}
+use Rattle.codec.specs.Answers.{Decoded, good, refused}
 
-abbrev isRefusedBy : ℕ → Answer → Bool
+abbrev isRefusedBy : ℕ → Decoded → Bool
 isRefusedBy n (good i size) = false
 isRefusedBy n (refused m) = eqb m n
 

@@ -10,23 +10,23 @@ use borrow.Author.Tests.{lt-ltb, le-ltb}
 use lib.ListN.{length, drop}
 use Rattle.codec.specs.Refusals.{codeTooLong}
 use Rattle.codec.specs.Opcodes.{formAt}
-use Rattle.codec.specs.Packed.{packedRows}
+use Rattle.codec.specs.Table.{opcodeTable}
 use Rattle.codec.specs.Reader.{Reader, reads}
 use Rattle.codec.specs.Reads.{instructionReader, longestCode, readPart, readAt}
-use Rattle.codec.specs.Lent.{foundIn, findWith}
+use Rattle.codec.specs.Finding.{foundIn, findWith}
 use Rattle.codec.specs.declared.Found.{Found}
-use Rattle.codec.specs.Answers.{Answer, good, refused}
+use Rattle.codec.specs.Answers.{Decoded, good, refused}
 use Rattle.codec.proofs.Readers.{Holds, moved, reads-moved}
 use Rattle.codec.proofs.Given.{Known, Refusal, reads-known}
 use Rattle.codec.proofs.Entries.{same-reader}
 
 module _ (code : List ℕ) (at : ℕ) where
   -- With our table, what is found is the defined reading, as far on as the position.
-  find-ours : findWith packedRows code at ≡ foundIn packedRows (moved at (readPart (drop at code)))
+  find-ours : findWith opcodeTable code at ≡ foundIn opcodeTable (moved at (readPart (drop at code)))
   unfolding findWith
   find-ours =
-      ap (λ (r : Reader). foundIn packedRows (reads r at (drop at code))) same-reader
-      ∙ ap (foundIn packedRows)
+      ap (λ (r : Reader). foundIn opcodeTable (reads r at (drop at code))) same-reader
+      ∙ ap (foundIn opcodeTable)
       (ap (λ (n : ℕ). reads (instructionReader formAt) n (drop at code)) (sym (add-zero at))
       ∙ reads-moved (instructionReader formAt) at 0 (drop at code))
 
@@ -40,7 +40,7 @@ module _ (code : List ℕ) (at : ℕ) where
 
   -- from what was found to the reading z
   module _ (x : Found) where
-    found-good : (z : Answer) → x ≡ foundIn packedRows (moved at z) → Holds (Known formAt) Refusal z → x .refusal ≡ 0
+    found-good : (z : Decoded) → x ≡ foundIn opcodeTable (moved at z) → Holds (Known formAt) Refusal z → x .refusal ≡ 0
         → (at ≤ x .next) × (good (x .instruction) (x .next - at) ≡ z)
     found-good (good i n) e h r =
         let p : x .next ≡ at + n = ap (λ (y : Found). y .next) e in
@@ -51,13 +51,13 @@ module _ (code : List ℕ) (at : ℕ) where
         let p : x .refusal ≡ n = ap (λ (y : Found). y .refusal) e in
         absurd (omega (arith, h .0))
 
-    found-refused : (z : Answer) → x ≡ foundIn packedRows (moved at z) → (x .refusal ≡ 0 → ⊥) → refused (x .refusal) ≡ z
+    found-refused : (z : Decoded) → x ≡ foundIn opcodeTable (moved at z) → (x .refusal ≡ 0 → ⊥) → refused (x .refusal) ≡ z
     found-refused (good i n) e r = absurd (r (ap (λ (y : Found). y .refusal) e))
     found-refused (refused n) e r = ap (λ (y : Found). refused (y .refusal)) e
 
-    module _ (table : List ℕ) (t : table ≡ packedRows) (e : x ≡ findWith table code at) where
-      pub found-ours : (z : Answer) → readPart (drop at code) ≡ z → x ≡ foundIn packedRows (moved at z)
-      found-ours z r = e ∙ ap (λ (l : List ℕ). findWith l code at) t ∙ find-ours ∙ ap (λ (y : Answer). foundIn packedRows (moved at y)) r
+    module _ (table : List ℕ) (t : table ≡ opcodeTable) (e : x ≡ findWith table code at) where
+      pub found-ours : (z : Decoded) → readPart (drop at code) ≡ z → x ≡ foundIn opcodeTable (moved at z)
+      found-ours z r = e ∙ ap (λ (l : List ℕ). findWith l code at) t ∙ find-ours ∙ ap (λ (y : Decoded). foundIn opcodeTable (moved at y)) r
 
       pub read-next : x .refusal ≡ 0 → at ≤ x .next
       read-next r = found-good (readPart (drop at code)) (found-ours _ refl) (reads-known formAt 0 (drop at code)) r .0

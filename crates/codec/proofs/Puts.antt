@@ -14,7 +14,7 @@ use Rattle.codec.specs.Refusals.{noBytes, bufferEnds}
 use Rattle.codec.specs.Answers.{wrote, refusedWith}
 use Rattle.codec.specs.Forms.{Form, immediateSize}
 use Rattle.codec.specs.Opcodes.{formAt}
-use Rattle.codec.specs.Packed.{formOf}
+use Rattle.codec.specs.Table.{formOf}
 use Rattle.codec.specs.Operands.{joined, hasSib, displacementSize, Sized}
 use Rattle.codec.specs.Fits.{hasBytes}
 use Rattle.codec.specs.Writes.{sibBytes, displacementBytes, operandBytes, operandSize, partsBytes, bytesOf, writeTo}

@@ -14,7 +14,7 @@ use Rattle.words.specs.Number.{number}
 use Rattle.codec.specs.Refusals.{codeEnds}
 use Rattle.codec.specs.Reader.{Reader, whole, refuse, byte, field, reads}
 use Rattle.codec.specs.declared.Instruction.{Instruction}
-use Rattle.codec.specs.Answers.{Answer, good, refused}
+use Rattle.codec.specs.Answers.{Decoded, good, refused}
 
 -- a choice that has been made
 module _ (t : Bool) (p q : Reader) (at : ℕ) (s : List ℕ) where
@@ -48,7 +48,7 @@ module _ (P : Instruction → Type 0) (Q : ℕ → Type 0) where
   Every (byte next) = Q codeEnds × ((b : ℕ) → Every (next b))
   Every (field k next) = Q codeEnds × ((v : ℕ) → Every (next v))
 
-  abbrev pub Holds : Answer → Type 0
+  abbrev pub Holds : Decoded → Type 0
   Holds (good i n) = P i
   Holds (refused n) = Q n
 
@@ -56,7 +56,7 @@ module _ (P : Instruction → Type 0) (Q : ℕ → Type 0) where
   every-cond true p q h g = h
   every-cond false p q h g = g
 
-  holds-cond : (t : Bool) (x : Answer) → Holds x → Q codeEnds → Holds (cond t x (refused codeEnds))
+  holds-cond : (t : Bool) (x : Decoded) → Holds x → Q codeEnds → Holds (cond t x (refused codeEnds))
   holds-cond true x h q = h
   holds-cond false x h q = q
 
@@ -77,11 +77,11 @@ every-map P R Q f (byte next) h = (h .0, λ b. every-map P R Q f (next b) (h .1 
 every-map P R Q f (field k next) h = (h .0, λ v. every-map P R Q f (next v) (h .1 v))
 
 -- Where the bytes stand changes the position after them, and nothing else.
-abbrev pub moved : ℕ → Answer → Answer
+abbrev pub moved : ℕ → Decoded → Decoded
 moved a (good i n) = good i (a + n)
 moved a (refused n) = refused n
 
-moved-cond : (t : Bool) (a : ℕ) (x y : Answer) → x ≡ moved a y
+moved-cond : (t : Bool) (a : ℕ) (x y : Decoded) → x ≡ moved a y
     → cond t x (refused codeEnds) ≡ moved a (cond t y (refused codeEnds))
 moved-cond true a x y e = e
 moved-cond false a x y e = refl
@@ -114,7 +114,7 @@ field-reads k from next s t e =
     let h : k ≤ length (s ++ t) = omega (arith, length-append s t) in
     simp (le-leb k (length (s ++ t)) h, take-at s t k e, drop-at s t k e)
 
-cond-read : (t : Bool) (x : Answer) (i : Instruction) (n : ℕ) → cond t x (refused codeEnds) ≡ good i n
+cond-read : (t : Bool) (x : Decoded) (i : Instruction) (n : ℕ) → cond t x (refused codeEnds) ≡ good i n
     → (t ≡ true) × (x ≡ good i n)
 cond-read true x i n e = (refl, e)
 cond-read false x i n e = absurd (false≢true (cc))

@@ -7,7 +7,8 @@ use mathlib.Core.List.{List, [], _∷_}
 use borrow.Author.Tests.{eqb-true}
 use lib.Dec.{eqb}
 use Rattle.codec.specs.Forms.{absent, isAmong, isAbsent, hasOperand, allows}
-use Rattle.codec.specs.Opcodes.{lines, formAt, escape}
+use Rattle.codec.specs.Contents.{lines}
+use Rattle.codec.specs.Opcodes.{formAt, escape}
 use Rattle.codec.specs.Operands.{upper, middle, lower}
 use Rattle.codec.specs.Reasons.{Starts, StartsNotAllowed}
 use Rattle.codec.proofs.FormNumbers.{isFree, free-allows}

@@ -13,14 +13,14 @@ use Rattle.words.specs.Number.{number}
 use Rattle.codec.specs.Refusals.{codeEnds, notListed, notAllowed}
 use Rattle.codec.specs.Forms.{Form, isAbsent, hasOperand, allows, immediateSize}
 use Rattle.codec.specs.Opcodes.{escape}
-use Rattle.codec.specs.Packed.{formOf, formIn}
+use Rattle.codec.specs.Table.{formOf, formIn}
 use Rattle.codec.specs.Operands.{upper, middle, lower, hasSib, displacementSize, operandOf, noOperand, Sized}
 use Rattle.codec.specs.Reader.{Reader, whole, refuse, byte, field, reads}
 use Rattle.codec.specs.Reads.{instructionOf, immediateReader, displacementReader, sibReader, modrmReader, formReader, secondReader, instructionReader, refusalOf}
-use Rattle.codec.specs.Lent.{refusedAs, found, foundIn, findWith}
+use Rattle.codec.specs.Finding.{refusedAs, found, foundIn, findWith}
 use Rattle.codec.specs.declared.Operand.{Operand}
 use Rattle.codec.specs.declared.Found.{Found}
-use Rattle.codec.specs.Answers.{Answer, good, refused}
+use Rattle.codec.specs.Answers.{Decoded, good, refused}
 use Rattle.codec.proofs.Sizes.{byte-there}
 use Rattle.codec.proofs.FormNumbers.{with-operand}
 use Rattle.codec.proofs.Given.{Given, Refusal, Gives, no-registers, immediate-gives, modrm-gives}
@@ -28,7 +28,7 @@ use Rattle.codec.proofs.Readers.{Holds, every, reads-yes, reads-no, dro
 
 -- what is read keeps the second byte, so that the table's entry is that of it
 module _ (table : List ℕ) (second : ℕ) where
-  entry-kept : (x : Answer) → Holds (Given second) Refusal x → found (getD table second 0) x ≡ foundIn table x
+  entry-kept : (x : Decoded) → Holds (Given second) Refusal x → found (getD table second 0) x ≡ foundIn table x
   entry-kept (good i n) h = ap (λ (k : ℕ). found (getD table k 0) (good i n)) (sym (h .kept))
   entry-kept (refused n) h = refl
 

@@ -12,14 +12,14 @@ use Rattle.words.specs.Number.{AllBytes}
 use Rattle.codec.specs.Refusals.{codeTooLong, noBytes, bufferEnds}
 use Rattle.codec.specs.Opcodes.{formAt, escape}
 use Rattle.codec.specs.Operands.{Registers}
-use Rattle.codec.specs.Packed.{formIn}
+use Rattle.codec.specs.Table.{formIn}
 use Rattle.codec.specs.Reader.{reads}
 use Rattle.codec.specs.Reads.{formReader, secondReader, instructionReader, refusalOf, longestCode, readPart, readAt}
-use Rattle.codec.specs.Lent.{foundIn, findWith}
+use Rattle.codec.specs.Finding.{foundIn, findWith}
 use Rattle.codec.specs.Fits.{hasBytes}
 use Rattle.codec.specs.Writes.{bytesOf, writeTo}
 use Rattle.codec.specs.declared.Instruction.{Instruction}
-use Rattle.codec.specs.Answers.{Answer, good, refused, wrote, refusedWith}
+use Rattle.codec.specs.Answers.{Decoded, good, refused, wrote, refusedWith}
 use Rattle.words.proofs.Numbers.{all-drop}
 use Rattle.codec.proofs.Readers.{Holds, own, takes-two}
 use Rattle.codec.proofs.Given.{no-registers, Known, Refusal, reads-known}
@@ -28,7 +28,7 @@ use Rattle.codec.proofs.ReadingBack.{bytes-read, bytes-are-bytes}
 use Rattle.codec.proofs.Ranges.{InRange, has-in-range}
 
 -- a good reading at a position is that of what is left there
-fits-inv : (t : Bool) (z : Answer) (i : Instruction) (n : ℕ) → cond t (refused codeTooLong) z ≡ good i n → z ≡ good i n
+fits-inv : (t : Bool) (z : Decoded) (i : Instruction) (n : ℕ) → cond t (refused codeTooLong) z ≡ good i n → z ≡ good i n
 fits-inv true z i n e = absurd (false≢true (cc))
 fits-inv false z i n e = e
 
@@ -107,6 +107,6 @@ pub found-registers : (table code : List ℕ) (at : ℕ) → Registers (findWith
 unfolding findWith
 found-registers table code at = by (reads (instructionReader (formIn table)) at (drop at code)) (reads-known (formIn table) at (drop at code))
   where
-    by : (z : Answer) → Holds (Known (formIn table)) Refusal z → Registers (foundIn table z .instruction .operand)
+    by : (z : Decoded) → Holds (Known (formIn table)) Refusal z → Registers (foundIn table z .instruction .operand)
     by (good i n) g = g .registers
     by (refused n) g = no-registers

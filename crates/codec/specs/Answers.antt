@@ -8,14 +8,14 @@ use Rattle.codec.specs.declared.Writing.{Writing}
 use Rattle.codec.specs.declared.Writing.the-variants as writing
 
 -- what reading comes to
-pub data Answer : Type 0 where
+pub data Decoded : Type 0 where
   -- the instruction, and how many bytes have been read
-  good : Instruction → ℕ → Answer
+  good : Instruction → ℕ → Decoded
   -- the refusal's number
-  refused : ℕ → Answer
+  refused : ℕ → Decoded
 
 -- the paper's answer for each case of the reader's
-abbrev pub paperOfReading : Reading → Answer
+abbrev pub paperOfReading : Reading → Decoded
 paperOfReading (reading.Read instruction size) = good instruction size
 paperOfReading (reading.Refused refusal) = refused refusal
 

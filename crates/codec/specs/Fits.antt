@@ -3,7 +3,7 @@ use Prim.Native.Nat.{ℕ, _^_}
 use mathlib.Core.List.{List, [], _∷_}
 use mathlib.Core.Bool.{Bool, true, not, _&&_, cond}
 use lib.Dec.{eqb, ltb}
-use Rattle.codec.specs.Forms.{Form, isAbsent, hasOperand, allows, immediateSize, accepts}
+use Rattle.codec.specs.Forms.{Form, isAbsent, hasOperand, allows, immediateSize}
 use Rattle.codec.specs.Opcodes.{formAt, escape}
 use Rattle.codec.specs.Operands.{hasSib, displacementSize}
 use Rattle.codec.specs.declared.Operand.{Operand}
@@ -53,7 +53,6 @@ partsFit form operand immediate =
     ∷ cond (hasOperand form)
     (allows form (operand .mode) (operand .reg) (operand .rm) && operandFits operand)
     (operandIsZero operand)
-    ∷ accepts form immediate
     ∷ fits (immediateSize form) immediate
     ∷ [])
 

@@ -1,5 +1,4 @@
--- The forms of instructions: the operands as the manual writes them, with what each is used for; and what a form says of the parts that follow the two
--- opcode bytes.
+-- The forms of instructions: the operands as the manual writes them, with what each is used for; and what a form says of the bytes after the opcode.
 use Prim.Native.Nat.{ℕ}
 use mathlib.Core.List.{List, [], _∷_}
 use mathlib.Core.Bool.{Bool, true, false, _&&_, _||_}
@@ -7,18 +6,22 @@ use lib.Dec.{eqb}
 use Rattle.codec.specs.declared.Kind.{Kind}
 use Rattle.codec.specs.declared.Kind.the-variants.{Ordinary, Emms}
 
+-- what an instruction does with an operand: `updated` is read and written
 pub data Use : Type 0 where
   read written updated : Use
 
--- the registers that a field names
+-- the eight registers of a sort
 pub data File : Type 0 where
   mmxFile integerFile : File
 
+-- which operand it is
 pub data Slot : Type 0 where
-  -- the register that reg names; that rm names, at mod 11
+  -- the register that reg names; the register that rm names, at mod 11 alone
   reg rm : File → Slot
   -- the register that rm names at mod 11, else so many bytes in memory
   rm/mem : File → ℕ → Slot
+
+-- Operands, in the manual's notation
 
 abbrev pub mmreg1 : Slot
 mmreg1 = reg mmxFile
@@ -36,19 +39,23 @@ abbrev pub reg32/mem32 : Slot
 reg32/mem32 = rm/mem integerFile 4
 
 pub record Form : Type 0 where
-  -- its number in the code's table
+  -- its number in the code's table: 16 and more are a destination and a source, of which r/m names one
   pub number : ℕ
-  -- what reg may be where it is a digit of the opcode; none: anything
+  -- what reg may be where it is a digit of the opcode; none where it names a register
   pub digits : List ℕ
+  -- the destination first
   pub operands : List (Use × Slot)
   -- how many immediate bytes there are
   pub immediate : ℕ
   pub kind : Kind
 
+-- Forms, by their operands in the manual's notation: ← where the destination is not read
+
 -- no instruction
 abbrev pub absent : Form
 absent = record { number = 0; digits = []; operands = []; immediate = 0; kind = Ordinary }
 
+-- EMMS
 abbrev pub alone : Form
 alone = record { number = 1; digits = []; operands = []; immediate = 0; kind = Emms }
 
@@ -59,45 +66,50 @@ mmreg2·imm8/642 = record { number = 2; digits = 6 ∷ 4 ∷ 2 ∷ []; operands 
 abbrev pub mmreg2·imm8/62 : Form
 mmreg2·imm8/62 = record { number = 3; digits = 6 ∷ 2 ∷ []; operands = (updated, mmreg2) ∷ []; immediate = 1; kind = Ordinary }
 
--- an ordinary instruction of a destination and a source; the form's name has ← where the destination is not read
+-- an ordinary instruction of a destination and a source
 abbrev of : ℕ → Use × Slot → Slot → Form
 of number destination source =
     record { number = number; digits = []; operands = destination ∷ (read, source) ∷ []; immediate = 0; kind = Ordinary }
 
 abbrev pub reg32/mem32←mmreg1 : Form
-reg32/mem32←mmreg1 = of 4 (written, reg32/mem32) mmreg1
+reg32/mem32←mmreg1 = of 16 (written, reg32/mem32) mmreg1
 
 abbrev pub mmreg1←reg32/mem32 : Form
-mmreg1←reg32/mem32 = of 5 (written, mmreg1) reg32/mem32
+mmreg1←reg32/mem32 = of 17 (written, mmreg1) reg32/mem32
 
 abbrev pub mmreg2/mem64←mmreg1 : Form
-mmreg2/mem64←mmreg1 = of 6 (written, mmreg2/mem64) mmreg1
-
-abbrev pub mmreg1·mmreg2/mem32 : Form
-mmreg1·mmreg2/mem32 = of 7 (updated, mmreg1) mmreg2/mem32
-
-abbrev pub mmreg1·mmreg2/mem64 : Form
-mmreg1·mmreg2/mem64 = of 8 (updated, mmreg1) mmreg2/mem64
+mmreg2/mem64←mmreg1 = of 18 (written, mmreg2/mem64) mmreg1
 
 abbrev pub mmreg1←mmreg2/mem64 : Form
-mmreg1←mmreg2/mem64 = of 9 (written, mmreg1) mmreg2/mem64
+mmreg1←mmreg2/mem64 = of 19 (written, mmreg1) mmreg2/mem64
 
--- each at its number
+abbrev pub mmreg1·mmreg2/mem32 : Form
+mmreg1·mmreg2/mem32 = of 20 (updated, mmreg1) mmreg2/mem32
+
+abbrev pub mmreg1·mmreg2/mem64 : Form
+mmreg1·mmreg2/mem64 = of 21 (updated, mmreg1) mmreg2/mem64
+
 abbrev pub forms : List Form
-forms = absent ∷ alone ∷ mmreg2·imm8/642 ∷ mmreg2·imm8/62 ∷ reg32/mem32←mmreg1 ∷ mmreg1←reg32/mem32 ∷ mmreg2/mem64←mmreg1 ∷ mmreg1·mmreg2/mem32 ∷ mmreg1·mmreg2/mem64 ∷ mmreg1←mmreg2/mem64 ∷ []
+forms =
+    absent ∷ alone ∷ mmreg2·imm8/642 ∷ mmreg2·imm8/62
+    ∷ reg32/mem32←mmreg1 ∷ mmreg1←reg32/mem32 ∷ mmreg2/mem64←mmreg1 ∷ mmreg1←mmreg2/mem64 ∷ mmreg1·mmreg2/mem32 ∷ mmreg1·mmreg2/mem64 ∷ []
 
 -- What a form says
 
 abbrev pub isAbsent : Form → Bool
 isAbsent form = eqb (form .number) 0
 
-abbrev isAny : List (Use × Slot) → Bool
+abbrev isAny : {A : Type 0} → List A → Bool
 isAny [] = false
 isAny (x ∷ xs) = true
 
 -- whether there is a ModRM byte
 abbrev pub hasOperand : Form → Bool
 hasOperand form = isAny (form .operands)
+
+-- whether its reg is a digit of the opcode
+abbrev pub hasDigits : Form → Bool
+hasDigits form = isAny (form .digits)
 
 abbrev pub isAmong : ℕ → List ℕ → Bool
 isAmong value [] = false
@@ -124,10 +136,6 @@ allows form mode digit other = slotsAllow (form .operands) (eqb mode 3) (digitAm
 
 abbrev pub immediateSize : Form → ℕ
 immediateSize form = form .immediate
-
--- what an immediate may be: any number that fits
-abbrev pub accepts : Form → ℕ → Bool
-accepts form immediate = true
 
 -- the size of the operand in memory, in bytes
 abbrev sizeIn : List (Use × Slot) → ℕ

@@ -2,12 +2,13 @@
 pub mod Refusals
 pub mod Answers
 pub mod Forms
+pub mod Contents
 pub mod Opcodes
-pub mod Packed
+pub mod Table
 pub mod Operands
 pub mod Reader
 pub mod Reads
 pub mod Reasons
-pub mod Lent
+pub mod Finding
 pub mod Fits
 pub mod Writes

@@ -7,7 +7,7 @@ use lib.ListN.{length, take, drop}
 use Rattle.words.specs.Number.{number}
 use Rattle.codec.specs.Refusals.{codeEnds}
 use Rattle.codec.specs.declared.Instruction.{Instruction}
-use Rattle.codec.specs.Answers.{Answer, good, refused}
+use Rattle.codec.specs.Answers.{Decoded, good, refused}
 
 pub data Reader : Type 0 where
   -- nothing: the instruction is whole
@@ -20,7 +20,7 @@ pub data Reader : Type 0 where
   field : ℕ → (ℕ → Reader) → Reader
 
 -- what a reader gives where `at` bytes have been read before and s is left: the instruction and how many bytes have been read then
-abbrev pub reads : Reader → ℕ → List ℕ → Answer
+abbrev pub reads : Reader → ℕ → List ℕ → Decoded
 reads (whole instruction) at s = good instruction at
 reads (refuse refusal) at s = refused refusal
 reads (byte next) at [] = refused codeEnds

@@ -5,13 +5,13 @@ use mathlib.Core.Bool.{cond}
 use lib.Dec.{eqb, ltb}
 use lib.ListN.{length, drop}
 use Rattle.codec.specs.Refusals.{codeTooLong, prefixed, notListed, notAllowed}
-use Rattle.codec.specs.Forms.{Form, isAmong, isAbsent, hasOperand, allows, immediateSize, accepts}
+use Rattle.codec.specs.Forms.{Form, isAmong, isAbsent, hasOperand, allows, immediateSize}
 use Rattle.codec.specs.Opcodes.{formAt, escape, prefixes}
 use Rattle.codec.specs.Operands.{upper, middle, lower, hasSib, displacementSize, operandOf, noOperand}
 use Rattle.codec.specs.Reader.{Reader, whole, refuse, byte, field, reads}
 use Rattle.codec.specs.declared.Operand.{Operand}
 use Rattle.codec.specs.declared.Instruction.{Instruction}
-use Rattle.codec.specs.Answers.{Answer, refused}
+use Rattle.codec.specs.Answers.{Decoded, refused}
 
 abbrev pub instructionOf : ℕ → ℕ → Operand → ℕ → Instruction
 instructionOf first second operand immediate =
@@ -22,8 +22,7 @@ module _ (form : Form) (first second : ℕ) where
   -- the immediate, and then the instruction is whole
   unfoldable pub immediateReader : Operand → Reader
   immediateReader operand =
-      field (immediateSize form)
-      (λ immediate. cond (accepts form immediate) (whole (instructionOf first second operand immediate)) (refuse notListed))
+      field (immediateSize form) (λ immediate. whole (instructionOf first second operand immediate))
 
   -- the displacement, of as many bytes as the ModRM and SIB bytes ask for
   unfoldable pub displacementReader : ℕ → ℕ → Reader
@@ -61,12 +60,12 @@ module _ (formOf : ℕ → Form) where
   instructionReader = byte (λ first. cond (eqb first escape) (secondReader first) (refuse (refusalOf first)))
 
 -- reading what is left of a code: the instruction and its length
-abbrev pub readPart : List ℕ → Answer
+abbrev pub readPart : List ℕ → Decoded
 readPart s = reads (instructionReader formAt) 0 s
 
 abbrev pub longestCode : ℕ
 longestCode = 4096
 
 -- reading at a position of a code
-unfoldable pub readAt : List ℕ → ℕ → Answer
+unfoldable pub readAt : List ℕ → ℕ → Decoded
 readAt code at = cond (ltb longestCode (length code)) (refused codeTooLong) (readPart (drop at code))

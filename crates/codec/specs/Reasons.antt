@@ -55,4 +55,4 @@ pub data Reason : List ℕ → ℕ → Type 0 where
 -- the reason for a number at a position: 2 before all others
 pub data ReasonAt : List ℕ → ℕ → ℕ → Type 0 where
   two : {code : List ℕ} {at : ℕ} → longestCode < length code → ReasonAt code at codeTooLong
-  left : {code : List ℕ} {at n : ℕ} → length code ≤ longestCode → Reason (drop at code) n → ReasonAt code at n
+  reading : {code : List ℕ} {at n : ℕ} → length code ≤ longestCode → Reason (drop at code) n → ReasonAt code at n

@@ -1,18 +1,18 @@
 // Which parts an instruction has: the fields of its ModRM and SIB bytes, the sizes of its displacement and its immediate.
-use crate::numbers::BYTE_DISPLACEMENT;
-use crate::numbers::LEFT;
-use crate::numbers::LONG_DISPLACEMENT;
-use crate::numbers::NO_BASE;
-use crate::numbers::NO_DISPLACEMENT;
-use crate::numbers::REGISTER;
-use crate::numbers::RIGHT;
-use crate::numbers::RIGHT_SIGNED;
-use crate::numbers::SHIFT_Q;
-use crate::numbers::SHIFT_WD;
-use crate::numbers::SIB;
+use crate::forms::LEFT;
+use crate::forms::RIGHT;
+use crate::forms::RIGHT_SIGNED;
+use crate::forms::SHIFT_Q;
+use crate::forms::SHIFT_WD;
+use crate::modes::BYTE_DISPLACEMENT;
+use crate::modes::LONG_DISPLACEMENT;
+use crate::modes::NO_BASE;
+use crate::modes::NO_DISPLACEMENT;
+use crate::modes::REGISTER;
+use crate::modes::SIB;
 ghost use mathlib.Core.Path.{_≡_};
 ghost use Rattle.codec.specs.Forms.{allows, immediateSize};
-ghost use Rattle.codec.specs.Packed.{formOf};
+ghost use Rattle.codec.specs.Table.{formOf};
 ghost use Rattle.codec.specs.Operands.{hasSib, displacementSize, Sized};
 
 // The places of the upper and the middle field of a ModRM or SIB byte, and how many values the lower two have.

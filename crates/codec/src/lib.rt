@@ -1,24 +1,26 @@
 // MMX instruction bytes to records and back: the records, the answers, and the table, the reader and the writer for other crates.
 ghost use mathlib.Core.Path.{_≡_};
 ghost use Rattle.codec.specs.Answers.{paperOfReading, paperOfWriting};
-ghost use Rattle.codec.specs.Packed.{packedRows};
+ghost use Rattle.codec.specs.Table.{opcodeTable};
 ghost use Rattle.codec.specs.Reads.{readAt};
-ghost use Rattle.codec.specs.Lent.{findWith};
+ghost use Rattle.codec.specs.Finding.{findWith};
 ghost use Rattle.codec.specs.Writes.{writeTo};
 
 mod fields;
-pub mod numbers;
+pub mod forms;
+pub mod modes;
 mod opcodes;
 mod prefixes;
 mod reader;
+pub mod refusals;
 mod writer;
 
-use numbers::BUFFER_ENDS;
-use numbers::CODE_ENDS;
-use numbers::CODE_TOO_LONG;
-use numbers::ESCAPE;
-use numbers::LONGEST_CODE;
-use numbers::NO_BYTES;
+use prefixes::ESCAPE;
+use refusals::BUFFER_ENDS;
+use refusals::CODE_ENDS;
+use refusals::CODE_TOO_LONG;
+use refusals::LONGEST_CODE;
+use refusals::NO_BYTES;
 
 // The fields of the ModRM byte and of the SIB byte, and the displacement, as they stood; a field that is not there is 0.
 pub struct Operand {
@@ -67,7 +69,7 @@ pub struct Found {
 
 // The table of opcodes, for whoever starts reading: it is made here, and lent from then on.
 pub fn table() -> [u32; 256]
-    ensures { λ r. ⌜ r ≡ packedRows ⌝ }
+    ensures { λ r. ⌜ r ≡ opcodeTable ⌝ }
 {
     opcodes::TABLE
 }

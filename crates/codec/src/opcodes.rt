@@ -1,9 +1,22 @@
-// The table of second bytes: form, operand size in bytes, nothing and operation, of a byte each; of 71 to 73 the form and the operations of /2, /4, /6.
-use crate::numbers::FORM;
+// The table of second bytes, and what is looked up in it.
+use crate::forms::ABSENT;
+use crate::forms::EMMS;
+use crate::forms::FORM;
+use crate::forms::LOAD_D;
+use crate::forms::LOAD_Q;
+use crate::forms::LOW;
+use crate::forms::RIGHT_PLACE;
+use crate::forms::SHIFT_Q;
+use crate::forms::SHIFT_WD;
+use crate::forms::SIGNED_PLACE;
+use crate::forms::SIZE;
+use crate::forms::STORE_D;
+use crate::forms::STORE_Q;
+use crate::forms::USUAL;
 ghost use mathlib.Core.Path.{_≡_};
 ghost use lib.ListN.{getD};
 ghost use Rattle.codec.specs.Opcodes.{formAt};
-ghost use Rattle.codec.specs.Packed.{formOf};
+ghost use Rattle.codec.specs.Table.{formOf};
 
 // The entry of a second byte, in a table that is lent.
 pub(crate) fn entry_in(table: &[u32; 256], second: u8) -> u32
@@ -19,10 +32,49 @@ pub(crate) fn form_for(second: u8) -> u32
     TABLE[second as usize] / FORM
 }
 
-// The entry of a byte that the table has not: it keeps its destination, and its form is 0.
-const NONE: u32 = 0xff;
+// An entry up to its operation: the form and the operand's size in memory. MOVD and MOVQ to r/m and from it, and what computes with the operand of r/m.
+const STORE_DOUBLEWORD: u32 = STORE_D * FORM + DOUBLEWORD * SIZE;
 
+const LOAD_DOUBLEWORD: u32 = LOAD_D * FORM + DOUBLEWORD * SIZE;
+
+const STORE_QUADWORD: u32 = STORE_Q * FORM + QUADWORD * SIZE;
+
+const LOAD_QUADWORD: u32 = LOAD_Q * FORM + QUADWORD * SIZE;
+
+const WITH_DOUBLEWORD: u32 = LOW * FORM + DOUBLEWORD * SIZE;
+
+const WITH_QUADWORD: u32 = USUAL * FORM + QUADWORD * SIZE;
+
+// The sizes, in bytes.
+const DOUBLEWORD: u32 = 4;
+
+const QUADWORD: u32 = 8;
+
+// The shifts by an immediate, with the operations of /2, /4 and /6.
+const SHIFT_WORD: u32 = SHIFT_WD * FORM
+    + lanes::PSRLW as u32 * RIGHT_PLACE
+    + lanes::PSRAW as u32 * SIGNED_PLACE
+    + lanes::PSLLW as u32;
+
+const SHIFT_DOUBLEWORD: u32 = SHIFT_WD * FORM
+    + lanes::PSRLD as u32 * RIGHT_PLACE
+    + lanes::PSRAD as u32 * SIGNED_PLACE
+    + lanes::PSLLD as u32;
+
+const SHIFT_QUADWORD: u32 = SHIFT_Q * FORM
+    + lanes::PSRLQ as u32 * RIGHT_PLACE
+    + lanes::KEEP as u32 * SIGNED_PLACE
+    + lanes::PSLLQ as u32;
+
+// EMMS computes nothing.
+const EMMS_ALONE: u32 = EMMS * FORM + lanes::KEEP as u32;
+
+// A byte that the table has not.
+const NONE: u32 = ABSENT * FORM + lanes::KEEP as u32;
+
+// By the second byte, sixteen after each comment.
 pub(crate) const TABLE: [u32; 256] = [
+    // 00
     NONE,
     NONE,
     NONE,
@@ -39,6 +91,7 @@ pub(crate) const TABLE: [u32; 256] = [
     NONE,
     NONE,
     NONE,
+    // 10
     NONE,
     NONE,
     NONE,
@@ -55,6 +108,7 @@ pub(crate) const TABLE: [u32; 256] = [
     NONE,
     NONE,
     NONE,
+    // 20
     NONE,
     NONE,
     NONE,
@@ -71,6 +125,7 @@ pub(crate) const TABLE: [u32; 256] = [
     NONE,
     NONE,
     NONE,
+    // 30
     NONE,
     NONE,
     NONE,
@@ -87,6 +142,7 @@ pub(crate) const TABLE: [u32; 256] = [
     NONE,
     NONE,
     NONE,
+    // 40
     NONE,
     NONE,
     NONE,
@@ -103,6 +159,7 @@ pub(crate) const TABLE: [u32; 256] = [
     NONE,
     NONE,
     NONE,
+    // 50
     NONE,
     NONE,
     NONE,
@@ -119,38 +176,41 @@ pub(crate) const TABLE: [u32; 256] = [
     NONE,
     NONE,
     NONE,
-    0x7040000,
-    0x7040001,
-    0x7040002,
-    0x8080003,
-    0x8080006,
-    0x8080007,
-    0x8080008,
-    0x8080004,
-    0x8080009,
-    0x808000a,
-    0x808000b,
-    0x8080005,
+    // 60
+    WITH_DOUBLEWORD + lanes::PUNPCKLBW as u32,
+    WITH_DOUBLEWORD + lanes::PUNPCKLWD as u32,
+    WITH_DOUBLEWORD + lanes::PUNPCKLDQ as u32,
+    WITH_QUADWORD + lanes::PACKSSWB as u32,
+    WITH_QUADWORD + lanes::PCMPGTB as u32,
+    WITH_QUADWORD + lanes::PCMPGTW as u32,
+    WITH_QUADWORD + lanes::PCMPGTD as u32,
+    WITH_QUADWORD + lanes::PACKUSWB as u32,
+    WITH_QUADWORD + lanes::PUNPCKHBW as u32,
+    WITH_QUADWORD + lanes::PUNPCKHWD as u32,
+    WITH_QUADWORD + lanes::PUNPCKHDQ as u32,
+    WITH_QUADWORD + lanes::PACKSSDW as u32,
     NONE,
     NONE,
-    0x504000c,
-    0x908000c,
+    LOAD_DOUBLEWORD + lanes::MOVE as u32,
+    LOAD_QUADWORD + lanes::MOVE as u32,
+    // 70
     NONE,
-    0x2101315,
-    0x2111416,
-    0x312ff17,
-    0x808000d,
-    0x808000e,
-    0x808000f,
-    0x10000ff,
+    SHIFT_WORD,
+    SHIFT_DOUBLEWORD,
+    SHIFT_QUADWORD,
+    WITH_QUADWORD + lanes::PCMPEQB as u32,
+    WITH_QUADWORD + lanes::PCMPEQW as u32,
+    WITH_QUADWORD + lanes::PCMPEQD as u32,
+    EMMS_ALONE,
     NONE,
     NONE,
     NONE,
     NONE,
     NONE,
     NONE,
-    0x404000c,
-    0x608000c,
+    STORE_DOUBLEWORD + lanes::MOVE as u32,
+    STORE_QUADWORD + lanes::MOVE as u32,
+    // 80
     NONE,
     NONE,
     NONE,
@@ -167,6 +227,7 @@ pub(crate) const TABLE: [u32; 256] = [
     NONE,
     NONE,
     NONE,
+    // 90
     NONE,
     NONE,
     NONE,
@@ -183,6 +244,7 @@ pub(crate) const TABLE: [u32; 256] = [
     NONE,
     NONE,
     NONE,
+    // a0
     NONE,
     NONE,
     NONE,
@@ -199,6 +261,7 @@ pub(crate) const TABLE: [u32; 256] = [
     NONE,
     NONE,
     NONE,
+    // b0
     NONE,
     NONE,
     NONE,
@@ -215,6 +278,7 @@ pub(crate) const TABLE: [u32; 256] = [
     NONE,
     NONE,
     NONE,
+    // c0
     NONE,
     NONE,
     NONE,
@@ -231,52 +295,55 @@ pub(crate) const TABLE: [u32; 256] = [
     NONE,
     NONE,
     NONE,
+    // d0
     NONE,
-    0x8080010,
-    0x8080011,
-    0x8080012,
+    WITH_QUADWORD + lanes::PSRLW as u32,
+    WITH_QUADWORD + lanes::PSRLD as u32,
+    WITH_QUADWORD + lanes::PSRLQ as u32,
     NONE,
-    0x8080018,
+    WITH_QUADWORD + lanes::PMULLW as u32,
     NONE,
     NONE,
-    0x808001b,
-    0x808001c,
+    WITH_QUADWORD + lanes::PSUBUSB as u32,
+    WITH_QUADWORD + lanes::PSUBUSW as u32,
     NONE,
-    0x8080023,
-    0x808001d,
-    0x808001e,
+    WITH_QUADWORD + lanes::PAND as u32,
+    WITH_QUADWORD + lanes::PADDUSB as u32,
+    WITH_QUADWORD + lanes::PADDUSW as u32,
     NONE,
-    0x8080024,
+    WITH_QUADWORD + lanes::PANDN as u32,
+    // e0
     NONE,
-    0x8080013,
-    0x8080014,
+    WITH_QUADWORD + lanes::PSRAW as u32,
+    WITH_QUADWORD + lanes::PSRAD as u32,
     NONE,
     NONE,
-    0x8080019,
+    WITH_QUADWORD + lanes::PMULHW as u32,
     NONE,
     NONE,
-    0x808001f,
-    0x8080020,
+    WITH_QUADWORD + lanes::PSUBSB as u32,
+    WITH_QUADWORD + lanes::PSUBSW as u32,
     NONE,
-    0x8080025,
-    0x8080021,
-    0x8080022,
+    WITH_QUADWORD + lanes::POR as u32,
+    WITH_QUADWORD + lanes::PADDSB as u32,
+    WITH_QUADWORD + lanes::PADDSW as u32,
     NONE,
-    0x8080026,
+    WITH_QUADWORD + lanes::PXOR as u32,
+    // f0
     NONE,
-    0x8080015,
-    0x8080016,
-    0x8080017,
+    WITH_QUADWORD + lanes::PSLLW as u32,
+    WITH_QUADWORD + lanes::PSLLD as u32,
+    WITH_QUADWORD + lanes::PSLLQ as u32,
     NONE,
-    0x808001a,
+    WITH_QUADWORD + lanes::PMADDWD as u32,
     NONE,
     NONE,
-    0x8080027,
-    0x8080028,
-    0x8080029,
+    WITH_QUADWORD + lanes::PSUBB as u32,
+    WITH_QUADWORD + lanes::PSUBW as u32,
+    WITH_QUADWORD + lanes::PSUBD as u32,
     NONE,
-    0x808002a,
-    0x808002b,
-    0x808002c,
+    WITH_QUADWORD + lanes::PADDB as u32,
+    WITH_QUADWORD + lanes::PADDW as u32,
+    WITH_QUADWORD + lanes::PADDD as u32,
     NONE,
 ];

@@ -1,8 +1,11 @@
-// The first bytes that are refused: the prefixes by 4, every other by 5.
-use crate::numbers::NOT_LISTED;
-use crate::numbers::PREFIXED;
+// The first byte: 0F, or why another is refused, the prefixes by 4, every other by 5.
+use crate::refusals::NOT_LISTED;
+use crate::refusals::PREFIXED;
 ghost use mathlib.Core.Path.{_≡_};
 ghost use Rattle.codec.specs.Reads.{refusalOf};
+
+// The first byte of every opcode.
+pub(crate) const ESCAPE: u8 = 0x0f;
 
 // The segment prefixes.
 const ES: u8 = 0x26;

@@ -3,10 +3,10 @@ use codec::Instruction;
 use codec::Operand;
 use codec::Reading;
 use codec::Writing;
-use codec::numbers::LONGEST_CODE;
-use codec::numbers::PREFIXED;
-use codec::numbers::REGISTER;
-use codec::numbers::SIB;
+use codec::modes::REGISTER;
+use codec::modes::SIB;
+use codec::refusals::LONGEST_CODE;
+use codec::refusals::PREFIXED;
 use libc::STDOUT_FILENO;
 use std::num::wrapping_add_u64;
 

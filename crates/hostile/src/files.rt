@@ -8,7 +8,7 @@ use crate::dice::roll;
 use crate::put::put;
 use crate::put::put_random;
 use crate::put::put_small;
-use codec::numbers::LONGEST_CODE;
+use codec::refusals::LONGEST_CODE;
 use machine::numbers::LONGEST_MEMORY;
 use pagefile::LONGEST_FILE;
 

@@ -34,37 +34,37 @@ use sums::subtract_signed;
 use sums::subtract_unsigned;
 
 // The operations' numbers, in the order of the table of opcode bytes.
-const PUNPCKLBW: u8 = 0;
+pub const PUNPCKLBW: u8 = 0;
 
-const PUNPCKLWD: u8 = 1;
+pub const PUNPCKLWD: u8 = 1;
 
-const PUNPCKLDQ: u8 = 2;
+pub const PUNPCKLDQ: u8 = 2;
 
-const PACKSSWB: u8 = 3;
+pub const PACKSSWB: u8 = 3;
 
-const PACKUSWB: u8 = 4;
+pub const PACKUSWB: u8 = 4;
 
-const PACKSSDW: u8 = 5;
+pub const PACKSSDW: u8 = 5;
 
-const PCMPGTB: u8 = 6;
+pub const PCMPGTB: u8 = 6;
 
-const PCMPGTW: u8 = 7;
+pub const PCMPGTW: u8 = 7;
 
-const PCMPGTD: u8 = 8;
+pub const PCMPGTD: u8 = 8;
 
-const PUNPCKHBW: u8 = 9;
+pub const PUNPCKHBW: u8 = 9;
 
-const PUNPCKHWD: u8 = 10;
+pub const PUNPCKHWD: u8 = 10;
 
-const PUNPCKHDQ: u8 = 11;
+pub const PUNPCKHDQ: u8 = 11;
 
 pub const MOVE: u8 = 12;
 
-const PCMPEQB: u8 = 13;
+pub const PCMPEQB: u8 = 13;
 
-const PCMPEQW: u8 = 14;
+pub const PCMPEQW: u8 = 14;
 
-const PCMPEQD: u8 = 15;
+pub const PCMPEQD: u8 = 15;
 
 pub const PSRLW: u8 = 16;
 
@@ -82,47 +82,47 @@ pub const PSLLD: u8 = 22;
 
 pub const PSLLQ: u8 = 23;
 
-const PMULLW: u8 = 24;
+pub const PMULLW: u8 = 24;
 
-const PMULHW: u8 = 25;
+pub const PMULHW: u8 = 25;
 
-const PMADDWD: u8 = 26;
+pub const PMADDWD: u8 = 26;
 
-const PSUBUSB: u8 = 27;
+pub const PSUBUSB: u8 = 27;
 
-const PSUBUSW: u8 = 28;
+pub const PSUBUSW: u8 = 28;
 
-const PADDUSB: u8 = 29;
+pub const PADDUSB: u8 = 29;
 
-const PADDUSW: u8 = 30;
+pub const PADDUSW: u8 = 30;
 
-const PSUBSB: u8 = 31;
+pub const PSUBSB: u8 = 31;
 
-const PSUBSW: u8 = 32;
+pub const PSUBSW: u8 = 32;
 
-const PADDSB: u8 = 33;
+pub const PADDSB: u8 = 33;
 
-const PADDSW: u8 = 34;
+pub const PADDSW: u8 = 34;
 
-const PAND: u8 = 35;
+pub const PAND: u8 = 35;
 
-const PANDN: u8 = 36;
+pub const PANDN: u8 = 36;
 
-const POR: u8 = 37;
+pub const POR: u8 = 37;
 
-const PXOR: u8 = 38;
+pub const PXOR: u8 = 38;
 
-const PSUBB: u8 = 39;
+pub const PSUBB: u8 = 39;
 
-const PSUBW: u8 = 40;
+pub const PSUBW: u8 = 40;
 
-const PSUBD: u8 = 41;
+pub const PSUBD: u8 = 41;
 
-const PADDB: u8 = 42;
+pub const PADDB: u8 = 42;
 
-const PADDW: u8 = 43;
+pub const PADDW: u8 = 43;
 
-const PADDD: u8 = 44;
+pub const PADDD: u8 = 44;
 
 // No place in the list: a number that names none.
 pub const KEEP: u8 = 255;

@@ -9,11 +9,11 @@ use lib.ListN.{length, drop}
 use Rattle.reorder.specs.Result.{caseOf}
 use Rattle.codec.specs.Opcodes.{formAt}
 use Rattle.codec.specs.Operands.{Registers}
-use Rattle.codec.specs.Packed.{packedRows}
+use Rattle.codec.specs.Table.{opcodeTable}
 use Rattle.codec.specs.Reads.{longestCode, readPart}
-use Rattle.codec.specs.Lent.{foundIn, findWith}
+use Rattle.codec.specs.Finding.{foundIn, findWith}
 use Rattle.codec.specs.declared.Found.{Found}
-use Rattle.codec.specs.Answers.{Answer, good, refused}
+use Rattle.codec.specs.Answers.{Decoded, good, refused}
 use Rattle.codec.proofs.Readers.{Holds, moved}
 use Rattle.codec.proofs.Given.{Known, Refusal, reads-known}
 use Rattle.codec.proofs.OurTable.{found-ours}
@@ -33,9 +33,9 @@ use Rattle.machine.proofs.Listing.{row-listed, effect-is}
 use Rattle.machine.proofs.Soundness.{sound-refusal}
 use Rattle.machine.proofs.Testing.{unbarred-by, barred-by}
 
-module _ (table code : List ℕ) (at : ℕ) (x : Found) (ours : table ≡ packedRows) (e : x ≡ findWith table code at) where
+module _ (table code : List ℕ) (at : ℕ) (x : Found) (ours : table ≡ opcodeTable) (e : x ≡ findWith table code at) where
   -- what is found is the defined reading, as far on as the position
-  found-is : (z : Answer) → readPart (drop at code) ≡ z → x ≡ foundIn packedRows (moved at z)
+  found-is : (z : Decoded) → readPart (drop at code) ≡ z → x ≡ foundIn opcodeTable (moved at z)
   found-is = found-ours code at x table ours e
 
   pub names-registers : Registers (x .instruction .operand)
@@ -44,7 +44,7 @@ module _ (table code : List ℕ) (at : ℕ) (x : Found) (ours : table ≡ packed
   pub is-listed : x .refusal ≡ 0 → Listed (x .entry)
   is-listed h = by (readPart (drop at code)) refl (reads-known formAt 0 (drop at code))
     where
-      by : (z : Answer) → readPart (drop at code) ≡ z → Holds (Known formAt) Refusal z → Listed (x .entry)
+      by : (z : Decoded) → readPart (drop at code) ≡ z → Holds (Known formAt) Refusal z → Listed (x .entry)
       by (good i n) r g =
           subst (λ (y : Found). Listed (y .entry)) (sym (found-is (good i n) r)) (row-listed (i .second) (g .present))
       by (refused n) r g =
@@ -56,7 +56,7 @@ module _ (table code : List ℕ) (at : ℕ) (x : Found) (ours : table ≡ packed
     abbrev s : State
     s = stateOf (machineOf registers integers marks) m
 
-    step-reads : (z : Answer) → readPart (drop at code) ≡ z
+    step-reads : (z : Decoded) → readPart (drop at code) ≡ z
         → stepAt code at s
         ≡ caseOf (resultOf z) (λ n. refusedWith n at s) (λ r. concluded at (at + r .size) s (execute (r .instruction) s))
     unfolding stepAt read
@@ -67,7 +67,7 @@ module _ (table code : List ℕ) (at : ℕ) (x : Found) (ours : table ≡ packed
     unfolding performed
     gathered-unread work h w = subst (λ (y : Work). Gathered y registers integers marks code at m) (sym w) (by (readPart (drop at code)) refl)
       where
-        by : (z : Answer) → readPart (drop at code) ≡ z → Gathered (refusedWork (x .refusal)) registers integers marks code at m
+        by : (z : Decoded) → readPart (drop at code) ≡ z → Gathered (refusedWork (x .refusal)) registers integers marks code at m
         by (good i n) r =
             absurd (h (ap (λ (y : Found). y .refusal) (found-is (good i n) r)))
         by (refused n) r =
@@ -80,7 +80,7 @@ module _ (table code : List ℕ) (at : ℕ) (x : Found) (ours : table ≡ packed
       unfolding execute
       step-found = by (readPart (drop at code)) refl (reads-known formAt 0 (drop at code))
         where
-          by : (z : Answer) → readPart (drop at code) ≡ z → Holds (Known formAt) Refusal z
+          by : (z : Decoded) → readPart (drop at code) ≡ z → Holds (Known formAt) Refusal z
               → stepAt code at s ≡ concluded at (x .next) s (unlessMarked (marks .em) (marks .ts) (marks .pending) (directly (effectIn (x .entry) (x .instruction)) s))
           by (good i n) r g =
               step-reads (good i n) r

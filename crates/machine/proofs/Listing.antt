@@ -9,11 +9,11 @@ use borrow.Author.Tests.{ltb-true, ltb-false, le-ltb, eqb-true}
 use lib.Dec.{eqb, ltb}
 use lib.ListN.{length, getD, drop}
 use Rattle.lanes.specs.Operations.{Operation, operationOf, numbered, MOVE}
-use Rattle.codec.specs.Answers.{Answer, good, refused, paperOfReading}
+use Rattle.codec.specs.Answers.{Decoded, good, refused, paperOfReading}
 use Rattle.codec.specs.Forms.{Form, isAbsent, memorySize}
 use Rattle.codec.specs.Opcodes.{formAt, operationAt}
 use Rattle.codec.specs.Operands.{Registers}
-use Rattle.codec.specs.Packed.{formOf, packed, listed, packedRows, operationIn}
+use Rattle.codec.specs.Table.{formOf, entryAt, listed, opcodeTable, operationIn}
 use Rattle.codec.specs.Reads.{readPart, longestCode, readAt}
 use Rattle.codec.specs.Refusals.{codeTooLong}
 use Rattle.codec.specs.declared.Instruction.{Instruction}
@@ -22,7 +22,7 @@ use Rattle.codec.specs.declared.Reading.the-variants.{Read}
 use Rattle.words.proofs.Laws.{and-both}
 use Rattle.codec.proofs.Readers.{Holds}
 use Rattle.codec.proofs.Given.{Known, Refusal, reads-known}
-use Rattle.codec.proofs.Entries.{agree, packed-row, form-is, operation-is}
+use Rattle.codec.proofs.Entries.{agree, table-entry, form-is, operation-is}
 use Rattle.codec.proofs.Bytes.{form-beyond}
 use Rattle.manual.specs.Instructions.{effectBy, effectOf}
 use Rattle.machine.specs.Works.{effectIn, isMove, Listed}
@@ -33,7 +33,7 @@ isListed number =
     (ltb (number / 2 ^ 24) 4 || eqb (number / 2 ^ 16 % 256) (memorySize (formOf (number / 2 ^ 24))))
     && (not (isMove (formOf (number / 2 ^ 24))) || eqb (number % 256) (numbered MOVE .0))
 
-all-listed : listed (λ k. isListed (packed k)) 0 256 ≡ listed (λ k. true) 0 256
+all-listed : listed (λ k. isListed (entryAt k)) 0 256 ≡ listed (λ k. true) 0 256
 unfolding formAt operationAt
 all-listed = refl
 
@@ -47,27 +47,27 @@ number-listed number h p =
     }
 
 -- a second byte whose form is there has a number that is listed
-pub row-listed : (second : ℕ) → isAbsent (formAt second) ≡ false → Listed (getD packedRows second 0)
+pub row-listed : (second : ℕ) → isAbsent (formAt second) ≡ false → Listed (getD opcodeTable second 0)
 row-listed second e = by (ltb second 256) refl
   where
-    by : (t : Bool) → ltb second 256 ≡ t → Listed (getD packedRows second 0)
+    by : (t : Bool) → ltb second 256 ≡ t → Listed (getD opcodeTable second 0)
     by true h =
         let fits = ltb-true second 256 h in
-        number-listed (getD packedRows second 0)
-        (ap isListed (packed-row second fits) ∙ agree (λ k. isListed (packed k)) (λ k. true) true 256 second all-listed fits)
+        number-listed (getD opcodeTable second 0)
+        (ap isListed (table-entry second fits) ∙ agree (λ k. isListed (entryAt k)) (λ k. true) true 256 second all-listed fits)
         (λ z. false≢true (sym e ∙ ap isAbsent (sym (form-is second)) ∙ ap (λ (n : ℕ). isAbsent (formOf n)) z))
     by false h = absurd (false≢true (sym e ∙ ap isAbsent (form-beyond second (ltb-false second 256 h))))
 
 -- our table's number has the instruction's effect
-pub effect-is : (i : Instruction) → Registers (i .operand) → effectIn (getD packedRows (i .second) 0) i ≡ effectOf i
+pub effect-is : (i : Instruction) → Registers (i .operand) → effectIn (getD opcodeTable (i .second) 0) i ≡ effectOf i
 unfolding effectOf
 effect-is i r = by (ltb (i .second) 256) refl
   where
-    by : (t : Bool) → ltb (i .second) 256 ≡ t → effectIn (getD packedRows (i .second) 0) i ≡ effectBy (formAt (i .second)) (operationAt (i .second) (i .operand .reg)) i
+    by : (t : Bool) → ltb (i .second) 256 ≡ t → effectIn (getD opcodeTable (i .second) 0) i ≡ effectBy (formAt (i .second)) (operationAt (i .second) (i .operand .reg)) i
     by true h = ap₂ (λ (f : Form) (o : Operation). effectBy f o i) (form-is (i .second)) (operation-is (i .second) (i .operand .reg) (ltb-true (i .second) 256 h) (r .reg))
     by false h =
         let none = form-beyond (i .second) (ltb-false (i .second) 256 h) in
-        ap (λ (f : Form). effectBy f (operationIn (getD packedRows (i .second) 0) (i .operand .reg)) i) (form-is (i .second) ∙ none)
+        ap (λ (f : Form). effectBy f (operationIn (getD opcodeTable (i .second) 0) (i .operand .reg)) i) (form-is (i .second) ∙ none)
         ∙ ap (λ (f : Form). effectBy f (operationAt (i .second) (i .operand .reg)) i) (sym none)
 
 -- the same at a position of a code
@@ -76,18 +76,18 @@ module _ (code : List ℕ) (at : ℕ) (x : Reading) (e : paperOfReading x ≡ re
   unfolding readAt
   read-known = by (ltb longestCode (length code)) (readPart (drop at code)) (reads-known formAt 0 (drop at code)) (sym e ∙ ap paperOfReading r)
     where
-      by : (t : Bool) (z : Answer) → Holds (Known formAt) Refusal z → cond t (refused codeTooLong) z ≡ good i n → Known formAt i
+      by : (t : Bool) (z : Decoded) → Holds (Known formAt) Refusal z → cond t (refused codeTooLong) z ≡ good i n → Known formAt i
       by true z h e = absurd (false≢true (cc))
       by false z h e = subst (Holds (Known formAt) Refusal) e h
 
   pub read-registers : Registers (i .operand)
   read-registers = read-known .registers
 
-  pub read-listed : Listed (getD packedRows (i .second) 0)
+  pub read-listed : Listed (getD opcodeTable (i .second) 0)
   read-listed = row-listed (i .second) (read-known .present)
 
 -- the table that is lent has it
-pub looked-up : (table : List ℕ) (second : ℕ) → table ≡ packedRows → getD table second 0 ≡ getD packedRows second 0
+pub looked-up : (table : List ℕ) (second : ℕ) → table ≡ opcodeTable → getD table second 0 ≡ getD opcodeTable second 0
 looked-up table second e = ap (λ (t : List ℕ). getD t second 0) e
 
 pub ruleset looking-up = (needs, looked-up)

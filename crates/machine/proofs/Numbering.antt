@@ -9,7 +9,7 @@ use lib.ListN.{drop}
 use Rattle.words.proofs.Laws.{and-both}
 use Rattle.codec.proofs.FormNumbers.{allPass, form-passes-in}
 use Rattle.codec.specs.Forms.{File, mmxFile, integerFile, Form, mmreg2·imm8/642, mmreg2·imm8/62, reg32/mem32←mmreg1, mmreg1←reg32/mem32, mmreg2/mem64←mmreg1, mmreg1·mmreg2/mem32, mmreg1·mmreg2/mem64, mmreg1←mmreg2/mem64, forms, memorySize}
-use Rattle.codec.specs.Packed.{formOf}
+use Rattle.codec.specs.Table.{formOf}
 use Rattle.machine.specs.Works.{fileIn}
 
 -- the forms with two operands

@@ -7,7 +7,7 @@ use mathlib.Core.List.{List, List·Memᴰ as In}
 use Prim.Native.Nat.{ℕ, _+_, _≤_, _<_}
 use Rattle.reorder.specs.Result.{Result, done, refused, andThen}
 use Rattle.reorder.specs.Footprint as places
-use Rattle.reorder.specs.Run.{Reading, positionReached, stateReached}
+use Rattle.reorder.specs.Run.{Fetched, positionReached, stateReached}
 use Rattle.codec.specs.declared.Instruction.{Instruction}
 use Rattle.codec.specs.declared.Kind.{Kind}
 use Rattle.manual.specs.State.{State}
@@ -22,7 +22,7 @@ use Rattle.machine.proofs.Ranges.{OneRange, RangedPrint, ranged}
 use Rattle.machine.proofs.Printing.{byte-printed}
 use Rattle.machine.proofs.Meeting.{meet-exactly}
 
-ranged-reading : (o : Result (Reading Instruction)) (s : State) → RangedPrint (andThen o (λ r. footprint (r .instruction) s))
+ranged-reading : (o : Result (Fetched Instruction)) (s : State) → RangedPrint (andThen o (λ r. footprint (r .instruction) s))
 ranged-reading (done r) s = ranged s (r .instruction)
 ranged-reading (refused n) s = tt
 

@@ -6,7 +6,7 @@ use borrow.Author.Needs.{needs}
 use Rattle.lanes.specs.Operations.{Operation, operate}
 use Rattle.reorder.specs.Result.{done, refused}
 use Rattle.codec.specs.Forms.{Form, reg32/mem32←mmreg1, mmreg1←reg32/mem32, mmreg2/mem64←mmreg1, mmreg1·mmreg2/mem32, mmreg1·mmreg2/mem64, mmreg1←mmreg2/mem64, memorySize}
-use Rattle.codec.specs.Packed.{formOf, operationIn}
+use Rattle.codec.specs.Table.{formOf, operationIn}
 use Rattle.codec.specs.declared.Instruction.{Instruction}
 use Rattle.codec.specs.declared.Kind.the-variants.{Ordinary, Emms}
 use Rattle.manual.specs.State.{State}

@@ -10,7 +10,7 @@ use Rattle.reorder.specs.Plan.{Plan}
 use Rattle.reorder.specs.Footprint.{footprintIn}
 use Rattle.codec.specs.Answers.{paperOfReading}
 use Rattle.codec.specs.Operands.{Registers}
-use Rattle.codec.specs.Packed.{packedRows}
+use Rattle.codec.specs.Table.{opcodeTable}
 use Rattle.codec.specs.Reads.{readAt}
 use Rattle.codec.specs.declared.Instruction.{Instruction}
 use Rattle.codec.specs.declared.Reading.{Reading}
@@ -49,13 +49,13 @@ module _ (machine : Machine) (memory : List ℕ) (i : Instruction) where
     pub print-barred : (bar ≡ 0 → ⊥) → refused bar ≡ mapResult print (footprint i here)
     print-barred h = ap refused found ∙ sym (by-marks ∙ barred-by (machine .em) (machine .ts) (machine .pending) _ (λ e. h (found ∙ e)))
 
-    pub print-unbarred : (entry : ℕ) (r : Printed) → bar ≡ 0 → Registers (i .operand) → entry ≡ getD packedRows (i .second) 0
+    pub print-unbarred : (entry : ℕ) (r : Printed) → bar ≡ 0 → Registers (i .operand) → entry ≡ getD opcodeTable (i .second) 0
         → paperOfFootprint r ≡ unmarkedPrint (effectIn entry i) here → paperOfFootprint r ≡ mapResult print (footprint i here)
     print-unbarred entry r h names e p =
         p ∙ ap (λ (y : ℕ). unmarkedPrint (effectIn y i) here) e ∙ ap (λ (y : Effect). unmarkedPrint y here) (effect-is i names)
         ∙ sym (by-marks ∙ unbarred-by (machine .em) (machine .ts) (machine .pending) _ (sym found ∙ h))
 
-pub entry-listed : (entry second : ℕ) → entry ≡ getD packedRows second 0 → Listed (getD packedRows second 0) → Listed entry
+pub entry-listed : (entry second : ℕ) → entry ≡ getD opcodeTable second 0 → Listed (getD opcodeTable second 0) → Listed entry
 entry-listed entry second e l = subst Listed (sym e) l
 
 -- the position

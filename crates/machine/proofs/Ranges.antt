@@ -13,7 +13,7 @@ use Rattle.reorder.specs.Plan.{Plan}
 use Rattle.reorder.specs.Footprint.{Footprint, footprintIn}
 use Rattle.codec.specs.Forms.{mmxFile, integerFile, Form}
 use Rattle.codec.specs.Opcodes.{operationAt}
-use Rattle.codec.specs.Packed.{formOf, packedRows}
+use Rattle.codec.specs.Table.{formOf, opcodeTable}
 use Rattle.codec.proofs.Entries.{form-is}
 use Rattle.codec.specs.declared.Operand.{Operand}
 use Rattle.codec.specs.declared.Instruction.{Instruction}
@@ -163,4 +163,4 @@ module _ (s : State) where
   unfolding footprint effectOf
   ranged i =
       subst (Of (operationAt (i .second) (i .operand .reg)) i) (form-is (i .second))
-      (ranged-form (operationAt (i .second) (i .operand .reg)) i (getD packedRows (i .second) 0 / 2 ^ 24))
+      (ranged-form (operationAt (i .second) (i .operand .reg)) i (getD opcodeTable (i .second) 0 / 2 ^ 24))

@@ -14,7 +14,7 @@ use Rattle.words.proofs.Laws.{loaded-bytewise, stored-bytewise}
 use Rattle.reorder.specs.Result.{Result, done, refused, andThen}
 use Rattle.codec.specs.Forms.{File, mmxFile, integerFile, Form, reg32/mem32←mmreg1, mmreg1←reg32/mem32, mmreg2/mem64←mmreg1, mmreg1·mmreg2/mem32, mmreg1·mmreg2/mem64, mmreg1←mmreg2/mem64, memorySize}
 use Rattle.codec.specs.Operands.{Registers}
-use Rattle.codec.specs.Packed.{formOf, shiftIn, operationIn}
+use Rattle.codec.specs.Table.{formOf, shiftIn, operationIn}
 use Rattle.codec.specs.declared.Operand.{Operand}
 use Rattle.codec.specs.declared.Instruction.{Instruction}
 use Rattle.codec.specs.declared.Kind.the-variants.{Ordinary, Emms}

@@ -8,7 +8,7 @@ use lib.Dec.{eqb}
 use Rattle.lanes.specs.Operations.{operationOf, operate, MOVE}
 use Rattle.words.specs.Buffer.{stored}
 use Rattle.codec.specs.Forms.{Use, read, written, updated, File, mmxFile, Slot, reg, rm, rm/mem, Form, memorySize}
-use Rattle.codec.specs.Packed.{formOf, operationIn}
+use Rattle.codec.specs.Table.{formOf, operationIn}
 use Rattle.codec.specs.declared.Operand.{Operand}
 use Rattle.manual.specs.Locations.{Location, rmOf}
 use Rattle.codec.specs.declared.Instruction.{Instruction}

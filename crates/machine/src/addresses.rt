@@ -1,10 +1,10 @@
 // The address of an operand in memory: base, index times scale, and displacement, in sums that wrap at 2^32.
 use crate::numbers::NO_INDEX;
 use codec::Operand;
-use codec::numbers::BYTE_DISPLACEMENT;
-use codec::numbers::NO_BASE;
-use codec::numbers::NO_DISPLACEMENT;
-use codec::numbers::SIB;
+use codec::modes::BYTE_DISPLACEMENT;
+use codec::modes::NO_BASE;
+use codec::modes::NO_DISPLACEMENT;
+use codec::modes::SIB;
 ghost use mathlib.Core.Path.{_≡_};
 ghost use Prim.Native.Nat.{_*_, _^_, _%_, _<_};
 ghost use Rattle.codec.specs.Operands.{Registers};

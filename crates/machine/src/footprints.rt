@@ -11,18 +11,18 @@ use crate::reaches::Reach;
 use codec::Instruction;
 use codec::Kind;
 use codec::Reading;
-use codec::numbers::EMMS;
-use codec::numbers::FORM;
-use codec::numbers::LOAD_D;
-use codec::numbers::LOAD_Q;
-use codec::numbers::STORE_D;
-use codec::numbers::STORE_Q;
+use codec::forms::EMMS;
+use codec::forms::FORM;
+use codec::forms::LOAD_D;
+use codec::forms::LOAD_Q;
+use codec::forms::STORE_D;
+use codec::forms::STORE_Q;
 ghost use mathlib.Core.Path.{_≡_};
 ghost use Prim.Native.Nat.{_/_, _^_, _≤_, _<_};
 ghost use lib.ListN.{getD};
 ghost use Rattle.reorder.specs.Result.{mapResult};
 ghost use Rattle.codec.specs.Operands.{Registers};
-ghost use Rattle.codec.specs.Packed.{packedRows};
+ghost use Rattle.codec.specs.Table.{opcodeTable};
 ghost use Rattle.manual.specs.Instructions.{footprint};
 ghost use Rattle.machine.specs.State.{stateOf};
 ghost use Rattle.machine.specs.Prints.{print, printAt, paperOfFootprint};
@@ -118,7 +118,7 @@ fn unmarked(machine: Machine, entry: u32, instruction: Instruction, memory: &[u8
 
 // What the table says of a second byte.
 fn entry_for(second: u8) -> u32
-    ensures { λ r. ⌜ r ≡ getD packedRows second 0 ⌝ }
+    ensures { λ r. ⌜ r ≡ getD opcodeTable second 0 ⌝ }
 {
     let table = codec::table();
     table[second as usize]
@@ -126,7 +126,7 @@ fn entry_for(second: u8) -> u32
 
 // An instruction that is read: the control marks first.
 fn of_instruction(machine: Machine, instruction: Instruction, memory: &[u8]) -> Printed
-    requires { ⌜ Registers (instruction .operand) × Listed (getD packedRows (instruction .second) 0) ⌝ }
+    requires { ⌜ Registers (instruction .operand) × Listed (getD opcodeTable (instruction .second) 0) ⌝ }
     ensures { λ r. ⌜ paperOfFootprint r ≡ mapResult print (footprint instruction (stateOf machine (now (memory .entry)))) ⌝ }
 {
     let bar = gathering::barred(machine.em, machine.ts, machine.pending);

@@ -6,20 +6,20 @@ use crate::numbers::NOT_AVAILABLE;
 use crate::numbers::OUTSIDE_MEMORY;
 use crate::shifts;
 use codec::Instruction;
-use codec::numbers::EMMS;
-use codec::numbers::FORM;
-use codec::numbers::PART;
-use codec::numbers::REGISTER;
-use codec::numbers::SIZE;
-use codec::numbers::STORE_D;
-use codec::numbers::STORE_Q;
+use codec::forms::EMMS;
+use codec::forms::FORM;
+use codec::forms::PART;
+use codec::forms::SIZE;
+use codec::forms::STORE_D;
+use codec::forms::STORE_Q;
+use codec::modes::REGISTER;
 use lanes::MOVE;
 ghost use mathlib.Core.Path.{_≡_};
 ghost use Prim.Native.Nat.{_+_, _/_, _^_, _≤_};
 ghost use lib.Dec.{leb};
 ghost use lib.ListN.{length};
 ghost use Rattle.codec.specs.Operands.{Registers};
-ghost use Rattle.codec.specs.Packed.{packedRows};
+ghost use Rattle.codec.specs.Table.{opcodeTable};
 ghost use Rattle.codec.specs.Reads.{longestCode};
 ghost use Rattle.manual.specs.State.{longestMemory};
 ghost use Rattle.machine.specs.Works.{barredBy, effectIn, Listed, Does, Gathered, refusedWork};
@@ -234,7 +234,7 @@ pub(crate) fn gathered(
     at: usize,
     memory: &[u8],
 ) -> Work
-    requires { ⌜ (now table ≡ packedRows) × ((length (now code) ≤ longestCode) × ((length (now memory) ≤ longestMemory) × (marks .bar ≡ barredBy (marks .em) (marks .ts) (marks .pending)))) ⌝ }
+    requires { ⌜ (now table ≡ opcodeTable) × ((length (now code) ≤ longestCode) × ((length (now memory) ≤ longestMemory) × (marks .bar ≡ barredBy (marks .em) (marks .ts) (marks .pending)))) ⌝ }
     ensures { λ r. ⌜ Gathered r (now (mmx .entry)) (now (integers .entry)) marks (now (code .entry)) at (now (memory .entry)) ⌝ }
 {
     let found = codec::read_from(table, code, at);

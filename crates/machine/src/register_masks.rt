@@ -1,9 +1,9 @@
 // Register sets as masks: one register, and those that an address is made of.
 use crate::numbers::NO_INDEX;
 use codec::Operand;
-use codec::numbers::NO_BASE;
-use codec::numbers::NO_DISPLACEMENT;
-use codec::numbers::SIB;
+use codec::modes::NO_BASE;
+use codec::modes::NO_DISPLACEMENT;
+use codec::modes::SIB;
 ghost use mathlib.Core.Path.{_≡_};
 ghost use Prim.Native.Nat.{_^_, _<_};
 ghost use Rattle.codec.specs.Operands.{Registers};

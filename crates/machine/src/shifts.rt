@@ -1,14 +1,14 @@
 // The operations of the shifts by an immediate, 71 to 73: the table's number has one for each digit.
-use codec::numbers::LEFT;
-use codec::numbers::PART;
-use codec::numbers::RIGHT;
-use codec::numbers::RIGHT_PLACE;
-use codec::numbers::RIGHT_SIGNED;
-use codec::numbers::SIGNED_PLACE;
+use codec::forms::LEFT;
+use codec::forms::PART;
+use codec::forms::RIGHT;
+use codec::forms::RIGHT_PLACE;
+use codec::forms::RIGHT_SIGNED;
+use codec::forms::SIGNED_PLACE;
 use lanes::KEEP;
 ghost use mathlib.Core.Path.{_≡_};
 ghost use Rattle.lanes.specs.Operations.{operationOf};
-ghost use Rattle.codec.specs.Packed.{shiftIn};
+ghost use Rattle.codec.specs.Table.{shiftIn};
 
 pub(crate) fn shift_number(entry: u32, digit: u8) -> u8
     ensures { λ r. ⌜ operationOf r ≡ shiftIn entry digit ⌝ }

@@ -6,12 +6,12 @@ use crate::gathering;
 use crate::gathering::Marks;
 use crate::numbers::LONGEST_MEMORY;
 use crate::numbers::MEMORY_TOO_LONG;
-use codec::numbers::CODE_TOO_LONG;
-use codec::numbers::LONGEST_CODE;
+use codec::refusals::CODE_TOO_LONG;
+use codec::refusals::LONGEST_CODE;
 ghost use mathlib.Core.Path.{_≡_};
 ghost use Prim.Native.Nat.{_%_, _^_, _≤_, _<_};
 ghost use lib.ListN.{length, set};
-ghost use Rattle.codec.specs.Packed.{packedRows};
+ghost use Rattle.codec.specs.Table.{opcodeTable};
 ghost use Rattle.codec.specs.Reads.{longestCode};
 ghost use Rattle.manual.specs.State.{longestMemory};
 ghost use Rattle.manual.specs.Steps.{stepAt};
@@ -44,7 +44,7 @@ pub(crate) fn advance(
     at: usize,
     memory: &mut [u8],
 ) -> Moved
-    requires { ⌜ (now table ≡ packedRows) × ((length (now code) ≤ longestCode) × ((length (now memory) ≤ longestMemory) × (marks .bar ≡ barredBy (marks .em) (marks .ts) (marks .pending)))) ⌝ }
+    requires { ⌜ (now table ≡ opcodeTable) × ((length (now code) ≤ longestCode) × ((length (now memory) ≤ longestMemory) × (marks .bar ≡ barredBy (marks .em) (marks .ts) (marks .pending)))) ⌝ }
     ensures { λ r. ⌜ endedAs r (now (mmx .exit)) (now (integers .exit)) marks (now (memory .exit)) ≡ stepAt (now (code .entry)) at (stateOf (machineOf (now (mmx .entry)) (now (integers .entry)) marks) (now (memory .entry))) ⌝ }
 {
     let work = gathering::gathered(table, mmx, integers, marks, code, at, memory);

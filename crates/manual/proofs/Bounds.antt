@@ -12,8 +12,8 @@ use Rattle.reorder.specs.Run.{Answer, finished, spent, stopped, runFrom, run}
 use Rattle.codec.specs.Refusals.{codeTooLong}
 use Rattle.codec.specs.Reads.{longestCode, readPart}
 use Rattle.codec.specs.Reasons as codec
-use Rattle.codec.specs.Answers.{Answer as Found}
-use Rattle.codec.specs.Answers as found
+use Rattle.codec.specs.Answers.{Decoded}
+use Rattle.codec.specs.Answers as decoded
 use Rattle.codec.proofs.Theorems.{reading-is-local}
 use Rattle.manual.specs.Refusals.{memoryTooLong}
 use Rattle.manual.specs.State.{State, Frozen, frozen, longestMemory, isTooLong}
@@ -34,7 +34,7 @@ part-small s n (codec.six x) = omega arith
 
 reading-small : (code : List ℕ) (at n : ℕ) → codec.ReasonAt code at n → n ≤ 10
 reading-small code at n (codec.two h) = omega arith
-reading-small code at n (codec.left h r) = part-small (drop at code) n r
+reading-small code at n (codec.reading h r) = part-small (drop at code) n r
 
 reason-small : (code : List ℕ) (at : ℕ) (s : State) (n : ℕ) → Reason code at s n → n ≤ 10
 reason-small code at s n (one h) = omega arith
@@ -55,11 +55,11 @@ module _ (code : List ℕ) (code-fits : ltb longestCode (length code) ≡ false)
       executing n (refused r) h g z = absurd (false≢true (cc))
       executing n (done u) h g z = let same : at + n ≡ next = cc in omega (arith, length-drop at code)
 
-      reads : (z : Found) → readPart (drop at code) ≡ z
+      reads : (z : Decoded) → readPart (drop at code) ≡ z
           → caseOf (resultOf z) (λ r. refusedWith r at s) (λ r. concluded at (at + r .size) s (execute (r .instruction) s)) ≡ completed next t
           → next ≤ length code
-      reads (found.good i n) r z = let l = reading-is-local (drop at code) i n r in executing n (execute i s) (l .within) (omega (arith, l .two)) z
-      reads (found.refused n) r z = absurd (false≢true (cc))
+      reads (decoded.good i n) r z = let l = reading-is-local (drop at code) i n r in executing n (execute i s) (l .within) (omega (arith, l .two)) z
+      reads (decoded.refused n) r z = absurd (false≢true (cc))
 
 -- the bounds of a run's end, from a start with so large a budget
 pub record Bounds (code : List ℕ) (budget : ℕ) (start : State) (at count : ℕ) (t : State) : Type 0 where

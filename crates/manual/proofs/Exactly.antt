@@ -8,7 +8,7 @@ use borrow.Author.Tests.{leb-false, lt-leb}
 use lib.ListN.{length}
 use Rattle.reorder.specs.Result.{Result, done, refused, andThen, mapResult, caseOf}
 use Rattle.reorder.specs.Plan.{perform}
-use Rattle.codec.specs.Answers as found
+use Rattle.codec.specs.Answers as decoded
 use Rattle.codec.specs.Reads.{readAt}
 use Rattle.codec.specs.declared.Instruction.{Instruction}
 use Rattle.codec.proofs.Exactly.{reading-exactly}
@@ -160,13 +160,13 @@ step-exactly code at s n = (λ e. memory-test (isTooLong (s .memory)) refl e, st
         let o = refused-unmarked i s n h in
         subst (Reason code at s) (sym (o .number)) (ten i size stands e f g (o .operand) (o .either) (o .outside))
 
-    read : (z : found.Answer) → isTooLong (s .memory) ≡ false → readAt code at ≡ z
+    read : (z : decoded.Decoded) → isTooLong (s .memory) ≡ false → readAt code at ≡ z
         → caseOf (resultOf z) (λ m. refusedWith m at s) (λ r. concluded at (at + r .size) s (execute (r .instruction) s)) ≡ refusedWith n at s
         → Reason code at s n
-    read (found.refused m) fit e h =
+    read (decoded.refused m) fit e h =
         let same : m ≡ n = cc in
-        reading fit (reading-exactly code at n .0 (e ∙ ap found.refused same))
-    read (found.good i size) fit e h =
+        reading fit (reading-exactly code at n .0 (e ∙ ap decoded.refused same))
+    read (decoded.good i size) fit e h =
         marks i size (record { memory-fits = fit; read = e }) (s .em) (s .ts) (s .pending) refl refl refl (executed (at + size) (execute i s) h)
 
     memory-test : (t : Bool) → isTooLong (s .memory) ≡ t

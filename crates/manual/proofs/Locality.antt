@@ -1,4 +1,4 @@
--- Reading what is left of a code is local, as the codec's reading is: it takes at least two bytes and none past the end, and depends on its
+-- Fetched what is left of a code is local, as the codec's reading is: it takes at least two bytes and none past the end, and depends on its
 -- own bytes alone.
 use mathlib.Core.Bool.{false≢true}
 use mathlib.Core.Path.{_≡_, ap}
@@ -6,21 +6,21 @@ use mathlib.Core.List.{List}
 use Prim.Native.Nat.{ℕ}
 use native.Mathlib.Omega.{arith}
 use Rattle.reorder.specs.Result.{done}
-use Rattle.reorder.specs.Run.{Reading}
+use Rattle.reorder.specs.Run.{Fetched}
 use Rattle.reorder.proofs.Cutting.{LocalReader}
 use Rattle.codec.specs.Reads.{readPart}
 use Rattle.codec.specs.declared.Instruction.{Instruction}
-use Rattle.codec.specs.Answers.{Answer as Found}
-use Rattle.codec.specs.Answers as found
+use Rattle.codec.specs.Answers.{Decoded}
+use Rattle.codec.specs.Answers as decoded
 use Rattle.codec.proofs.Theorems.{Local, reading-is-local}
 use Rattle.manual.specs.Steps.{resultOf}
 use Rattle.manual.specs.Runs.{read}
 
-found-of : (x : Found) (r : Reading Instruction) → resultOf x ≡ done r → x ≡ found.good (r .instruction) (r .size)
-found-of (found.good i n) r e = cc
-found-of (found.refused n) r e = absurd (false≢true (cc))
+found-of : (x : Decoded) (r : Fetched Instruction) → resultOf x ≡ done r → x ≡ decoded.good (r .instruction) (r .size)
+found-of (decoded.good i n) r e = cc
+found-of (decoded.refused n) r e = absurd (false≢true (cc))
 
-pub local : (bytes : List ℕ) (r : Reading Instruction) → read bytes ≡ done r → Local bytes (r .instruction) (r .size)
+pub local : (bytes : List ℕ) (r : Fetched Instruction) → read bytes ≡ done r → Local bytes (r .instruction) (r .size)
 unfolding read
 local bytes r e = reading-is-local bytes (r .instruction) (r .size) (found-of (readPart bytes) r e)
 

@@ -9,7 +9,7 @@ use native.Mathlib.Omega.{arith}
 use lib.Dec.{eqb, ltb}
 use lib.ListN.{length}
 use Rattle.reorder.specs.Result.{Result, done, refused, caseOf}
-use Rattle.reorder.specs.Run.{Reading, finished, spent, stopped, runFrom, run}
+use Rattle.reorder.specs.Run.{Fetched, finished, spent, stopped, runFrom, run}
 use Rattle.reorder.proofs.Places.{leaves-frozen}
 use Rattle.reorder.proofs.Swapping.{completed as planned}
 use Rattle.codec.specs.Refusals.{codeTooLong}
@@ -35,7 +35,7 @@ refused-step code at n at′ s t e = reading (instructionAt code at s) e
     executing size (refused m) h = (cc, cc)
     executing size (done u) h = absurd (false≢true (cc))
 
-    reading : (o : Result (Reading Instruction))
+    reading : (o : Result (Fetched Instruction))
         → caseOf o (λ m. refusedWith m at s) (λ r. concluded at (at + r .size) s (execute (r .instruction) s)) ≡ refusedWith n at′ t
         → (at′ ≡ at) × (t ≡ s)
     reading (refused m) h = (cc, cc)
@@ -52,12 +52,12 @@ pub step-frozen : (code : List ℕ) (at at′ : ℕ) (s t : State) → stepAt co
 unfolding stepAt
 step-frozen code at at′ s t e = reading (instructionAt code at s) e
   where
-    executing : (r : Reading Instruction) (o : Result State) → execute (r .instruction) s ≡ o
+    executing : (r : Fetched Instruction) (o : Result State) → execute (r .instruction) s ≡ o
         → concluded at (at + r .size) s o ≡ completed at′ t → frozen t ≡ frozen s
     executing r (refused m) x h = absurd (false≢true (cc))
     executing r (done u) x h = execute-frozen (r .instruction) s t (cc)
 
-    reading : (o : Result (Reading Instruction))
+    reading : (o : Result (Fetched Instruction))
         → caseOf o (λ m. refusedWith m at s) (λ r. concluded at (at + r .size) s (execute (r .instruction) s)) ≡ completed at′ t
         → frozen t ≡ frozen s
     reading (refused m) h = absurd (false≢true (cc))

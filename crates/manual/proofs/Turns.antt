@@ -6,7 +6,7 @@ use Prim.Native.Nat.{ℕ, suc, _+_}
 use lib.Dec.{eqb, ltb}
 use lib.ListN.{length, drop}
 use Rattle.reorder.specs.Result.{Result, done, refused, caseOf}
-use Rattle.reorder.specs.Run.{Reading, Answer, stopped, runFrom}
+use Rattle.reorder.specs.Run.{Fetched, Answer, stopped, runFrom}
 use Rattle.codec.specs.Reads.{longestCode, readAt}
 use Rattle.codec.specs.declared.Instruction.{Instruction}
 use Rattle.manual.specs.State.{State, isTooLong}
@@ -37,7 +37,7 @@ module _ (code : List ℕ) (at : ℕ) (s : State) (memory-fits : isTooLong (s .m
       executing size (refused n) = refl
       executing size (done t) = refl
 
-      reading : (o : Result (Reading Instruction))
+      reading : (o : Result (Fetched Instruction))
           → caseOf o (λ n. stopped n at count s)
           (λ r. caseOf (execute (r .instruction) s) (λ n. stopped n at count s) (λ t. runFrom read execute left code (at + r .size) (suc count) t))
           ≡ onward (runFrom read execute left code) count

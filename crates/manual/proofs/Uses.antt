@@ -7,11 +7,12 @@ use Prim.Native.Nat.{ℕ, _+_}
 use Rattle.reorder.specs.Result.{Result, done, refused, caseOf, andThen, mapResult}
 use Rattle.reorder.specs.Plan.{Plan, looks, perform as performed}
 use Rattle.reorder.specs.Footprint.{Footprint, footprintOf as ofPlan, footprintIn, asked}
-use Rattle.reorder.specs.Run.{Reading}
+use Rattle.reorder.specs.Run.{Fetched}
 use Rattle.reorder.proofs.Swapping.{completed as planned}
 use Rattle.reorder.proofs.Honest.{Alike, asked-reads, honest, untouched}
 use Rattle.codec.specs.Forms.{absent}
-use Rattle.codec.specs.Opcodes.{Line, lines, formAt, operationAt}
+use Rattle.codec.specs.Contents.{Line, lines}
+use Rattle.codec.specs.Opcodes.{formAt, operationAt}
 use Rattle.codec.specs.declared.Instruction.{Instruction}
 use Rattle.codec.proofs.Bytes.{found-has}
 use borrow.Author.Tests.{eqb-true}
@@ -175,12 +176,12 @@ footprint-exactly code at s = reading (instructionAt code at s)
     making size (done values) leave print = tt
     making size (refused n) leave print = refl
 
-    planning : (r : Reading Instruction) (o : Result (Plan Place Kind)) → plan (effectOf (r .instruction)) s ≡ o
+    planning : (r : Fetched Instruction) (o : Result (Plan Place Kind)) → plan (effectOf (r .instruction)) s ≡ o
         → Together (concluded at (at + r .size) s (execute (r .instruction) s)) (footprint (r .instruction) s)
     planning r (done pl) e = simp e (making (r .size) (pl .make (looks look s (pl .source))) _ _)
     planning r (refused n) e = simp e refl
 
-    reading : (o : Result (Reading Instruction))
+    reading : (o : Result (Fetched Instruction))
         → Together (caseOf o (λ n. refusedWith n at s) (λ r. concluded at (at + r .size) s (execute (r .instruction) s))) (andThen o (λ r. footprint (r .instruction) s))
     reading (refused n) = refl
     reading (done r) = planning r (plan (effectOf (r .instruction)) s) refl

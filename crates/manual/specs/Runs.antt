@@ -5,7 +5,7 @@ use Prim.Native.Nat.{ℕ}
 use lib.Dec.{ltb}
 use lib.ListN.{length}
 use Rattle.reorder.specs.Result.{Result}
-use Rattle.reorder.specs.Run.{Reading, Answer, stopped, run}
+use Rattle.reorder.specs.Run.{Fetched, Answer, stopped, run}
 use Rattle.codec.specs.Refusals.{codeTooLong}
 use Rattle.codec.specs.Reads.{longestCode, readPart}
 use Rattle.codec.specs.declared.Instruction.{Instruction}
@@ -15,7 +15,7 @@ use Rattle.manual.specs.Instructions.{execute}
 use Rattle.manual.specs.Steps.{resultOf}
 
 -- reading what is left of a code
-unfoldable pub read : List ℕ → Result (Reading Instruction)
+unfoldable pub read : List ℕ → Result (Fetched Instruction)
 read left = resultOf (readPart left)
 
 -- 1 and 2 first; then, before each instruction: at the code's end done, with nothing left of the budget spent, else a step

@@ -3,11 +3,11 @@ use mathlib.Core.Bool.{cond}
 use mathlib.Core.List.{List}
 use Prim.Native.Nat.{ℕ, _+_}
 use Rattle.reorder.specs.Result.{Result, done, refused, caseOf}
-use Rattle.reorder.specs.Run.{Reading}
+use Rattle.reorder.specs.Run.{Fetched}
 use Rattle.codec.specs.Reads.{readAt}
 use Rattle.codec.specs.declared.Instruction.{Instruction}
-use Rattle.codec.specs.Answers.{Answer as Found}
-use Rattle.codec.specs.Answers as found
+use Rattle.codec.specs.Answers.{Decoded}
+use Rattle.codec.specs.Answers as decoded
 use Rattle.manual.specs.Refusals.{memoryTooLong}
 use Rattle.manual.specs.State.{State, isTooLong}
 use Rattle.manual.specs.Instructions.{execute}
@@ -20,12 +20,12 @@ pub data Outcome : Type 0 where
   refusedWith : ℕ → ℕ → State → Outcome
 
 -- what the reader found: an instruction and its size, or a refusal
-abbrev pub resultOf : Found → Result (Reading Instruction)
-resultOf (found.good instruction size) = done (record { instruction = instruction; size = size })
-resultOf (found.refused n) = refused n
+abbrev pub resultOf : Decoded → Result (Fetched Instruction)
+resultOf (decoded.good instruction size) = done (record { instruction = instruction; size = size })
+resultOf (decoded.refused n) = refused n
 
 -- the instruction at a position: 1, then 2 to 6 by the reader
-unfoldable pub instructionAt : List ℕ → ℕ → State → Result (Reading Instruction)
+unfoldable pub instructionAt : List ℕ → ℕ → State → Result (Fetched Instruction)
 instructionAt code at s = cond (isTooLong (s .memory)) (refused memoryTooLong) (resultOf (readAt code at))
 
 -- what an instruction came to, with the position after it: a refusal changes nothing

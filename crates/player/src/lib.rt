@@ -1,6 +1,6 @@
 // From a page file to what is printed of it.
-use codec::numbers::CODE_TOO_LONG;
-use codec::numbers::LONGEST_CODE;
+use codec::refusals::CODE_TOO_LONG;
+use codec::refusals::LONGEST_CODE;
 use machine::End;
 use machine::Machine;
 use machine::Ran;

@@ -8,7 +8,7 @@ use native.Mathlib.Omega.{arith}
 use lib.ListN.{length, getD, take, drop, length-append}
 use lib.Seq.{take-at, take-length}
 use Rattle.reorder.specs.Result.{Result, done, andThen}
-use Rattle.reorder.specs.Run.{Reading, finished, spent, positionReached, run}
+use Rattle.reorder.specs.Run.{Fetched, finished, spent, positionReached, run}
 use Rattle.reorder.specs.Block.{piecesOf}
 use Rattle.reorder.proofs.Rows.{execAll, before, footprintAt, onBytes, footprintInCode}
 use Rattle.reorder.proofs.Cutting.{LocalReader, Whole, AllWhole, read-front, cut, joined, spent-at}
@@ -29,7 +29,7 @@ flatten-to (piece ∷ pieces) zero b = omega (arith, length-append piece [])
 flatten-to (piece ∷ pieces) (suc k) b =
     omega (arith, length-append piece (flatten (take (suc k) pieces)), length-append piece (flatten (take k pieces)), flatten-to pieces k (omega arith))
 
-module _ {S I F : Type 0} (read : List ℕ → Result (Reading I)) (exec : I → S → Result S) (footprint : I → S → Result F) where
+module _ {S I F : Type 0} (read : List ℕ → Result (Fetched I)) (exec : I → S → Result S) (footprint : I → S → Result F) where
   -- where a run of k instructions has come to
   abbrev pub positionAfter : List ℕ → S → ℕ → ℕ
   positionAfter code s k = positionReached (run read exec k code s)
@@ -38,7 +38,7 @@ module _ {S I F : Type 0} (read : List ℕ → Result (Reading I)) (exec : I →
   pub record Comes (code : List ℕ) (s : S) (k : ℕ) : Type 0 where
     pub at : ℕ
     pub state : S
-    pub found : Reading I
+    pub found : Fetched I
     pub ran : run read exec k code s ≡ spent at k state
     pub stands : read (drop at code) ≡ done found
     pub completes : (t : S) × (exec (found .instruction) state ≡ done t)
@@ -77,9 +77,9 @@ module _ {S I F : Type 0} (read : List ℕ → Result (Reading I)) (exec : I →
                 found = r;
                 ran = runs ∙ ap₂ (λ n m. spent n m (before (onBytes read exec) pieces k s)) (zero-add at) (zero-add k);
                 stands = ap read here ∙ read-front read reader (getD pieces k []) (flatten (drop (suc k) pieces)) r er z;
-                completes = (u, sym (ap (λ (o : Result (Reading I)). andThen o (λ q. exec (q .instruction) (before (onBytes read exec) pieces k s))) er) ∙ does);
+                completes = (u, sym (ap (λ (o : Result (Fetched I)). andThen o (λ q. exec (q .instruction) (before (onBytes read exec) pieces k s))) er) ∙ does);
                 print = ap (λ (ps : List (List ℕ)). footprintAt (onBytes read exec) (onBytes read footprint) ps s [] k) cuts
-                    ∙ ap (λ (o : Result (Reading I)). andThen o (λ q. footprint (q .instruction) (before (onBytes read exec) pieces k s))) er;
+                    ∙ ap (λ (o : Result (Fetched I)). andThen o (λ q. footprint (q .instruction) (before (onBytes read exec) pieces k s))) er;
                 piece = ap (λ (ps : List (List ℕ)). getD ps k []) cuts
                     ∙ sym (ap (take (r .size)) here ∙ take-at (getD pieces k []) (flatten (drop (suc k) pieces)) (r .size) (sym z));
                 next = position-at (suc k) (omega arith) ∙ flatten-to pieces k b ∙ ap (λ (n : ℕ). at + n) (sym z);

@@ -10,30 +10,30 @@ use borrow.Author.Tests.{eq-eqb, ne-eqb}
 use lib.ListN.{length, getD, take, drop, length-append, length-drop, take-append-drop}
 use lib.Seq.{drop-drop, drop-length, drop-at, length-take-le, take-length}
 use Rattle.reorder.specs.Result.{Result, done, refused, andThen, caseOf}
-use Rattle.reorder.specs.Run.{Reading, Answer, finished, spent, stopped, runFrom}
+use Rattle.reorder.specs.Run.{Fetched, Answer, finished, spent, stopped, runFrom}
 use Rattle.reorder.proofs.Rows.{execAll, before, onBytes}
 use Rattle.reorder.proofs.Reordering.{first}
 
 -- a reader that goes by the instruction's own bytes, of which there is at least one
-pub record LocalReader {I : Type 0} (read : List ℕ → Result (Reading I)) : Type 0 where
-  pub some-bytes : (bytes : List ℕ) (r : Reading I) → read bytes ≡ done r → (0 < r .size) × (r .size ≤ length bytes)
-  pub own-bytes : (bytes tail : List ℕ) (r : Reading I) → read bytes ≡ done r → read (take (r .size) bytes ++ tail) ≡ done r
+pub record LocalReader {I : Type 0} (read : List ℕ → Result (Fetched I)) : Type 0 where
+  pub some-bytes : (bytes : List ℕ) (r : Fetched I) → read bytes ≡ done r → (0 < r .size) × (r .size ≤ length bytes)
+  pub own-bytes : (bytes tail : List ℕ) (r : Fetched I) → read bytes ≡ done r → read (take (r .size) bytes ++ tail) ≡ done r
 
 -- each piece is one instruction, whole
-abbrev pub Whole : {I : Type 0} → (List ℕ → Result (Reading I)) → List ℕ → Type 0
-Whole {I} read piece = (r : Reading I) × (read piece ≡ done r) × (r .size ≡ length piece)
+abbrev pub Whole : {I : Type 0} → (List ℕ → Result (Fetched I)) → List ℕ → Type 0
+Whole {I} read piece = (r : Fetched I) × (read piece ≡ done r) × (r .size ≡ length piece)
 
-abbrev pub AllWhole : {I : Type 0} → (List ℕ → Result (Reading I)) → List (List ℕ) → Type 0
+abbrev pub AllWhole : {I : Type 0} → (List ℕ → Result (Fetched I)) → List (List ℕ) → Type 0
 AllWhole read [] = Unit {0}
 AllWhole read (piece ∷ pieces) = Whole read piece × AllWhole read pieces
 
 -- a whole piece is read wherever it stands
-pub read-front : {I : Type 0} (read : List ℕ → Result (Reading I)) → LocalReader read → (piece tail : List ℕ) (r : Reading I)
+pub read-front : {I : Type 0} (read : List ℕ → Result (Fetched I)) → LocalReader read → (piece tail : List ℕ) (r : Fetched I)
     → read piece ≡ done r → r .size ≡ length piece → read (piece ++ tail) ≡ done r
 read-front read reader piece tail r e z =
     subst (λ (q : List ℕ). read (q ++ tail) ≡ done r) (ap (λ (n : ℕ). take n piece) z ∙ take-length piece) (reader .own-bytes piece tail r e)
 
-module _ {S I : Type 0} (read : List ℕ → Result (Reading I)) (exec : I → S → Result S) (reader : LocalReader read) where
+module _ {S I : Type 0} (read : List ℕ → Result (Fetched I)) (exec : I → S → Result S) (reader : LocalReader read) where
   -- what is left of the code is these whole pieces, whose row completes; each takes one of the budget
   abbrev pub Cut : List ℕ → ℕ → ℕ → ℕ → S → ℕ → ℕ → S → Type 0
   Cut code left position count s end total t =
@@ -48,7 +48,7 @@ module _ {S I : Type 0} (read : List ℕ → Result (Reading I)) (exec : I → S
       (λ t. runFrom read exec left code (position + r .size) (suc count) t))
 
   -- a step that reads r and comes to s₁
-  stepped : (left : ℕ) (code : List ℕ) (position count : ℕ) (s s₁ : S) (r : Reading I) → read (drop position code) ≡ done r
+  stepped : (left : ℕ) (code : List ℕ) (position count : ℕ) (s s₁ : S) (r : Fetched I) → read (drop position code) ≡ done r
       → exec (r .instruction) s ≡ done s₁ → step left code position count s ≡ runFrom read exec left code (position + r .size) (suc count) s₁
   stepped left code position count s s₁ r er es = simp (er, es)
 
@@ -61,21 +61,21 @@ module _ {S I : Type 0} (read : List ℕ → Result (Reading I)) (exec : I → S
   -- one step of a run that finishes, taken apart
   abbrev Stepped : ℕ → List ℕ → ℕ → ℕ → S → Answer S → Type 0
   Stepped left code position count s a =
-      (r : Reading I) × (s₁ : S) × (read (drop position code) ≡ done r) × (exec (r .instruction) s ≡ done s₁)
+      (r : Fetched I) × (s₁ : S) × (read (drop position code) ≡ done r) × (exec (r .instruction) s ≡ done s₁)
       × (runFrom read exec left code (position + r .size) (suc count) s₁ ≡ a)
 
   step-apart : (left : ℕ) (code : List ℕ) (position count : ℕ) (s : S) (end total : ℕ) (t : S)
       → step left code position count s ≡ finished end total t → Stepped left code position count s (finished end total t)
   step-apart left code position count s end total t h = found (read (drop position code)) refl
     where
-      ran : (r : Reading I) → read (drop position code) ≡ done r → (o : Result S) → exec (r .instruction) s ≡ o
+      ran : (r : Fetched I) → read (drop position code) ≡ done r → (o : Result S) → exec (r .instruction) s ≡ o
           → Stepped left code position count s (finished end total t)
       ran r er (done s₁) es = (r, s₁, er, es, sym (stepped left code position count s s₁ r er es) ∙ h)
       ran r er (refused n) es =
           let z : stopped n position count s ≡ finished end total t = simp (er, es) at h in
           absurd (false≢true (cc))
 
-      found : (o : Result (Reading I)) → read (drop position code) ≡ o → Stepped left code position count s (finished end total t)
+      found : (o : Result (Fetched I)) → read (drop position code) ≡ o → Stepped left code position count s (finished end total t)
       found (done r) er = ran r er (exec (r .instruction) s) refl
       found (refused n) er =
           let z : stopped n position count s ≡ finished end total t = simp er at h in
@@ -97,7 +97,7 @@ module _ {S I : Type 0} (read : List ℕ → Result (Reading I)) (exec : I → S
         sym (take-append-drop n bytes) ∙ ap (λ (u : List ℕ). take n bytes ++ u) (drop-drop n position code ∙ e),
         ((r, own, sym (length-take-le n bytes fits)), w),
         ap (λ (o : Result S). andThen o (execAll (onBytes read exec) pieces))
-            (ap (λ (o : Result (Reading I)). andThen o (λ q. exec (q .instruction) s)) own ∙ es) ∙ x,
+            (ap (λ (o : Result (Fetched I)). andThen o (λ q. exec (q .instruction) s)) own ∙ es) ∙ x,
         omega arith,
         omega arith,
         p,
@@ -143,7 +143,7 @@ module _ {S I : Type 0} (read : List ℕ → Result (Reading I)) (exec : I → S
       let some : 0 < r .size = reader .some-bytes piece r er .0 in
       let more : position ≡ length code → ⊥ = λ q. omega arith in
       let here : read (drop position code) ≡ done r = ap read e ∙ read-front read reader piece (flatten pieces) r er z in
-      let does : exec (r .instruction) s ≡ done s₁ = sym (ap (λ (o : Result (Reading I)). andThen o (λ q. exec (q .instruction) s)) er) ∙ ran in
+      let does : exec (r .instruction) s ≡ done s₁ = sym (ap (λ (o : Result (Fetched I)). andThen o (λ q. exec (q .instruction) s)) er) ∙ ran in
       record {
         state = s₁;
         not-end = more;

@@ -9,7 +9,7 @@ use native.Mathlib.Omega.{arith}
 use borrow.Author.Tests.{eq-eqb, ne-eqb}
 use lib.ListN.{length, drop}
 use Rattle.reorder.specs.Result.{Result, done, refused}
-use Rattle.reorder.specs.Run.{Reading, Answer, finished, spent, stopped, runFrom}
+use Rattle.reorder.specs.Run.{Fetched, Answer, finished, spent, stopped, runFrom}
 
 -- what an answer says of its position and count, where a run may count so far
 abbrev pub EndsWell : {S : Type 0} → List ℕ → ℕ → Answer S → Type 0
@@ -23,16 +23,16 @@ Ended (finished at count t) = Unit {0}
 Ended (spent at count t) = ⊥
 Ended (stopped n at count t) = Unit {0}
 
-module _ {S I : Type 0} (read : List ℕ → Result (Reading I)) (exec : I → S → Result S) (code : List ℕ) where
+module _ {S I : Type 0} (read : List ℕ → Result (Fetched I)) (exec : I → S → Result S) (code : List ℕ) where
   -- a property of runs (what is left of the budget, the position, the count, the state, the answer) that each way to end has, and that a turn
   -- hands back from the run after it
   pub record ByTurns (P : ℕ → ℕ → ℕ → S → Answer S → Type 0) : Type 0 where
     pub ends : (left at count : ℕ) (s : S) → at ≡ length code → P left at count s (finished at count s)
     pub spends : (at count : ℕ) (s : S) → ¬ (at ≡ length code) → P zero at count s (spent at count s)
     pub unread : (left at count n : ℕ) (s : S) → ¬ (at ≡ length code) → read (drop at code) ≡ refused n → P (suc left) at count s (stopped n at count s)
-    pub unexecuted : (left at count n : ℕ) (s : S) (r : Reading I) → ¬ (at ≡ length code) → read (drop at code) ≡ done r → exec (r .instruction) s ≡ refused n
+    pub unexecuted : (left at count n : ℕ) (s : S) (r : Fetched I) → ¬ (at ≡ length code) → read (drop at code) ≡ done r → exec (r .instruction) s ≡ refused n
         → P (suc left) at count s (stopped n at count s)
-    pub turns : (left at count : ℕ) (s t : S) (r : Reading I) (a : Answer S) → ¬ (at ≡ length code) → read (drop at code) ≡ done r → exec (r .instruction) s ≡ done t
+    pub turns : (left at count : ℕ) (s t : S) (r : Fetched I) (a : Answer S) → ¬ (at ≡ length code) → read (drop at code) ≡ done r → exec (r .instruction) s ≡ done t
         → P left (at + r .size) (suc count) t a → P (suc left) at count s a
 
   pub by-turns : (P : ℕ → ℕ → ℕ → S → Answer S → Type 0) → ByTurns P → (left at count : ℕ) (s : S) → P left at count s (runFrom read exec left code at count s)
@@ -46,12 +46,12 @@ module _ {S I : Type 0} (read : List ℕ → Result (Reading I)) (exec : I → S
       Further : Type 0
       Further = (at count : ℕ) (s : S) → P left at count s (runFrom read exec left code at count s)
 
-      executing : ¬ (at ≡ length code) → Further → (r : Reading I) → read (drop at code) ≡ done r → (o : Result S) → exec (r .instruction) s ≡ o
+      executing : ¬ (at ≡ length code) → Further → (r : Fetched I) → read (drop at code) ≡ done r → (o : Result S) → exec (r .instruction) s ≡ o
           → P (suc left) at count s (runFrom read exec (suc left) code at count s)
       executing e further r er (refused n) eo = simp (ne-eqb _ _ e, er, eo) (h .unexecuted left at count n s r e er eo)
       executing e further r er (done t) eo = simp (ne-eqb _ _ e, er, eo) (h .turns left at count s t r _ e er eo (further (at + r .size) (suc count) t))
 
-      reading : ¬ (at ≡ length code) → Further → (o : Result (Reading I)) → read (drop at code) ≡ o → P (suc left) at count s (runFrom read exec (suc left) code at count s)
+      reading : ¬ (at ≡ length code) → Further → (o : Result (Fetched I)) → read (drop at code) ≡ o → P (suc left) at count s (runFrom read exec (suc left) code at count s)
       reading e further (refused n) eo = simp (ne-eqb _ _ e, eo) (h .unread left at count n s e eo)
       reading e further (done r) eo = executing e further r eo (exec (r .instruction) s) refl
 
@@ -93,12 +93,12 @@ module _ {S I : Type 0} (read : List ℕ → Result (Reading I)) (exec : I → S
       not-read left at count n s e er zero b ended = absurd (omega arith)
       not-read left at count n s e er (suc more) b ended = simp (ne-eqb _ _ e, er)
 
-      not-executed : (left at count n : ℕ) (s : S) (r : Reading I) → ¬ (at ≡ length code) → read (drop at code) ≡ done r → exec (r .instruction) s ≡ refused n
+      not-executed : (left at count n : ℕ) (s : S) (r : Fetched I) → ¬ (at ≡ length code) → read (drop at code) ≡ done r → exec (r .instruction) s ≡ refused n
           → Stays (suc left) at count s (stopped n at count s)
       not-executed left at count n s r e er eo zero b ended = absurd (omega arith)
       not-executed left at count n s r e er eo (suc more) b ended = simp (ne-eqb _ _ e, er, eo)
 
-      further : (left at count : ℕ) (s t : S) (r : Reading I) (a : Answer S) → ¬ (at ≡ length code) → read (drop at code) ≡ done r → exec (r .instruction) s ≡ done t
+      further : (left at count : ℕ) (s t : S) (r : Fetched I) (a : Answer S) → ¬ (at ≡ length code) → read (drop at code) ≡ done r → exec (r .instruction) s ≡ done t
           → Stays left (at + r .size) (suc count) t a → Stays (suc left) at count s a
       further left at count s t r a e er eo rest zero b ended = absurd (omega arith)
       further left at count s t r a e er eo rest (suc more) b ended = simp (ne-eqb _ _ e, er, eo) (rest more (omega arith) ended)

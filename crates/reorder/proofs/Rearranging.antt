@@ -9,7 +9,7 @@ use lib.ListN.{length, getD, length-append, length-map}
 use lib.Seq.{take-at, drop-at}
 use Rattle.reorder.specs.Result.{Result, done, refused, andThen}
 use Rattle.reorder.specs.Order.{NewOrder, Keeps}
-use Rattle.reorder.specs.Run.{Reading, finished, run}
+use Rattle.reorder.specs.Run.{Fetched, finished, run}
 use Rattle.reorder.specs.Block.{piecesUpTo, piecesOf, inOrder, rearranged}
 use Rattle.reorder.proofs.Rows.{execAll, footprintAt, onBytes, footprintInCode}
 use Rattle.reorder.proofs.Permutation.{Permutation, from, order-permutation, order-below}
@@ -37,7 +37,7 @@ map-from f (x ∷ l) m h =
     ap₂ (λ (y : List ℕ) (ys : List (List ℕ)). y ∷ ys) (ap f (sym (add-zero m)) ∙ h zero (omega arith))
     (map-from f l (suc m) (λ k b. ap f (suc-add m k ∙ sym (add-suc m k)) ∙ h (suc k) (omega arith)))
 
-module _ {I : Type 0} (read : List ℕ → Result (Reading I)) where
+module _ {I : Type 0} (read : List ℕ → Result (Fetched I)) where
   pub whole-at : (pieces : List (List ℕ)) → AllWhole read pieces → (k : ℕ) → k < length pieces → Whole read (getD pieces k [])
   whole-at [] w k l = absurd (omega arith)
   whole-at (piece ∷ pieces) w zero l = w .0
@@ -54,7 +54,7 @@ module _ {I : Type 0} (read : List ℕ → Result (Reading I)) where
     found-up-to [] zero w b = refl
     found-up-to [] (suc most) w b = go (read []) refl
       where
-        go : (o : Result (Reading I)) → read [] ≡ o → piecesUpTo read (suc most) [] ≡ []
+        go : (o : Result (Fetched I)) → read [] ≡ o → piecesUpTo read (suc most) [] ≡ []
         go (done r) e = absurd (omega (arith, reader .some-bytes [] r e))
         go (refused n) e = simp e
     found-up-to (piece ∷ pieces) zero w b = absurd (omega arith)
@@ -91,7 +91,7 @@ module _ {I : Type 0} (read : List ℕ → Result (Reading I)) where
       print pieces s k = footprintAt (onBytes read exec) (onBytes read footprint) pieces s [] k
 
       -- the swap law, for what reads as an instruction or doesn't
-      swap-read : Swap S (Result (Reading I)) (Result F) (λ o s. andThen o (λ r. exec (r .instruction) s)) (λ o s. andThen o (λ r. footprint (r .instruction) s)) Meets
+      swap-read : Swap S (Result (Fetched I)) (Result F) (λ o s. andThen o (λ r. exec (r .instruction) s)) (λ o s. andThen o (λ r. footprint (r .instruction) s)) Meets
       swap-read (done a) (done b) s s₁ s₂ ea eb n = swap (a .instruction) (b .instruction) s s₁ s₂ ea eb n
       swap-read (done a) (refused n) s s₁ s₂ ea eb m = absurd (false≢true (cc))
       swap-read (refused n) o s s₁ s₂ ea eb m = absurd (false≢true (cc))

@@ -3,7 +3,7 @@ use mathlib.Core.List.{List, [], _∷_}
 use Prim.Native.Nat.{ℕ, zero, suc}
 use lib.ListN.{getD}
 use Rattle.reorder.specs.Result.{Result, done, andThen, caseOf}
-use Rattle.reorder.specs.Run.{Reading}
+use Rattle.reorder.specs.Run.{Fetched}
 use Rattle.reorder.specs.Block.{piecesOf}
 
 module _ {S I : Type 0} (exec : I → S → Result S) where
@@ -26,7 +26,7 @@ module _ {S I : Type 0} (exec : I → S → Result S) where
   abbrev pub footprintAt : {F : Type 0} → (I → S → F) → List I → S → I → ℕ → F
   footprintAt footprint row s past k = footprint (getD row k past) (before row k s)
 
-module _ {I : Type 0} (read : List ℕ → Result (Reading I)) where
+module _ {I : Type 0} (read : List ℕ → Result (Fetched I)) where
   -- what is done with an instruction, done with its bytes
   abbrev pub onBytes : {S A : Type 0} → (I → S → Result A) → List ℕ → S → Result A
   onBytes act bytes s = andThen (read bytes) (λ found. act (found .instruction) s)

@@ -3,13 +3,13 @@ use mathlib.Core.List.{List, [], _∷_, map, flatten}
 use Prim.Native.Nat.{ℕ, zero, suc}
 use lib.ListN.{length, getD, take, drop}
 use Rattle.reorder.specs.Result.{Result, caseOf}
-use Rattle.reorder.specs.Run.{Reading}
+use Rattle.reorder.specs.Run.{Fetched}
 
 -- the pieces with these numbers, one after the other
 abbrev pub inOrder : List (List ℕ) → List ℕ → List ℕ
 inOrder pieces order = flatten (map (λ k. getD pieces k []) order)
 
-module _ {I : Type 0} (read : List ℕ → Result (Reading I)) where
+module _ {I : Type 0} (read : List ℕ → Result (Fetched I)) where
   -- the bytes of the instructions, one by one, as far as reading goes, at most so many
   abbrev pub piecesUpTo : ℕ → List ℕ → List (List ℕ)
   piecesUpTo zero code = []

@@ -7,7 +7,7 @@ use lib.ListN.{length, drop}
 use Rattle.reorder.specs.Result.{Result, caseOf}
 
 -- what reading finds: the instruction, and how many bytes it has
-pub record Reading (I : Type 0) : Type 0 where
+pub record Fetched (I : Type 0) : Type 0 where
   pub instruction : I
   pub size : ℕ
 
@@ -29,7 +29,7 @@ stateReached (finished position count s) = s
 stateReached (spent position count s) = s
 stateReached (stopped n position count s) = s
 
-module _ {S I : Type 0} (read : List ℕ → Result (Reading I)) (exec : I → S → Result S) where
+module _ {S I : Type 0} (read : List ℕ → Result (Fetched I)) (exec : I → S → Result S) where
   -- at the end of the code: finished; else with nothing left of the budget: spent; else a step
   abbrev pub runFrom : ℕ → List ℕ → ℕ → ℕ → S → Answer S
   runFrom zero code position count s =

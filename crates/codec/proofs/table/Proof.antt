@@ -1,12 +1,12 @@
 -- `table` meets its contract: packing the rows computes the constant, number by number.
 use mathlib.Core.Path.{refl}
-use Rattle.codec.specs.Packed.{packedRows}
+use Rattle.codec.specs.Table.{opcodeTable}
 use Rattle.codec.specs.Opcodes.{formAt, operationAt}
 use Rattle.codec.proofs.table.Statement.{statement}
 use Rattle.codec.proofs.table.Tie as tie
 
 returns : tie.Need-returns
-unfolding packedRows formAt operationAt
+unfolding opcodeTable formAt operationAt
 returns c = refl
 
 pub table-spec : {M : Type 1} → statement M

@@ -1,6 +1,6 @@
 -- `opcodes::form_for` meets its contract: our table has the form of every second byte.
 use borrow.Author.Needs.{needs}
-use Rattle.codec.specs.Packed.{packedRows}
+use Rattle.codec.specs.Table.{opcodeTable}
 use Rattle.codec.specs.Opcodes.{formAt, operationAt}
 use Rattle.codec.proofs.Entries.{form-is}
 use Rattle.codec.proofs.opcodes.form_for.Statement.{statement}
@@ -13,7 +13,7 @@ array-read-result : tie.Need-array-read-result
 array-read-result c = search needs
 
 returns : tie.Need-returns
-unfolding packedRows formAt operationAt
+unfolding opcodeTable formAt operationAt
 returns c = form-is (c .args .second)
 
 pub form-for-spec : {M : Type 1} → statement M

@@ -1,31 +1,28 @@
--- The numbers that the code's table holds: the form's number, the operand's size, nothing and the operation's number, of a byte each; of the shifts by an
--- immediate, the form's number and the operations of /2, /4 and /6.
+-- The code's table: a number for each second byte. From the highest byte down it has the form's number, the operand's size in memory, nothing and
+-- the operation's number; for the shifts by an immediate, the form's number and the operations of /2, /4 and /6.
 use Prim.Native.Nat.{ℕ, zero, suc, _+_, _*_, _/_, _%_, _^_}
 use mathlib.Core.List.{List, [], _∷_}
-use mathlib.Core.Bool.{Bool, cond, _&&_}
-use lib.Dec.{eqb, ltb}
+use mathlib.Core.Bool.{cond}
+use lib.Dec.{eqb}
 use lib.ListN.{getD}
 use Rattle.lanes.specs.Operations.{Operation, operationOf, numbered, KEEP}
-use Rattle.codec.specs.Forms.{Form, mmreg1·mmreg2/mem64, forms, memorySize}
-use Rattle.codec.specs.Opcodes.{formAt, operationAt}
+use Rattle.codec.specs.Forms.{Form, mmreg1·mmreg2/mem64, forms, hasDigits, memorySize}
+use Rattle.codec.specs.Opcodes.{find, formAt, operationAt}
 
--- the form that a number names; past the last it is the usual one
+-- the form that a number names; one that none has names the usual form
 abbrev pub formOf : ℕ → Form
-formOf number = getD forms number mmreg1·mmreg2/mem64
+formOf number = find (λ form. eqb number (form .number)) (λ form. form) mmreg1·mmreg2/mem64 forms
 
 -- the operation's number of a second byte with a digit
 abbrev numberAt : ℕ → ℕ → ℕ
 numberAt second digit = numbered (operationAt second digit) .0
 
--- the numbers of the shifts by an immediate: 2 and 3
-abbrev pub shiftsBy : ℕ → Bool
-shiftsBy number = ltb number 4 && ltb 1 number
-
-abbrev pub packed : ℕ → ℕ
-packed second =
+-- what it holds for a second byte
+abbrev pub entryAt : ℕ → ℕ
+entryAt second =
     let form = formAt second in
     form .number * 2 ^ 24
-    + cond (shiftsBy (form .number))
+    + cond (hasDigits form)
     (numberAt second 2 * 2 ^ 16 + numberAt second 4 * 2 ^ 8 + numberAt second 6)
     (memorySize form * 2 ^ 16 + numberAt second 0)
 
@@ -35,8 +32,8 @@ listed f from zero = []
 listed f from (suc count) = f from ∷ listed f (suc from) count
 
 -- the whole table, by the second byte
-unfoldable pub packedRows : List ℕ
-packedRows = listed packed 0 256
+unfoldable pub opcodeTable : List ℕ
+opcodeTable = listed entryAt 0 256
 
 -- what any table of such numbers says of a second byte
 abbrev pub formIn : List ℕ → ℕ → Form
@@ -51,4 +48,4 @@ shiftIn number digit =
 
 -- the operation that a number names, with what stands in reg
 unfoldable pub operationIn : ℕ → ℕ → Operation
-operationIn number reg = cond (shiftsBy (number / 2 ^ 24)) (shiftIn number reg) (operationOf (number % 256))
+operationIn number reg = cond (hasDigits (formOf (number / 2 ^ 24))) (shiftIn number reg) (operationOf (number % 256))

@@ -1,0 +1,84 @@
+-- The instructions: the manual's 47 headings in the order of its table of contents, each with its opcode bytes, forms and operations. Reading, writing,
+-- effects and footprints all go by this list.
+use Prim.Native.Nat.{ℕ}
+use Prim.Native.String.{String}
+use mathlib.Core.List.{List, [], _∷_, _++_}
+use mathlib.Core.Option.{Option, none, some}
+use Rattle.lanes.specs.Operations.{Operation, PUNPCKLBW, PUNPCKLWD, PUNPCKLDQ, PACKSSWB, PACKUSWB, PACKSSDW, PCMPGTB, PCMPGTW, PCMPGTD, PUNPCKHBW, PUNPCKHWD, PUNPCKHDQ, MOVE, PCMPEQB, PCMPEQW, PCMPEQD, PSRLW, PSRLD, PSRLQ, PSRAW, PSRAD, PSLLW, PSLLD, PSLLQ, PMULLW, PMULHW, PMADDWD, PSUBUSB, PSUBUSW, PADDUSB, PADDUSW, PSUBSB, PSUBSW, PADDSB, PADDSW, PAND, PANDN, POR, PXOR, PSUBB, PSUBW, PSUBD, PADDB, PADDW, PADDD, KEEP}
+use Rattle.codec.specs.Forms.{Form, alone, mmreg2·imm8/642, mmreg2·imm8/62, reg32/mem32←mmreg1, mmreg1←reg32/mem32, mmreg2/mem64←mmreg1, mmreg1·mmreg2/mem32, mmreg1·mmreg2/mem64, mmreg1←mmreg2/mem64}
+
+-- an instruction: the byte after 0F, the digit in reg, if it has one, its form, and what it computes
+pub record Line : Type 0 where
+  pub second : ℕ
+  pub digit : Option ℕ
+  pub form : Form
+  pub operation : Operation
+
+abbrev line : ℕ → Form → Operation → Line
+line second form operation = record { second = second; digit = none; form = form; operation = operation }
+
+abbrev digit : ℕ → ℕ → Form → Operation → Line
+digit second d form operation = record { second = second; digit = some d; form = form; operation = operation }
+
+pub data Heading : Type 0 where
+  heading : String → List Line → Heading
+
+-- (a heading's name is for the reader: its bytes decide. PCMPGTD goes by its heading, though its text names another; the low unpacks have mem32
+-- since revision D)
+abbrev pub contents : List Heading
+contents =
+    heading "EMMS" (line 0x77 alone KEEP ∷ [])
+    ∷ heading "MOVD" (line 0x6e mmreg1←reg32/mem32 MOVE ∷ line 0x7e reg32/mem32←mmreg1 MOVE ∷ [])
+    ∷ heading "MOVQ" (line 0x6f mmreg1←mmreg2/mem64 MOVE ∷ line 0x7f mmreg2/mem64←mmreg1 MOVE ∷ [])
+    ∷ heading "PACKSSDW" (line 0x6b mmreg1·mmreg2/mem64 PACKSSDW ∷ [])
+    ∷ heading "PACKSSWB" (line 0x63 mmreg1·mmreg2/mem64 PACKSSWB ∷ [])
+    ∷ heading "PACKUSWB" (line 0x67 mmreg1·mmreg2/mem64 PACKUSWB ∷ [])
+    ∷ heading "PADDB" (line 0xfc mmreg1·mmreg2/mem64 PADDB ∷ [])
+    ∷ heading "PADDD" (line 0xfe mmreg1·mmreg2/mem64 PADDD ∷ [])
+    ∷ heading "PADDSB" (line 0xec mmreg1·mmreg2/mem64 PADDSB ∷ [])
+    ∷ heading "PADDSW" (line 0xed mmreg1·mmreg2/mem64 PADDSW ∷ [])
+    ∷ heading "PADDUSB" (line 0xdc mmreg1·mmreg2/mem64 PADDUSB ∷ [])
+    ∷ heading "PADDUSW" (line 0xdd mmreg1·mmreg2/mem64 PADDUSW ∷ [])
+    ∷ heading "PADDW" (line 0xfd mmreg1·mmreg2/mem64 PADDW ∷ [])
+    ∷ heading "PAND" (line 0xdb mmreg1·mmreg2/mem64 PAND ∷ [])
+    ∷ heading "PANDN" (line 0xdf mmreg1·mmreg2/mem64 PANDN ∷ [])
+    ∷ heading "PCMPEQB" (line 0x74 mmreg1·mmreg2/mem64 PCMPEQB ∷ [])
+    ∷ heading "PCMPEQD" (line 0x76 mmreg1·mmreg2/mem64 PCMPEQD ∷ [])
+    ∷ heading "PCMPEQW" (line 0x75 mmreg1·mmreg2/mem64 PCMPEQW ∷ [])
+    ∷ heading "PCMPGTB" (line 0x64 mmreg1·mmreg2/mem64 PCMPGTB ∷ [])
+    ∷ heading "PCMPGTD" (line 0x66 mmreg1·mmreg2/mem64 PCMPGTD ∷ [])
+    ∷ heading "PCMPGTW" (line 0x65 mmreg1·mmreg2/mem64 PCMPGTW ∷ [])
+    ∷ heading "PMADDWD" (line 0xf5 mmreg1·mmreg2/mem64 PMADDWD ∷ [])
+    ∷ heading "PMULHW" (line 0xe5 mmreg1·mmreg2/mem64 PMULHW ∷ [])
+    ∷ heading "PMULLW" (line 0xd5 mmreg1·mmreg2/mem64 PMULLW ∷ [])
+    ∷ heading "POR" (line 0xeb mmreg1·mmreg2/mem64 POR ∷ [])
+    ∷ heading "PSLLD" (line 0xf2 mmreg1·mmreg2/mem64 PSLLD ∷ digit 0x72 6 mmreg2·imm8/642 PSLLD ∷ [])
+    ∷ heading "PSLLQ" (line 0xf3 mmreg1·mmreg2/mem64 PSLLQ ∷ digit 0x73 6 mmreg2·imm8/62 PSLLQ ∷ [])
+    ∷ heading "PSLLW" (line 0xf1 mmreg1·mmreg2/mem64 PSLLW ∷ digit 0x71 6 mmreg2·imm8/642 PSLLW ∷ [])
+    ∷ heading "PSRAD" (line 0xe2 mmreg1·mmreg2/mem64 PSRAD ∷ digit 0x72 4 mmreg2·imm8/642 PSRAD ∷ [])
+    ∷ heading "PSRAW" (line 0xe1 mmreg1·mmreg2/mem64 PSRAW ∷ digit 0x71 4 mmreg2·imm8/642 PSRAW ∷ [])
+    ∷ heading "PSRLD" (line 0xd2 mmreg1·mmreg2/mem64 PSRLD ∷ digit 0x72 2 mmreg2·imm8/642 PSRLD ∷ [])
+    ∷ heading "PSRLQ" (line 0xd3 mmreg1·mmreg2/mem64 PSRLQ ∷ digit 0x73 2 mmreg2·imm8/62 PSRLQ ∷ [])
+    ∷ heading "PSRLW" (line 0xd1 mmreg1·mmreg2/mem64 PSRLW ∷ digit 0x71 2 mmreg2·imm8/642 PSRLW ∷ [])
+    ∷ heading "PSUBB" (line 0xf8 mmreg1·mmreg2/mem64 PSUBB ∷ [])
+    ∷ heading "PSUBD" (line 0xfa mmreg1·mmreg2/mem64 PSUBD ∷ [])
+    ∷ heading "PSUBSB" (line 0xe8 mmreg1·mmreg2/mem64 PSUBSB ∷ [])
+    ∷ heading "PSUBSW" (line 0xe9 mmreg1·mmreg2/mem64 PSUBSW ∷ [])
+    ∷ heading "PSUBUSB" (line 0xd8 mmreg1·mmreg2/mem64 PSUBUSB ∷ [])
+    ∷ heading "PSUBUSW" (line 0xd9 mmreg1·mmreg2/mem64 PSUBUSW ∷ [])
+    ∷ heading "PSUBW" (line 0xf9 mmreg1·mmreg2/mem64 PSUBW ∷ [])
+    ∷ heading "PUNPCKHBW" (line 0x68 mmreg1·mmreg2/mem64 PUNPCKHBW ∷ [])
+    ∷ heading "PUNPCKHDQ" (line 0x6a mmreg1·mmreg2/mem64 PUNPCKHDQ ∷ [])
+    ∷ heading "PUNPCKHWD" (line 0x69 mmreg1·mmreg2/mem64 PUNPCKHWD ∷ [])
+    ∷ heading "PUNPCKLBW" (line 0x60 mmreg1·mmreg2/mem32 PUNPCKLBW ∷ [])
+    ∷ heading "PUNPCKLDQ" (line 0x62 mmreg1·mmreg2/mem32 PUNPCKLDQ ∷ [])
+    ∷ heading "PUNPCKLWD" (line 0x61 mmreg1·mmreg2/mem32 PUNPCKLWD ∷ [])
+    ∷ heading "PXOR" (line 0xef mmreg1·mmreg2/mem64 PXOR ∷ [])
+    ∷ []
+
+abbrev pub linesOf : List Heading → List Line
+linesOf [] = []
+linesOf (heading name lines ∷ rest) = lines ++ linesOf rest
+
+abbrev pub lines : List Line
+lines = linesOf contents
