@@ -13,6 +13,7 @@ pub mod Uses
 pub mod Direct
 pub mod Meeting
 pub mod Headings
+pub mod OpcodeTable
 pub mod Plates
 pub mod Edges
 pub mod FootprintTable

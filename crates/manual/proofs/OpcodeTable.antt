@@ -1,0 +1,106 @@
+-- A second opinion on the list of instructions: document 01's table of opcode bytes, in its own order, with its words on operands. Each instruction has the
+-- effect that its row says, for every operand and immediate: by computation.
+use mathlib.Core.Path.{_≡_, refl}
+use mathlib.Core.Bool.{cond, not}
+use mathlib.Core.List.{List, [], _∷_, map}
+use Prim.Native.Nat.{ℕ, _%_, _^_}
+use lib.Bits.{bitAnd, bitOr, bitXor}
+use lib.Dec.{eqb}
+use lib.ListN.{length}
+use Rattle.lanes.specs.Signed.{clampSigned, clampUnsigned}
+use Rattle.lanes.specs.Rules.{packed, pairwise, sum, difference, sumSigned, differenceSigned, sumUnsigned, differenceUnsigned, equal, greater, productLow, productHigh, productSum, pack, unpackLow, unpackHigh, andNot, shift, left, right, rightSigned}
+use Rattle.lanes.specs.Operations.{operate}
+use Rattle.codec.specs.Forms.{isAmong, isAbsent}
+use Rattle.codec.specs.Opcodes.{escape, formAt, operationAt}
+use Rattle.codec.specs.Table.{listed}
+use Rattle.codec.specs.Reads.{instructionOf}
+use Rattle.codec.specs.declared.Operand.{Operand}
+use Rattle.codec.specs.declared.Kind.the-variants.{Emms}
+use Rattle.manual.specs.Addresses.{addressOf}
+use Rattle.manual.specs.Locations.{Location, mmxRegister, integerRegister, memory, rmOf}
+use Rattle.manual.specs.Effects.{Effect}
+use Rattle.manual.specs.Instructions.{effectOf}
+use Rattle.manual.proofs.Direct.{both, move, bare}
+
+-- "the reg field names the MMX register and r/m the other operand": at mod 11 a register, else bytes in memory
+
+abbrev mmxOfReg : Operand → Location
+mmxOfReg w = mmxRegister (w .reg)
+
+abbrev mmxOr : ℕ → Operand → Location
+mmxOr size w = cond (eqb (w .mode) 3) (mmxRegister (w .rm)) (memory (addressOf w) size)
+
+abbrev integerOr : ℕ → Operand → Location
+integerOr size w = cond (eqb (w .mode) 3) (integerRegister (w .rm)) (memory (addressOf w) size)
+
+-- a row's effects, with an operand
+
+-- "a destination register is also read", and the memory operand is 8 bytes, or 4
+abbrev eight : (ℕ → ℕ → ℕ) → Operand → Effect
+eight f w = both f (mmxOfReg w) (mmxOr 8 w)
+
+abbrev four : (ℕ → ℕ → ℕ) → Operand → Effect
+four f w = both f (mmxOfReg w) (mmxOr 4 w)
+
+-- "except by MOVD and MOVQ"; "7E and 7F write to r/m"; of an MMX register, MOVD stores the low doubleword
+abbrev copies : (ℕ → ℕ) → (Operand → Location) → (Operand → Location) → Operand → Effect
+copies f destination source w = move f (destination w) (source w)
+
+abbrev whole : ℕ → ℕ
+whole x = x
+
+abbrev lowHalf : ℕ → ℕ
+lowHalf x = x % 2 ^ 32
+
+abbrev table : List (ℕ × (Operand → Effect))
+table =
+    (0x60, four (packed unpackLow 8)) ∷ (0x61, four (packed unpackLow 16)) ∷ (0x62, four (packed unpackLow 32))
+    ∷ (0x63, eight (packed (pack clampSigned) 8)) ∷ (0x67, eight (packed (pack clampUnsigned) 8)) ∷ (0x6b, eight (packed (pack clampSigned) 16))
+    ∷ (0x64, eight (packed (pairwise greater) 8)) ∷ (0x65, eight (packed (pairwise greater) 16)) ∷ (0x66, eight (packed (pairwise greater) 32))
+    ∷ (0x68, eight (packed unpackHigh 8)) ∷ (0x69, eight (packed unpackHigh 16)) ∷ (0x6a, eight (packed unpackHigh 32))
+    ∷ (0x6e, copies whole mmxOfReg (integerOr 4)) ∷ (0x7e, copies lowHalf (integerOr 4) mmxOfReg)
+    ∷ (0x6f, copies whole mmxOfReg (mmxOr 8)) ∷ (0x7f, copies whole (mmxOr 8) mmxOfReg)
+    ∷ (0x74, eight (packed (pairwise equal) 8)) ∷ (0x75, eight (packed (pairwise equal) 16)) ∷ (0x76, eight (packed (pairwise equal) 32))
+    ∷ (0x77, λ w. bare Emms)
+    ∷ (0xd1, eight (packed (shift right) 16)) ∷ (0xd2, eight (packed (shift right) 32)) ∷ (0xd3, eight (packed (shift right) 64))
+    ∷ (0xe1, eight (packed (shift rightSigned) 16)) ∷ (0xe2, eight (packed (shift rightSigned) 32))
+    ∷ (0xf1, eight (packed (shift left) 16)) ∷ (0xf2, eight (packed (shift left) 32)) ∷ (0xf3, eight (packed (shift left) 64))
+    ∷ (0xd5, eight (packed (pairwise productLow) 16)) ∷ (0xe5, eight (packed (pairwise productHigh) 16)) ∷ (0xf5, eight (packed (pairwise productSum) 32))
+    ∷ (0xd8, eight (packed (pairwise differenceUnsigned) 8)) ∷ (0xd9, eight (packed (pairwise differenceUnsigned) 16))
+    ∷ (0xdc, eight (packed (pairwise sumUnsigned) 8)) ∷ (0xdd, eight (packed (pairwise sumUnsigned) 16))
+    ∷ (0xe8, eight (packed (pairwise differenceSigned) 8)) ∷ (0xe9, eight (packed (pairwise differenceSigned) 16))
+    ∷ (0xec, eight (packed (pairwise sumSigned) 8)) ∷ (0xed, eight (packed (pairwise sumSigned) 16))
+    ∷ (0xdb, eight bitAnd) ∷ (0xdf, eight andNot) ∷ (0xeb, eight bitOr) ∷ (0xef, eight bitXor)
+    ∷ (0xf8, eight (packed (pairwise difference) 8)) ∷ (0xf9, eight (packed (pairwise difference) 16)) ∷ (0xfa, eight (packed (pairwise difference) 32))
+    ∷ (0xfc, eight (packed (pairwise sum) 8)) ∷ (0xfd, eight (packed (pairwise sum) 16)) ∷ (0xfe, eight (packed (pairwise sum) 32)) ∷ []
+
+-- "immediate shifts of W, D, Q: /2 right logical, /4 right arithmetic (71 and 72 only), /6 left": the byte, the digit, and what is left of a register
+-- and a count
+abbrev shifts : List (ℕ × (ℕ × (ℕ → ℕ → ℕ)))
+shifts =
+    (0x71, (2, packed (shift right) 16)) ∷ (0x71, (4, packed (shift rightSigned) 16)) ∷ (0x71, (6, packed (shift left) 16))
+    ∷ (0x72, (2, packed (shift right) 32)) ∷ (0x72, (4, packed (shift rightSigned) 32)) ∷ (0x72, (6, packed (shift left) 32))
+    ∷ (0x73, (2, packed (shift right) 64)) ∷ (0x73, (6, packed (shift left) 64)) ∷ []
+
+abbrev withDigit : ℕ → Operand → Operand
+withDigit digit w =
+    record { mode = w .mode; reg = digit; rm = w .rm; scale = w .scale; index = w .index; base = w .base; displacement = w .displacement }
+
+abbrev secondBytes : List ℕ
+secondBytes = 0x71 ∷ 0x72 ∷ 0x73 ∷ map (λ (x : ℕ × (Operand → Effect)). x .0) table
+
+pub record Agrees : Type 0 where
+  -- "That is 52 second bytes", and the list has no other
+  pub count : length secondBytes ≡ 52
+  pub bytes : listed (λ b. isAmong b secondBytes) 0 256 ≡ listed (λ b. not (isAbsent (formAt b))) 0 256
+  pub effects : (w : Operand) (immediate : ℕ)
+      → map (λ (x : ℕ × (Operand → Effect)). effectOf (instructionOf escape (x .0) w immediate)) table
+      ≡ map (λ (x : ℕ × (Operand → Effect)). x .1 w) table
+  -- "71-73 then have one immediate byte and shift the register named by rm"
+  pub shifted : (w : Operand) (immediate : ℕ)
+      → map (λ (x : ℕ × (ℕ × (ℕ → ℕ → ℕ))). effectOf (instructionOf escape (x .0) (withDigit (x .1 .0) w) immediate)) shifts
+      ≡ map (λ (x : ℕ × (ℕ × (ℕ → ℕ → ℕ))). move (λ y. x .1 .1 y immediate) (mmxRegister (w .rm)) (mmxRegister (w .rm))) shifts
+
+pub agrees : Agrees
+unfolding operate formAt operationAt rmOf effectOf
+agrees = record { count = refl; bytes = refl; effects = λ w immediate. refl; shifted = λ w immediate. refl }
