@@ -7,7 +7,7 @@ use native.Mathlib.Omega.{arith}
 use borrow.Author.Tests.{ltb-true, le-ltb, eqb-true}
 use lib.Dec.{eqb, ltb}
 use Rattle.codec.specs.Forms.{Form, absent, mmreg1·mmreg2/mem64, forms}
-use Rattle.codec.specs.Contents.{Line, lines}
+use Rattle.codec.specs.Contents.{lines}
 use Rattle.codec.specs.Opcodes.{find, formAt}
 use Rattle.codec.specs.Table.{formOf}
 use Rattle.words.proofs.Laws.{and-both}

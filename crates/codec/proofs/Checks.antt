@@ -9,7 +9,8 @@ use lib.Dec.{eqb, ltb}
 use Rattle.codec.specs.Forms.{Form, allows, immediateSize}
 use Rattle.codec.specs.Opcodes.{formAt, escape}
 use Rattle.codec.specs.Table.{formOf}
-use Rattle.codec.specs.Operands.{hasSib, displacementSize, Sized}
+use Rattle.codec.specs.Operands.{hasSib, displacementSize}
+use Rattle.codec.specs.inner.Fields.{Sized}
 use Rattle.codec.specs.Fits.{fits, sibFits, operandFits, operandIsZero, partsFit, hasBytes}
 use Rattle.codec.specs.declared.Operand.{Operand}
 use Rattle.codec.specs.declared.Instruction.{Instruction}

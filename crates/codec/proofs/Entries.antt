@@ -2,7 +2,6 @@
 use Prim.Native.Nat.{ℕ, zero, suc, _+_, _*_, _/_, _%_, _^_, _≤_, _<_}
 use mathlib.Core.Path.{_≡_, refl, sym, ap, ap₂, subst, _∙_}
 use mathlib.Core.Bool.{Bool, true, false, cond}
-use mathlib.Core.List.{[]}
 use native.Mathlib.Omega.{arith}
 use native.Mathlib.Nat.{zero-add, add-zero}
 use borrow.Author.Tests.{ltb-true, ltb-false}
@@ -10,7 +9,8 @@ use lib.Dec.{eqb, ltb}
 use lib.ListN.{length, getD, List·getD-eq-default}
 use Rattle.lanes.specs.Operations.{KEEP}
 use Rattle.codec.specs.Opcodes.{formAt, operationAt, escape}
-use Rattle.codec.specs.Table.{formOf, entryAt, listed, opcodeTable, formIn, shiftIn, operationIn}
+use Rattle.codec.specs.Table.{formOf, entryAt, listed, opcodeTable, formIn}
+use Rattle.codec.specs.inner.Entries.{shiftIn, operationIn}
 use Rattle.codec.specs.Forms.{absent}
 use Rattle.codec.specs.Reader.{refuse, byte}
 use Rattle.codec.specs.Reads.{formReader, secondReader, instructionReader, refusalOf}

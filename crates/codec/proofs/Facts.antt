@@ -8,7 +8,8 @@ use lib.Dec.{eqb, ltb}
 use Rattle.codec.specs.Forms.{Form, isAbsent, hasOperand, allows, immediateSize}
 use Rattle.codec.specs.Opcodes.{formAt, escape}
 use Rattle.codec.specs.Table.{formOf}
-use Rattle.codec.specs.Operands.{hasSib, displacementSize, noOperand, Fields}
+use Rattle.codec.specs.Operands.{hasSib, displacementSize, noOperand}
+use Rattle.codec.specs.inner.Fields.{Fields}
 use Rattle.codec.specs.Fits.{all, fits, sibFits, operandFits, operandIsZero, partsFit, hasBytes}
 use Rattle.codec.specs.declared.Operand.{Operand}
 use Rattle.codec.specs.declared.Instruction.{Instruction}

@@ -8,7 +8,8 @@ use lib.Dec.{eqb}
 use Rattle.codec.specs.Refusals.{prefixed, notListed}
 use Rattle.codec.specs.Forms.{Form, isAmong, isAbsent, hasOperand, allows}
 use Rattle.codec.specs.Opcodes.{escape, prefixes}
-use Rattle.codec.specs.Operands.{upper, middle, lower, hasSib, operandOf, noOperand, Registers}
+use Rattle.codec.specs.Operands.{upper, middle, lower, hasSib, operandOf, noOperand}
+use Rattle.codec.specs.inner.Fields.{Registers}
 use Rattle.codec.specs.Reader.{Reader, refuse, reads}
 use Rattle.codec.specs.Reads.{immediateReader, displacementReader, sibReader, modrmReader, formReader, secondReader, instructionReader, refusalOf}
 use Rattle.codec.specs.declared.Operand.{Operand}

@@ -2,7 +2,8 @@
 use Prim.Native.Nat.{ℕ, _<_}
 use mathlib.Core.Path.{_≡_}
 use native.Mathlib.Omega.{arith}
-use Rattle.codec.specs.Operands.{upper, middle, lower, joined, Fields}
+use Rattle.codec.specs.Operands.{upper, middle, lower, joined}
+use Rattle.codec.specs.inner.Fields.{Fields}
 
 pub joined-fields : (b : ℕ) → joined (upper b) (middle b) (lower b) ≡ b
 joined-fields b = omega arith

@@ -17,6 +17,7 @@ pub mod ReadingBack
 pub mod Ranges
 pub mod Theorems
 pub mod Exactly
+pub mod Headings
 pub mod Sixes
 pub mod OpcodeBytes
 pub mod Example

@@ -15,9 +15,11 @@ use Rattle.codec.specs.Answers.{wrote, refusedWith}
 use Rattle.codec.specs.Forms.{Form, immediateSize}
 use Rattle.codec.specs.Opcodes.{formAt}
 use Rattle.codec.specs.Table.{formOf}
-use Rattle.codec.specs.Operands.{joined, hasSib, displacementSize, Sized}
+use Rattle.codec.specs.Operands.{joined, hasSib, displacementSize}
+use Rattle.codec.specs.inner.Fields.{Sized}
 use Rattle.codec.specs.Fits.{hasBytes}
-use Rattle.codec.specs.Writes.{sibBytes, displacementBytes, operandBytes, operandSize, partsBytes, bytesOf, writeTo}
+use Rattle.codec.specs.Writes.{sibBytes, displacementBytes, operandBytes, partsBytes, bytesOf, writeTo}
+use Rattle.codec.specs.inner.Fields.{operandSize}
 use Rattle.codec.specs.declared.Operand.{Operand}
 use Rattle.codec.specs.declared.Instruction.{Instruction}
 use Rattle.words.proofs.Numbers.{length-bytes}

@@ -5,7 +5,8 @@ use mathlib.Core.Bool.{Bool, true, false}
 use native.Mathlib.Omega.{arith}
 use Rattle.codec.specs.Forms.{Form, hasOperand, allows, immediateSize}
 use Rattle.codec.specs.Opcodes.{formAt, escape}
-use Rattle.codec.specs.Operands.{hasSib, displacementSize, Fields, Registers}
+use Rattle.codec.specs.Operands.{hasSib, displacementSize}
+use Rattle.codec.specs.inner.Fields.{Fields, Registers}
 use Rattle.codec.specs.Fits.{operandFits, hasBytes}
 use Rattle.codec.specs.declared.Operand.{Operand}
 use Rattle.codec.specs.declared.Instruction.{Instruction}

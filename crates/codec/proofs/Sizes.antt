@@ -4,7 +4,7 @@ use mathlib.Core.Path.{_≡_, refl}
 use mathlib.Core.List.{List}
 use native.Mathlib.Omega.{arith}
 use lib.ListN.{length}
-use Rattle.codec.specs.Operands.{Sized}
+use Rattle.codec.specs.inner.Fields.{Sized}
 use Rattle.codec.proofs.Tests.{tests}
 
 pub sized-0 : Sized 0

@@ -14,7 +14,8 @@ use Rattle.codec.specs.Refusals.{codeEnds, notListed, notAllowed}
 use Rattle.codec.specs.Forms.{Form, isAbsent, hasOperand, allows, immediateSize}
 use Rattle.codec.specs.Opcodes.{escape}
 use Rattle.codec.specs.Table.{formOf, formIn}
-use Rattle.codec.specs.Operands.{upper, middle, lower, hasSib, displacementSize, operandOf, noOperand, Sized}
+use Rattle.codec.specs.Operands.{upper, middle, lower, hasSib, displacementSize, operandOf, noOperand}
+use Rattle.codec.specs.inner.Fields.{Sized}
 use Rattle.codec.specs.Reader.{Reader, whole, refuse, byte, field, reads}
 use Rattle.codec.specs.Reads.{instructionOf, immediateReader, displacementReader, sibReader, modrmReader, formReader, secondReader, instructionReader, refusalOf}
 use Rattle.codec.specs.Finding.{refusedAs, found, foundIn, findWith}

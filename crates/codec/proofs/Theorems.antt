@@ -11,7 +11,7 @@ use lib.ListN.{length, take, drop}
 use Rattle.words.specs.Number.{AllBytes}
 use Rattle.codec.specs.Refusals.{codeTooLong, noBytes, bufferEnds}
 use Rattle.codec.specs.Opcodes.{formAt, escape}
-use Rattle.codec.specs.Operands.{Registers}
+use Rattle.codec.specs.inner.Fields.{Registers}
 use Rattle.codec.specs.Table.{formIn}
 use Rattle.codec.specs.Reader.{reads}
 use Rattle.codec.specs.Reads.{formReader, secondReader, instructionReader, refusalOf, longestCode, readPart, readAt}

@@ -2,12 +2,10 @@
 use Prim.Native.Nat.{ℕ}
 use mathlib.Core.List.{List}
 use lib.ListN.{getD, drop}
-use Rattle.codec.specs.Forms.{Form}
-use Rattle.codec.specs.Table.{formOf, formIn}
+use Rattle.codec.specs.Table.{formIn}
 use Rattle.codec.specs.Operands.{noOperand}
-use Rattle.codec.specs.Reader.{Reader, reads}
+use Rattle.codec.specs.Reader.{reads}
 use Rattle.codec.specs.Reads.{instructionOf, instructionReader}
-use Rattle.codec.specs.declared.reader.Opcode.{Opcode}
 use Rattle.codec.specs.declared.Found.{Found}
 use Rattle.codec.specs.Answers.{Decoded, good, refused}
 
@@ -21,11 +19,6 @@ abbrev pub found : ℕ → Decoded → Found
 found entry (good instruction next) =
     record { refusal = 0; entry = entry; instruction = instruction; next = next }
 found entry (refused refusal) = refusedAs refusal
-
--- what is found at a position after an opcode, by one of the readers of its form
-abbrev pub foundAfter : Opcode → (Form → ℕ → ℕ → Reader) → List ℕ → ℕ → Found
-foundAfter opcode reader code at =
-    found (opcode .entry) (reads (reader (formOf (opcode .form)) (opcode .first) (opcode .second)) at (drop at code))
 
 -- a reading, with the number that a table has for the instruction's second byte
 abbrev pub foundIn : List ℕ → Decoded → Found

@@ -12,3 +12,4 @@ pub mod Reasons
 pub mod Finding
 pub mod Fits
 pub mod Writes
+pub mod inner

@@ -1,6 +1,5 @@
 -- Where an operand is: the fields of the ModRM and SIB bytes, and which parts a mode has.
-use Prim.Native.Nat.{ℕ, _+_, _*_, _/_, _%_, _≤_, _<_}
-use mathlib.Core.Path.{_≡_}
+use Prim.Native.Nat.{ℕ, _+_, _*_, _/_, _%_}
 use mathlib.Core.Bool.{Bool, not, _&&_, _||_, cond}
 use lib.Dec.{eqb}
 use Rattle.codec.specs.declared.Operand.{Operand}
@@ -46,21 +45,3 @@ operandOf modrm sib displacement =
 abbrev pub noOperand : Operand
 noOperand =
     record { mode = 0; reg = 0; rm = 0; scale = 0; index = 0; base = 0; displacement = 0 }
-
--- fields that fit a ModRM or SIB byte
-pub record Fields (high mid low : ℕ) : Type 0 where
-  pub upper-fits : high < 4
-  pub middle-fits : mid < 8
-  pub lower-fits : low < 8
-
--- register fields that name registers
-pub record Registers (w : Operand) : Type 0 where
-  pub reg : w .reg < 8
-  pub rm : w .rm < 8
-  pub index : w .index < 8
-  pub base : w .base < 8
-
--- the sizes that a displacement or an immediate has: 0, 1 or 4 bytes
-pub record Sized (k : ℕ) : Type 0 where
-  pub most : k ≤ 4
-  pub four : (k ≡ 0 → ⊥) → (k ≡ 1 → ⊥) → k ≡ 4

@@ -1,11 +1,11 @@
 -- The code's table: a number for each second byte. From the highest byte down it has the form's number, the operand's size in memory, nothing and
 -- the operation's number; for the shifts by an immediate, the form's number and the operations of /2, /4 and /6.
-use Prim.Native.Nat.{ℕ, zero, suc, _+_, _*_, _/_, _%_, _^_}
+use Prim.Native.Nat.{ℕ, zero, suc, _+_, _*_, _/_, _^_}
 use mathlib.Core.List.{List, [], _∷_}
 use mathlib.Core.Bool.{cond}
 use lib.Dec.{eqb}
 use lib.ListN.{getD}
-use Rattle.lanes.specs.Operations.{Operation, operationOf, numbered, KEEP}
+use Rattle.lanes.specs.Operations.{numbered}
 use Rattle.codec.specs.Forms.{Form, mmreg1·mmreg2/mem64, forms, hasDigits, memorySize}
 use Rattle.codec.specs.Opcodes.{find, formAt, operationAt}
 
@@ -38,14 +38,3 @@ opcodeTable = listed entryAt 0 256
 -- what any table of such numbers says of a second byte
 abbrev pub formIn : List ℕ → ℕ → Form
 formIn table second = formOf (getD table second 0 / 2 ^ 24)
-
--- the operation of a shift by an immediate, by the digit
-unfoldable pub shiftIn : ℕ → ℕ → Operation
-shiftIn number digit =
-    cond (eqb digit 2) (operationOf (number / 2 ^ 16 % 256))
-    (cond (eqb digit 4) (operationOf (number / 2 ^ 8 % 256))
-    (cond (eqb digit 6) (operationOf (number % 256)) KEEP))
-
--- the operation that a number names, with what stands in reg
-unfoldable pub operationIn : ℕ → ℕ → Operation
-operationIn number reg = cond (hasDigits (formOf (number / 2 ^ 24))) (shiftIn number reg) (operationOf (number % 256))

@@ -29,11 +29,6 @@ unfoldable pub operandBytes : Operand → List ℕ
 operandBytes operand =
     joined (operand .mode) (operand .reg) (operand .rm) ∷ (sibBytes operand ++ displacementBytes operand)
 
--- how many bytes that is
-abbrev pub operandSize : Operand → ℕ
-operandSize operand =
-    1 + length (sibBytes operand) + displacementSize (operand .mode) (operand .rm) (operand .base)
-
 -- the operand and the immediate, as the form has them
 unfoldable pub partsBytes : Form → Operand → ℕ → List ℕ
 partsBytes form operand immediate =

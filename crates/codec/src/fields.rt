@@ -13,7 +13,8 @@ use crate::modes::SIB;
 ghost use mathlib.Core.Path.{_≡_};
 ghost use Rattle.codec.specs.Forms.{allows, immediateSize};
 ghost use Rattle.codec.specs.Table.{formOf};
-ghost use Rattle.codec.specs.Operands.{hasSib, displacementSize, Sized};
+ghost use Rattle.codec.specs.Operands.{hasSib, displacementSize};
+ghost use Rattle.codec.specs.inner.Fields.{Sized};
 
 // The places of the upper and the middle field of a ModRM or SIB byte, and how many values the lower two have.
 pub(crate) const UPPER: u8 = 64;

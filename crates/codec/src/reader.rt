@@ -15,10 +15,12 @@ ghost use Prim.Native.Nat.{_+_, _*_, _≤_};
 ghost use lib.ListN.{length, take, drop};
 ghost use Rattle.words.specs.Number.{number};
 ghost use Rattle.codec.specs.Table.{formIn};
-ghost use Rattle.codec.specs.Operands.{Sized, operandOf};
+ghost use Rattle.codec.specs.Operands.{operandOf};
+ghost use Rattle.codec.specs.inner.Fields.{Sized};
 ghost use Rattle.codec.specs.Reader.{reads};
 ghost use Rattle.codec.specs.Reads.{immediateReader, displacementReader, sibReader, modrmReader, secondReader};
-ghost use Rattle.codec.specs.Finding.{refusedAs, foundAfter, foundIn};
+ghost use Rattle.codec.specs.Finding.{refusedAs, foundIn};
+ghost use Rattle.codec.specs.inner.Entries.{foundAfter};
 
 // A ModRM byte from here on has mod 11.
 const REGISTERS: u8 = 0xc0;

@@ -13,9 +13,11 @@ ghost use lib.Seq.{sets};
 ghost use Rattle.words.specs.Number.{bytes};
 ghost use Rattle.codec.specs.Opcodes.{formAt};
 ghost use Rattle.codec.specs.Table.{formOf};
-ghost use Rattle.codec.specs.Operands.{joined, Fields, Sized};
+ghost use Rattle.codec.specs.Operands.{joined};
+ghost use Rattle.codec.specs.inner.Fields.{Fields, Sized};
 ghost use Rattle.codec.specs.Fits.{fits, sibFits, operandFits, operandIsZero, partsFit, hasBytes};
-ghost use Rattle.codec.specs.Writes.{sibBytes, operandBytes, operandSize, bytesOf};
+ghost use Rattle.codec.specs.Writes.{sibBytes, operandBytes, bytesOf};
+ghost use Rattle.codec.specs.inner.Fields.{operandSize};
 
 // How many values mod and scale have.
 const UPPER_VALUES: u8 = 4;

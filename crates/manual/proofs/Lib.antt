@@ -12,7 +12,6 @@ pub mod Endings
 pub mod Uses
 pub mod Direct
 pub mod Meeting
-pub mod Headings
 pub mod OpcodeTable
 pub mod Plates
 pub mod Edges

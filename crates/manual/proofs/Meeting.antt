@@ -1,7 +1,7 @@
 -- When two instructions meet: meeting is symmetric, EMMS meets every instruction, and two others meet exactly where they share a place.
 use mathlib.Core.Path.{_≡_, refl, sym, ap, _∙_, subst₂}
 use mathlib.Core.Logic.{_↔_, _⊎_, inl, inr}
-use mathlib.Core.Bool.{true, false, not, false≢true}
+use mathlib.Core.Bool.{false, not, false≢true}
 use mathlib.Core.List.{[], _∷_, List·Memᴰ as In, List·Memᴰ·head as here, List·Memᴰ·tail as later, List·Memᴰ·eq-of-singleton as eq-of-singleton}
 use Prim.Native.Nat.{ℕ}
 use borrow.Author.Tests.{eqb-true, eq-eqb, not-false}
