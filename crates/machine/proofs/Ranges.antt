@@ -24,7 +24,7 @@ use Rattle.manual.specs.Addresses.{address}
 use Rattle.manual.specs.Locations.{Location, mmxRegister, integerRegister, memory, rmOf, regOf, bytesFrom, fits, placesOf}
 use Rattle.manual.specs.Effects.{addressRegistersOf, unlessMarked, planOn, via, footprintOf}
 use Rattle.manual.specs.Instructions.{both, move, bare, whole, lowHalf, shiftBy, shiftOf, effectBy, effectAt, footprint}
-use Rattle.manual.proofs.Direct.{one}
+use Rattle.manual.proofs.Direct.{by-marks, one}
 use Rattle.machine.specs.Prints.{bytesOf}
 
 -- the numbers of the list are those from its first one on, as many as there are
@@ -92,11 +92,8 @@ module _ (s : State) where
   abbrev ofPlan : List Place → Result (Plan Place Kind) → Result (Footprint Place Kind)
   ofPlan vs planned = footprintIn look vs s planned
 
-  unmarked : (em ts pending : Bool) (vs : List Place) (o : Result (Plan Place Kind)) → RangedPrint (ofPlan vs o) → RangedPrint (ofPlan vs (unlessMarked em ts pending o))
-  unmarked true ts pending vs o h = tt
-  unmarked false true pending vs o h = tt
-  unmarked false false true vs o h = tt
-  unmarked false false false vs o h = h
+  unmarked : (vs : List Place) (o : Result (Plan Place Kind)) → RangedPrint (ofPlan vs o) → RangedPrint (ofPlan vs (unlessMarked (s .marks) o))
+  unmarked vs o h = by-marks (λ a b. RangedPrint (ofPlan vs a)) (λ n. tt) (s .marks) o o h
 
   nothing-after : (ps : List Place) → Range (bytesOf ps) → Range (bytesOf (ps ++ []))
   nothing-after ps h = subst (λ (l : List Place). Range (bytesOf l)) (sym (append-nil ps)) h
@@ -110,7 +107,7 @@ module _ (s : State) where
 
   ranged-move : (f : ℕ → ℕ) (d x : Location) → RangedPrint (footprintOf (move f d x) s)
   ranged-move f d x =
-      unmarked (s .em) (s .ts) (s .pending) (via (move f d x)) _
+      unmarked (via (move f d x)) _
       (moved f d x (placesOf s x) (placesOf s d) (ranged-places s x) (ranged-places s d))
 
   ranged-shift : (count : ℕ) (operation : Operation) (register : Location) → RangedPrint (footprintOf (shiftBy count operation register) s)
@@ -125,12 +122,12 @@ module _ (s : State) where
 
   ranged-both : (f : ℕ → ℕ → ℕ) (k : ℕ) (x : Location) → RangedPrint (footprintOf (both f (mmxRegister k) x) s)
   ranged-both f k x =
-      unmarked (s .em) (s .ts) (s .pending) (via (both f (mmxRegister k) x)) _
+      unmarked (via (both f (mmxRegister k) x)) _
       (joined f k x (placesOf s x) (ranged-places s x))
 
   ranged-bare : (kind : Kind) → RangedPrint (footprintOf (bare kind) s)
   ranged-bare kind =
-      unmarked (s .em) (s .ts) (s .pending) [] _ (record { reads = no-bytes; writes = no-bytes })
+      unmarked [] _ (record { reads = no-bytes; writes = no-bytes })
 
   module _ (entry : Entry) (w : Operand) (immediate : ℕ) where
     ranged-form : (form : Form) → RangedPrint (footprintOf (effectBy form entry w immediate) s)

@@ -25,8 +25,5 @@ startOf mmx integers marks =
     record {
       mmx = eight mmx 8;
       integers = eight integers 4;
-      valid = markAt 3 marks;
-      em = markAt 0 marks;
-      ts = markAt 1 marks;
-      pending = markAt 2 marks;
+      marks = record { valid = markAt 3 marks; em = markAt 0 marks; ts = markAt 1 marks; pending = markAt 2 marks };
     }

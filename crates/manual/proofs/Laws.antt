@@ -131,7 +131,7 @@ module _ (s s′ : State) (same : frozen s ≡ frozen s′) where
 
 pub local : Local look frozen via plan
 local e s s′ same h =
-    λ j. unlessMarked (same j .em) (same j .ts) (same j .pending)
+    λ j. unlessMarked (record { valid = s .marks .valid; em = same j .em; ts = same j .ts; pending = same j .pending })
     (andThen (takes j) (λ source. mapResult (planOn e source) (gives j)))
   where
     agree : Agree s s′ same (addressRegistersOf e)

@@ -11,7 +11,7 @@ use Rattle.machine.proofs.Machine.from_page.Tie as tie
 -- the machine of two lists of registers and a marks byte
 abbrev machineOf : ℕ → List ℕ → List ℕ → Machine
 machineOf marks mmx integers =
-    record { mmx = mmx; integers = integers; valid = markAt 3 marks; em = markAt 0 marks; ts = markAt 1 marks; pending = markAt 2 marks }
+    record { mmx = mmx; integers = integers; marks = record { valid = markAt 3 marks; em = markAt 0 marks; ts = markAt 1 marks; pending = markAt 2 marks } }
 
 pub from-page-spec : {M : Type 1} → statement M
 unfolding startOf
