@@ -11,7 +11,7 @@ use Rattle.lanes.specs.Operations.{operationOf, operate}
 use Rattle.words.specs.Buffer.{stored}
 use Rattle.machine.specs.declared.gathering.Work.{Work}
 use Rattle.machine.specs.declared.stepping.Moved.{Moved}
-use Rattle.machine.specs.Works.{toOperate, toStore, toInteger, toEmpty, performed, Gathered, endedAs, Advanced}
+use Rattle.machine.specs.Works.{toOperate, toStore, toInteger, toEmpty, performed, Gathered, Advanced}
 
 module _ (registers integers : List ℕ) (bar : ℕ) (code : List ℕ) (at : ℕ) (m : List ℕ) (work : Work) (g : Gathered work registers integers bar code at m) where
   -- the registers that it names are there
@@ -24,36 +24,32 @@ module _ (registers integers : List ℕ) (bar : ℕ) (code : List ℕ) (at : ℕ
   pub register-offset : work .what ≡ toOperate → work .place * 8 < 2 ^ 64
   register-offset e = omega (arith, register-there e)
 
-  -- a completed step
-  abbrev went : Bool → Moved
-  went valid = record { refusal = 0; next = work .next; valid = valid }
-
-  -- what is left when the step has ended so
-  abbrev Ends : Moved → List ℕ → List ℕ → List ℕ → Type 0
-  Ends moved = Advanced moved registers integers bar code at m
+  -- the step has ended so, and left these registers and this memory
+  abbrev Ends : ℕ → ℕ → Bool → List ℕ → List ℕ → List ℕ → Type 0
+  Ends refusal next valid = Advanced (record { refusal = refusal; next = next; valid = valid }) registers integers bar code at m
 
   pub ended-operate : (v : ℕ) → work .what ≡ toOperate → v ≡ operate (operationOf (work .number)) (getD registers (work .place) 0) (work .value)
-      → Ends (went true) (set registers (work .place) v) integers m
-  unfolding endedAs performed
+      → Ends 0 (work .next) true (set registers (work .place) v) integers m
+  unfolding performed
   ended-operate v e h = record { ends = λ marks b. simp (eq-eqb (work .what) toOperate e, ← h) at (g .steps marks b) }
 
   pub ended-store : (m′ : List ℕ) → work .what ≡ toStore → m′ ≡ stored m (work .place) (work .number) (work .value)
-      → Ends (went true) registers integers m′
-  unfolding endedAs performed
+      → Ends 0 (work .next) true registers integers m′
+  unfolding performed
   ended-store m′ e h = record { ends = λ marks b. simp (e, ← h) at (g .steps marks b) }
 
   pub ended-integer : (integers′ : List ℕ) → work .what ≡ toInteger → integers′ ≡ set integers (work .place) (work .value % 2 ^ 32)
-      → Ends (went true) registers integers′ m
-  unfolding endedAs performed
+      → Ends 0 (work .next) true registers integers′ m
+  unfolding performed
   ended-integer integers′ e h = record { ends = λ marks b. simp (e, ← h) at (g .steps marks b) }
 
-  pub ended-empty : work .what ≡ toEmpty → Ends (went false) registers integers m
-  unfolding endedAs performed
+  pub ended-empty : work .what ≡ toEmpty → Ends 0 (work .next) false registers integers m
+  unfolding performed
   ended-empty e = record { ends = λ marks b. simp e at (g .steps marks b) }
 
   pub ended-refused : (work .what ≡ toOperate → ⊥) → (work .what ≡ toStore → ⊥) → (work .what ≡ toInteger → ⊥) → (work .what ≡ toEmpty → ⊥)
-      → Ends (record { refusal = work .number; next = at; valid = false }) registers integers m
-  unfolding endedAs performed
+      → Ends (work .number) at true registers integers m
+  unfolding performed
   ended-refused o s i e =
       record {
         ends = λ marks b.

@@ -15,7 +15,7 @@ use Rattle.machine.specs.declared.Machine.{Machine}
 use Rattle.machine.specs.declared.stepping.Moved.{Moved}
 use Rattle.machine.specs.State.{stateOf}
 use Rattle.machine.specs.Steps.{paperOfStep}
-use Rattle.machine.specs.Works.{machineOf, barredBy, endedAs, Advanced}
+use Rattle.machine.specs.Works.{machineOf, barredBy, Advanced}
 
 -- the tests of the limits
 module _ (code : List ℕ) (at : ℕ) (k : Machine) (m : List ℕ) where
@@ -31,11 +31,9 @@ module _ (code : List ℕ) (at : ℕ) (k : Machine) (m : List ℕ) where
   module _ (moved : Moved) (registers integers m′ : List ℕ) (bar : ℕ) (barred : bar ≡ barredBy (k .marks))
       (advanced : Advanced moved (k .mmx) (k .integers) bar code at m registers integers m′) where
     pub step-completed : moved .refusal ≡ 0 → paperOfStep (record { answer = Completed; machine = machineOf registers integers (tagged (k .marks) (moved .valid)); at = moved .next }) m′ ≡ stepAt code at (stateOf k m)
-    unfolding endedAs
     step-completed e = simp (eq-eqb (moved .refusal) 0 e) at (advanced .ends (k .marks) barred)
 
     pub step-refused : (moved .refusal ≡ 0 → ⊥) → paperOfStep (record { answer = Refused (moved .refusal); machine = machineOf registers integers (k .marks); at = moved .next }) m′ ≡ stepAt code at (stateOf k m)
-    unfolding endedAs
     step-refused e = simp (ne-eqb (moved .refusal) 0 e) at (advanced .ends (k .marks) barred)
 
 pub ruleset answering = (needs, step-memory, step-code, step-completed, step-refused)

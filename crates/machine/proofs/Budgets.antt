@@ -26,7 +26,7 @@ use Rattle.machine.specs.declared.Machine.{Machine}
 use Rattle.machine.specs.declared.stepping.Moved.{Moved}
 use Rattle.machine.specs.State.{stateOf}
 use Rattle.machine.specs.Runs.{paperOfRun}
-use Rattle.machine.specs.Works.{machineOf, barredBy, endedAs, Advanced}
+use Rattle.machine.specs.Works.{machineOf, barredBy, Advanced}
 
 -- a run from a position on, with what is left of its budget
 unfoldable pub remaining : ℕ → List ℕ → ℕ → ℕ → State → Answer State
@@ -89,7 +89,6 @@ module _ (code : List ℕ) (at count budget : ℕ) (R : Answer State) where
         ∙ (simp one at run)
 
     completes : moved .refusal ≡ 0 → completed (moved .next) t ≡ stepAt code at s
-    unfolding endedAs
     completes e = simp (eq-eqb (moved .refusal) 0 e) at (advanced .ends marks barred)
 
     pub run-within : moved .refusal ≡ 0 → moved .next ≤ length code
@@ -105,7 +104,6 @@ module _ (code : List ℕ) (at count budget : ℕ) (R : Answer State) where
 
     pub run-refused : (moved .refusal ≡ 0 → ⊥)
         → paperOfRun (record { end = Refused (moved .refusal); at = moved .next; count = count; machine = machineOf registers′ integers′ marks }) m′ ≡ R
-    unfolding endedAs
     run-refused e =
         let refuses : refusedWith (moved .refusal) (moved .next) (stateOf (machineOf registers′ integers′ marks) m′) ≡ stepAt code at s =
         simp (ne-eqb (moved .refusal) 0 e) at (advanced .ends marks barred) in

@@ -61,23 +61,24 @@ module _ (table code : List ℕ) (at : ℕ) (x : Found) (ours : table ≡ packed
         simp (instruction-here code at s (le-ltb longestMemory (length (s .memory)) memory-fits) (le-ltb longestCode (length code) code-fits), r)
 
     -- an instruction was found
-    step-found : x .refusal ≡ 0 → stepAt code at s ≡ concluded at (x .next) s (unlessMarked (s .marks) (directly (effectIn (x .entry) (x .instruction)) s))
-    unfolding execute effectAt
-    step-found passed = by (readPart (drop at code)) refl (reads-known entryOf 0 (drop at code))
-      where
-        by : (z : Answer) → readPart (drop at code) ≡ z → Holds (Known entryOf) Refusal z
-            → stepAt code at s ≡ concluded at (x .next) s (unlessMarked (s .marks) (directly (effectIn (x .entry) (x .instruction)) s))
-        by (good i n) r g =
-            step-reads (good i n) r
-            ∙ ap (concluded at (at + n) s)
-            (marks-first s (effectBy (entryOf (i .second) .form) (entryOf (i .second)) (i .operand) (i .immediate)))
-            ∙ ap (λ (y : Entry). concluded at (at + n) s (unlessMarked (s .marks) (directly (effectBy (y .form) y (i .operand) (i .immediate)) s)))
-            (sym (row-found (drop at code) i n r))
-            ∙ ap (λ (y : Found). concluded at (y .next) s (unlessMarked (s .marks) (directly (effectIn (y .entry) (y .instruction)) s)))
-            (sym (found-is (good i n) r))
-        by (refused n) r g =
-            let f : x .refusal ≡ n = ap (λ (y : Found). y .refusal) (found-is (refused n) r) in
-            absurd (omega (arith, g .0))
+    module _ (passed : x .refusal ≡ 0) where
+      step-found : stepAt code at s ≡ concluded at (x .next) s (unlessMarked (s .marks) (directly (effectIn (x .entry) (x .instruction)) s))
+      unfolding execute effectAt
+      step-found = by (readPart (drop at code)) refl (reads-known entryOf 0 (drop at code))
+        where
+          by : (z : Answer) → readPart (drop at code) ≡ z → Holds (Known entryOf) Refusal z
+              → stepAt code at s ≡ concluded at (x .next) s (unlessMarked (s .marks) (directly (effectIn (x .entry) (x .instruction)) s))
+          by (good i n) r g =
+              step-reads (good i n) r
+              ∙ ap (concluded at (at + n) s)
+              (marks-first s (effectBy (entryOf (i .second) .form) (entryOf (i .second)) (i .operand) (i .immediate)))
+              ∙ ap (λ (y : Entry). concluded at (at + n) s (unlessMarked (s .marks) (directly (effectBy (y .form) y (i .operand) (i .immediate)) s)))
+              (sym (row-found (drop at code) i n r))
+              ∙ ap (λ (y : Found). concluded at (y .next) s (unlessMarked (s .marks) (directly (effectIn (y .entry) (y .instruction)) s)))
+              (sym (found-is (good i n) r))
+          by (refused n) r g =
+              let f : x .refusal ≡ n = ap (λ (y : Found). y .refusal) (found-is (refused n) r) in
+              absurd (omega (arith, g .0))
 
   -- over lent registers and memory, and with the number of the control marks
   module _ (registers integers m : List ℕ) (bar : ℕ) (code-fits : length code ≤ longestCode) (memory-fits : length m ≤ longestMemory) (work : Work) where
@@ -98,25 +99,27 @@ module _ (table code : List ℕ) (at : ℕ) (x : Found) (ours : table ≡ packed
               steps = λ marks b. ap (λ (k : ℕ). refusedWith k at (state marks)) f ∙ sym (step-reads (state marks) code-fits memory-fits (refused n) r);
             }
 
-    pub gathered-barred : x .refusal ≡ 0 → (bar ≡ 0 → ⊥) → work ≡ refusedWork bar → Gathered work registers integers bar code at m
-    unfolding performed
-    gathered-barred passed h w =
-        subst (λ (y : Work). Gathered y registers integers bar code at m) (sym w)
-        (record {
-          sound = sound-refusal bar h;
-          steps = λ marks b.
-              ap (λ (k : ℕ). refusedWith k at (state marks)) b
-              ∙ sym (step-found (state marks) code-fits memory-fits passed ∙ ap (concluded at (x .next) (state marks)) (barred-by marks _ (λ z. h (b ∙ z))));
-        })
+    -- an instruction was found
+    module _ (passed : x .refusal ≡ 0) where
+      pub gathered-barred : (bar ≡ 0 → ⊥) → work ≡ refusedWork bar → Gathered work registers integers bar code at m
+      unfolding performed
+      gathered-barred h w =
+          subst (λ (y : Work). Gathered y registers integers bar code at m) (sym w)
+          (record {
+            sound = sound-refusal bar h;
+            steps = λ marks b.
+                ap (λ (k : ℕ). refusedWith k at (state marks)) b
+                ∙ sym (step-found (state marks) code-fits memory-fits passed ∙ ap (concluded at (x .next) (state marks)) (barred-by marks _ (λ z. h (b ∙ z))));
+          })
 
-    pub gathered-sorted : x .refusal ≡ 0 → bar ≡ 0 → Does work registers integers m (effectIn (x .entry) (x .instruction)) (x .next)
-        → Gathered work registers integers bar code at m
-    gathered-sorted passed h d =
-        record {
-          sound = d .sound;
-          steps = λ marks b.
-              d .does marks at
-              ∙ sym (step-found (state marks) code-fits memory-fits passed ∙ ap (concluded at (x .next) (state marks)) (unbarred-by marks _ (sym b ∙ h)));
-        }
+      pub gathered-sorted : bar ≡ 0 → Does work registers integers m (effectIn (x .entry) (x .instruction)) (x .next)
+          → Gathered work registers integers bar code at m
+      gathered-sorted h d =
+          record {
+            sound = d .sound;
+            steps = λ marks b.
+                d .does marks at
+                ∙ sym (step-found (state marks) code-fits memory-fits passed ∙ ap (concluded at (x .next) (state marks)) (unbarred-by marks _ (sym b ∙ h)));
+          }
 
 pub ruleset fetching = (needs, names-registers, is-listed, gathered-unread, gathered-barred, gathered-sorted)

@@ -93,14 +93,10 @@ pub record Gathered (work : Work) (registers integers : List ℕ) (bar : ℕ) (c
   pub sound : Sound work
   pub steps : (marks : Marks) → bar ≡ barredBy marks → let s = stateOf (machineOf registers integers marks) memory in performed work at s ≡ stepAt code at s
 
--- how a step ended from these marks, with what is then in the lent registers and memory
-unfoldable pub endedAs : Moved → List ℕ → List ℕ → Marks → List ℕ → Outcome
-endedAs moved registers integers marks memory =
-    cond (eqb (moved .refusal) 0)
-    (completed (moved .next) (stateOf (machineOf registers integers (tagged marks (moved .valid))) memory))
-    (refusedWith (moved .refusal) (moved .next) (stateOf (machineOf registers integers marks) memory))
-
--- a step that ended so, and left these registers and this memory, is the step at a position of the code, whatever the marks that are barred so
+-- a step that ended so, with what is then in the lent registers and memory, is the step at a position of the code, whatever the marks that are barred so
 pub record Advanced (moved : Moved) (registers integers : List ℕ) (bar : ℕ) (code : List ℕ) (at : ℕ) (memory registers′ integers′ memory′ : List ℕ) : Type 0 where
   pub ends : (marks : Marks) → bar ≡ barredBy marks
-      → endedAs moved registers′ integers′ marks memory′ ≡ stepAt code at (stateOf (machineOf registers integers marks) memory)
+      → cond (eqb (moved .refusal) 0)
+      (completed (moved .next) (stateOf (machineOf registers′ integers′ (tagged marks (moved .valid))) memory′))
+      (refusedWith (moved .refusal) (moved .next) (stateOf (machineOf registers′ integers′ marks) memory′))
+      ≡ stepAt code at (stateOf (machineOf registers integers marks) memory)

@@ -76,7 +76,7 @@ pub(crate) fn advance(
     Moved {
         refusal: work.number,
         next: at,
-        valid: false,
+        valid: true,
     }
 }
 
@@ -102,9 +102,11 @@ impl Machine {
         let table = codec::table();
         let mut mmx = self.mmx;
         let mut integers = self.integers;
-        let mut marks = self.marks;
+        let marks = self.marks;
         let bar = gathering::barred(marks);
         let moved = advance(&table, &mut mmx, &mut integers, bar, code, at, memory);
+        let mut after = marks;
+        after.valid = moved.valid;
         let refusal = moved.refusal;
         if refusal != 0 {
             return Stepped {
@@ -117,11 +119,10 @@ impl Machine {
                 at: moved.next,
             };
         }
-        marks.valid = moved.valid;
         let machine = Machine {
             mmx: mmx,
             integers: integers,
-            marks: marks,
+            marks: after,
         };
         Stepped {
             answer: Taken::Completed,
