@@ -10,6 +10,7 @@ use Rattle.reorder.specs.Result.{Result, refused}
 use Rattle.manual.specs.declared.Marks.{Marks}
 use Rattle.manual.specs.Refusals.{invalidOpcode, notAvailable, isPending}
 use Rattle.manual.specs.Effects.{unlessMarked}
+use Rattle.manual.proofs.Direct.{controlled}
 use Rattle.machine.specs.Works.{barredBy}
 
 module _ (marks : Marks) where
@@ -34,7 +35,7 @@ module _ (marks : Marks) where
   unfolding barredBy
   by-number o = by (marks .em) (marks .ts) (marks .pending)
     where
-      by : (em ts pending : Bool) → let tested : Marks = record { valid = marks .valid; em = em; ts = ts; pending = pending } in
+      by : (em ts pending : Bool) → let tested = controlled marks em ts pending in
           unlessMarked tested o ≡ cond (eqb (barredBy tested) 0) o (refused (barredBy tested))
       by true ts pending = refl
       by false true pending = refl

@@ -23,13 +23,16 @@ use Rattle.manual.specs.Locations.{Location, mmxRegister, integerRegiste
 use Rattle.manual.specs.Effects.{Effect, width, valueIn, contentsOf, unlessMarked, planOn, placed, directly, perform as performs}
 use Rattle.manual.specs.Instructions.{both, move}
 
+-- the marks with these control marks
+abbrev pub controlled : Marks → Bool → Bool → Bool → Marks
+controlled marks em ts pending = record { valid = marks .valid; em = em; ts = ts; pending = pending }
+
 -- what holds of every refusal, and of what follows the test of the control marks, holds of both
 pub by-marks : {A B : Type 0} (P : Result A → Result B → Type 0) → ((n : ℕ) → P (refused n) (refused n)) → (marks : Marks) (a : Result A) (b : Result B)
     → P a b → P (unlessMarked marks a) (unlessMarked marks b)
 by-marks P kept marks a b h = tests (marks .em) (marks .ts) (marks .pending)
   where
-    tests : (em ts pending : Bool)
-        → let tested : Marks = record { valid = marks .valid; em = em; ts = ts; pending = pending } in P (unlessMarked tested a) (unlessMarked tested b)
+    tests : (em ts pending : Bool) → let tested = controlled marks em ts pending in P (unlessMarked tested a) (unlessMarked tested b)
     tests true ts pending = kept invalidOpcode
     tests false true pending = kept notAvailable
     tests false false true = kept isPending

@@ -9,6 +9,7 @@ use Rattle.reorder.specs.Run.{Answer, finished, spent, stopped}
 use Rattle.manual.specs.State.{State}
 use Rattle.manual.specs.Steps.{Outcome, completed, refusedWith, stepAt}
 use Rattle.manual.specs.Runs.{runOf}
+use Rattle.manual.proofs.Direct.{controlled}
 use Rattle.manual.proofs.Plates.{clear}
 
 -- the bytes 10 to 17 hex in the memory, all ones in MM0, these numbers in EAX and ECX, 4 in ESP and EBP, the tag mark empty, and these control marks
@@ -17,7 +18,7 @@ start eax ecx em ts pending =
     record {
       mmx = 0xffffffffffffffff ∷ replicate 7 0;
       integers = eax ∷ ecx ∷ 0 ∷ 0 ∷ 4 ∷ 4 ∷ 0 ∷ 0 ∷ [];
-      marks = record { valid = false; em = em; ts = ts; pending = pending };
+      marks = controlled (clear false) em ts pending;
       memory = 0x10 ∷ 0x11 ∷ 0x12 ∷ 0x13 ∷ 0x14 ∷ 0x15 ∷ 0x16 ∷ 0x17 ∷ [];
     }
 

@@ -25,6 +25,7 @@ use Rattle.manual.specs.Effects.{placesOfAll, valuesIn, planOn, directly
 use Rattle.manual.specs.Instructions.{effectBy, effectAt, effectOf, execute}
 use Rattle.manual.specs.Steps.{refusedWith, resultOf, concluded, instructionAt, stepAt}
 use Rattle.manual.specs.Reasons.{Stands, Outside, Reason, one, reading, seven, eight, nine, ten}
+use Rattle.manual.proofs.Direct.{controlled}
 
 -- Operands: the only refusal is 10, and it is given exactly where one of them is outside
 
@@ -169,7 +170,7 @@ step-exactly code at s n = (λ e. memory-test (isTooLong (s .memory)) refl e, st
     executed next (refused m) h = cc
 
     marks : (i : Instruction) (size : ℕ) → Stands code at s i size → (em ts pending : Bool) → s .marks .em ≡ em → s .marks .ts ≡ ts → s .marks .pending ≡ pending
-        → perform look put marked s (unlessMarked (record { valid = s .marks .valid; em = em; ts = ts; pending = pending }) (andThen (source i s) (λ from. mapResult (planOn (effectOf i) from) (target i s)))) ≡ refused n
+        → perform look put marked s (unlessMarked (controlled (s .marks) em ts pending) (andThen (source i s) (λ from. mapResult (planOn (effectOf i) from) (target i s)))) ≡ refused n
         → Reason code at s n
     marks i size stands true ts pending e f g h = subst (Reason code at s) (cc) (seven i size stands e)
     marks i size stands false true pending e f g h = subst (Reason code at s) (cc) (eight i size stands e f)
