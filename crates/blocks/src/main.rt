@@ -8,6 +8,7 @@ use machine::Machine;
 use machine::Places;
 use machine::Printed;
 use machine::Taken;
+use manual::Marks;
 
 // The budget of the page program.
 const BUDGET: u32 = 4096;
@@ -77,7 +78,7 @@ fn play(title: &[u8], machine: Machine, code: &[u8], memory: &mut [u8], budget: 
     decimal(ran.at as u64);
     text(b", mm0 ");
     hexadecimal(left.mmx[0]);
-    show_tags(left.valid);
+    show_tags(left.marks.valid);
     text(b", memory ");
     hexadecimal(words::load(memory, 0, QUADWORD));
     text(b"\n");
@@ -88,10 +89,12 @@ fn machine_with(first: u64, address: u32, em: bool, ts: bool) -> Machine {
     Machine {
         mmx: [first, 2, 3, 4, 5, 6, 7, 8],
         integers: [address, 128, 0, 0, 4, 4, 0, 0],
-        valid: false,
-        em: em,
-        ts: ts,
-        pending: false,
+        marks: Marks {
+            valid: false,
+            em: em,
+            ts: ts,
+            pending: false,
+        },
     }
 }
 

@@ -9,17 +9,11 @@ use borrow.Author.Tests.{eq-eqb, ne-eqb}
 use lib.ListN.{getD, set}
 use Rattle.lanes.specs.Operations.{operationOf, operate}
 use Rattle.words.specs.Buffer.{stored}
-use Rattle.manual.specs.Steps.{Outcome, stepAt}
-use Rattle.machine.specs.declared.gathering.Marks.{Marks}
 use Rattle.machine.specs.declared.gathering.Work.{Work}
 use Rattle.machine.specs.declared.stepping.Moved.{Moved}
-use Rattle.machine.specs.State.{stateOf}
-use Rattle.machine.specs.Works.{machineOf, toOperate, toStore, toInteger, toEmpty, performed, Gathered, endedAs}
+use Rattle.machine.specs.Works.{toOperate, toStore, toInteger, toEmpty, performed, Gathered, Advanced}
 
-module _ (registers integers : List ℕ) (marks : Marks) (code : List ℕ) (at : ℕ) (m : List ℕ) (work : Work) (g : Gathered work registers integers marks code at m) where
-  abbrev Step : Outcome
-  Step = stepAt code at (stateOf (machineOf registers integers marks) m)
-
+module _ (registers integers : List ℕ) (bar : ℕ) (code : List ℕ) (at : ℕ) (m : List ℕ) (work : Work) (g : Gathered work registers integers bar code at m) where
   -- the registers that it names are there
   pub register-there : work .what ≡ toOperate → work .place < 8
   register-there e = g .sound .operates e
@@ -30,35 +24,38 @@ module _ (registers integers : List ℕ) (marks : Marks) (code : List ℕ) (at :
   pub register-offset : work .what ≡ toOperate → work .place * 8 < 2 ^ 64
   register-offset e = omega (arith, register-there e)
 
-  -- a completed step
-  abbrev went : Bool → Moved
-  went valid = record { refusal = 0; next = work .next; valid = valid }
+  -- the step has ended so, and left these registers and this memory
+  abbrev Ends : ℕ → ℕ → Bool → List ℕ → List ℕ → List ℕ → Type 0
+  Ends refusal next valid = Advanced (record { refusal = refusal; next = next; valid = valid }) registers integers bar code at m
 
   pub ended-operate : (v : ℕ) → work .what ≡ toOperate → v ≡ operate (operationOf (work .number)) (getD registers (work .place) 0) (work .value)
-      → endedAs (went true) (set registers (work .place) v) integers marks m ≡ Step
-  unfolding endedAs performed
-  ended-operate v e h = simp (eq-eqb (work .what) toOperate e, ← h) at (g .steps)
+      → Ends 0 (work .next) true (set registers (work .place) v) integers m
+  unfolding performed
+  ended-operate v e h = record { ends = λ marks b. simp (eq-eqb (work .what) toOperate e, ← h) at (g .steps marks b) }
 
   pub ended-store : (m′ : List ℕ) → work .what ≡ toStore → m′ ≡ stored m (work .place) (work .number) (work .value)
-      → endedAs (went true) registers integers marks m′ ≡ Step
-  unfolding endedAs performed
-  ended-store m′ e h = simp (e, ← h) at (g .steps)
+      → Ends 0 (work .next) true registers integers m′
+  unfolding performed
+  ended-store m′ e h = record { ends = λ marks b. simp (e, ← h) at (g .steps marks b) }
 
   pub ended-integer : (integers′ : List ℕ) → work .what ≡ toInteger → integers′ ≡ set integers (work .place) (work .value % 2 ^ 32)
-      → endedAs (went true) registers integers′ marks m ≡ Step
-  unfolding endedAs performed
-  ended-integer integers′ e h = simp (e, ← h) at (g .steps)
+      → Ends 0 (work .next) true registers integers′ m
+  unfolding performed
+  ended-integer integers′ e h = record { ends = λ marks b. simp (e, ← h) at (g .steps marks b) }
 
-  pub ended-empty : work .what ≡ toEmpty → endedAs (went false) registers integers marks m ≡ Step
-  unfolding endedAs performed
-  ended-empty e = simp e at (g .steps)
+  pub ended-empty : work .what ≡ toEmpty → Ends 0 (work .next) false registers integers m
+  unfolding performed
+  ended-empty e = record { ends = λ marks b. simp e at (g .steps marks b) }
 
   pub ended-refused : (work .what ≡ toOperate → ⊥) → (work .what ≡ toStore → ⊥) → (work .what ≡ toInteger → ⊥) → (work .what ≡ toEmpty → ⊥)
-      → endedAs (record { refusal = work .number; next = at; valid = marks .valid }) registers integers marks m ≡ Step
-  unfolding endedAs performed
-  ended-refused a b c d =
-      simp (ne-eqb (work .number) 0 (g .sound .refuses a b c d))
-      (simp (ne-eqb (work .what) toOperate a, ne-eqb (work .what) toStore b, ne-eqb (work .what) toInteger c, ne-eqb (work .what) toEmpty d) at (g .steps))
+      → Ends (work .number) at true registers integers m
+  unfolding performed
+  ended-refused o s i e =
+      record {
+        ends = λ marks b.
+            simp (ne-eqb (work .number) 0 (g .sound .refuses o s i e))
+            (simp (ne-eqb (work .what) toOperate o, ne-eqb (work .what) toStore s, ne-eqb (work .what) toInteger i, ne-eqb (work .what) toEmpty e) at (g .steps marks b));
+      }
 
 pub ruleset operating = (needs, register-there, register-offset, ended-operate)
 

@@ -40,7 +40,7 @@ pub record After (A : Type 0) : Type 0 where
   pub memory : List ℕ
 
 abbrev pub machineIn : State → Machine
-machineIn s = record { mmx = s .mmx; integers = s .integers; valid = s .valid; em = s .em; ts = s .ts; pending = s .pending }
+machineIn s = record { mmx = s .mmx; integers = s .integers; marks = s .marks }
 
 stepBack : Outcome → After Stepped
 stepBack (completed at s) = record { answer = record { answer = taken.Completed; machine = machineIn s; at = at }; memory = s .memory }

@@ -8,18 +8,14 @@ use lib.ListN.{length}
 use Rattle.codec.specs.Refusals.{codeTooLong}
 use Rattle.codec.specs.Reads.{longestCode, readAt}
 use Rattle.manual.specs.Refusals.{memoryTooLong}
-use Rattle.manual.specs.State.{longestMemory}
+use Rattle.manual.specs.State.{longestMemory, tagged}
 use Rattle.manual.specs.Steps.{instructionAt, stepAt}
 use Rattle.machine.specs.declared.Taken.the-variants.{Completed, Refused}
 use Rattle.machine.specs.declared.Machine.{Machine}
-use Rattle.machine.specs.declared.gathering.Marks.{Marks}
 use Rattle.machine.specs.declared.stepping.Moved.{Moved}
 use Rattle.machine.specs.State.{stateOf}
 use Rattle.machine.specs.Steps.{paperOfStep}
-use Rattle.machine.specs.Works.{machineOf, renewedWith, endedAs}
-
-abbrev marksOf : Machine → ℕ → Marks
-marksOf k bar = record { valid = k .valid; em = k .em; ts = k .ts; pending = k .pending; bar = bar }
+use Rattle.machine.specs.Works.{machineOf, barredBy, Advanced}
 
 -- the tests of the limits
 module _ (code : List ℕ) (at : ℕ) (k : Machine) (m : List ℕ) where
@@ -32,15 +28,12 @@ module _ (code : List ℕ) (at : ℕ) (k : Machine) (m : List ℕ) where
   step-code h g = simp (le-ltb longestMemory (length m) h, lt-ltb longestCode (length code) g)
 
   -- how the step over its registers ended
-  module _ (moved : Moved) (registers integers m′ : List ℕ) (marks : Marks)
-      (ended : endedAs moved registers integers marks m′ ≡ stepAt code at (stateOf (machineOf (k .mmx) (k .integers) marks) m)) (own : marks ≡ marksOf k (marks .bar))
-      (k′ : Machine) (renewed : k′ ≡ renewedWith k registers integers (moved .valid)) where
-    pub step-completed : moved .refusal ≡ 0 → paperOfStep (record { answer = Completed; machine = k′; at = moved .next }) m′ ≡ stepAt code at (stateOf k m)
-    unfolding endedAs
-    step-completed e = simp renewed (simp (own, eq-eqb (moved .refusal) 0 e) at ended)
+  module _ (moved : Moved) (registers integers m′ : List ℕ) (bar : ℕ) (barred : bar ≡ barredBy (k .marks))
+      (advanced : Advanced moved (k .mmx) (k .integers) bar code at m registers integers m′) where
+    pub step-completed : moved .refusal ≡ 0 → paperOfStep (record { answer = Completed; machine = machineOf registers integers (tagged (k .marks) (moved .valid)); at = moved .next }) m′ ≡ stepAt code at (stateOf k m)
+    step-completed e = simp (eq-eqb (moved .refusal) 0 e) at (advanced .ends (k .marks) barred)
 
-    pub step-refused : (moved .refusal ≡ 0 → ⊥) → paperOfStep (record { answer = Refused (moved .refusal); machine = k′; at = moved .next }) m′ ≡ stepAt code at (stateOf k m)
-    unfolding endedAs
-    step-refused e = simp renewed (simp (own, ne-eqb (moved .refusal) 0 e) at ended)
+    pub step-refused : (moved .refusal ≡ 0 → ⊥) → paperOfStep (record { answer = Refused (moved .refusal); machine = machineOf registers integers (k .marks); at = moved .next }) m′ ≡ stepAt code at (stateOf k m)
+    step-refused e = simp (ne-eqb (moved .refusal) 0 e) at (advanced .ends (k .marks) barred)
 
 pub ruleset answering = (needs, step-memory, step-code, step-completed, step-refused)

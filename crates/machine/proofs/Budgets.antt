@@ -13,8 +13,9 @@ use lib.ListN.{length}
 use Rattle.reorder.specs.Run.{Answer, finished, spent, stopped, runFrom}
 use Rattle.codec.specs.Reads.{longestCode}
 use Rattle.codec.specs.Refusals.{codeTooLong}
+use Rattle.manual.specs.declared.Marks.{Marks}
 use Rattle.manual.specs.Refusals.{memoryTooLong}
-use Rattle.manual.specs.State.{State, longestMemory}
+use Rattle.manual.specs.State.{State, longestMemory, tagged}
 use Rattle.manual.specs.Instructions.{execute}
 use Rattle.manual.specs.Steps.{completed, refusedWith, stepAt}
 use Rattle.manual.specs.Runs.{read, runOf}
@@ -22,11 +23,10 @@ use Rattle.manual.proofs.Turns.{onward, turn}
 use Rattle.manual.proofs.Bounds.{step-within}
 use Rattle.machine.specs.declared.End.the-variants.{Done, Spent, Refused}
 use Rattle.machine.specs.declared.Machine.{Machine}
-use Rattle.machine.specs.declared.gathering.Marks.{Marks}
 use Rattle.machine.specs.declared.stepping.Moved.{Moved}
 use Rattle.machine.specs.State.{stateOf}
 use Rattle.machine.specs.Runs.{paperOfRun}
-use Rattle.machine.specs.Works.{machineOf, renewedWith, endedAs}
+use Rattle.machine.specs.Works.{machineOf, barredBy, Advanced}
 
 -- a run from a position on, with what is left of its budget
 unfoldable pub remaining : ℕ → List ℕ → ℕ → ℕ → State → Answer State
@@ -49,10 +49,10 @@ module _ (code : List ℕ) (budget : ℕ) (k : Machine) (m : List ℕ) where
 -- a run that comes to R, at a turn with what is left of its budget
 module _ (code : List ℕ) (at count budget : ℕ) (R : Answer State) where
   -- at the code's end, and with nothing left
-  module _ (k k′ : Machine) (m : List ℕ) (run : remaining (budget - count) code at count (stateOf k m) ≡ R) (renewed : k′ ≡ k) where
-    pub run-done : length code ≤ at → at ≤ length code → paperOfRun (record { end = Done; at = at; count = count; machine = k′ }) m ≡ R
+  module _ (k : Machine) (m : List ℕ) (run : remaining (budget - count) code at count (stateOf k m) ≡ R) where
+    pub run-done : length code ≤ at → at ≤ length code → paperOfRun (record { end = Done; at = at; count = count; machine = k }) m ≡ R
     unfolding remaining
-    run-done h g = ap (λ (j : Machine). finished at count (stateOf j m)) renewed ∙ by (budget - count) run
+    run-done h g = by (budget - count) run
       where
         ends : eqb at (length code) ≡ true
         ends = eq-eqb at (length code) (omega arith)
@@ -61,24 +61,24 @@ module _ (code : List ℕ) (at count budget : ℕ) (R : Answer State) where
         by zero z = simp ends at z
         by (suc n) z = simp ends at z
 
-    pub run-spent : at < length code → count ≡ budget → paperOfRun (record { end = Spent; at = at; count = count; machine = k′ }) m ≡ R
+    pub run-spent : at < length code → count ≡ budget → paperOfRun (record { end = Spent; at = at; count = count; machine = k }) m ≡ R
     unfolding remaining
     run-spent h e =
         let none : budget - count ≡ 0 = omega arith in
         let more : eqb at (length code) ≡ false = ne-eqb at (length code) (λ z. omega arith) in
-        ap (λ (j : Machine). spent at count (stateOf j m)) renewed ∙ (simp (none, more) at run)
+        simp (none, more) at run
 
   -- a step over lent registers
-  module _ (k : Machine) (registers integers m : List ℕ) (valid : Bool) (run : remaining (budget - count) code at count (stateOf (renewedWith k registers integers valid) m) ≡ R)
+  module _ (registers integers m : List ℕ) (marks : Marks) (run : remaining (budget - count) code at count (stateOf (machineOf registers integers marks) m) ≡ R)
       (here : at < length code) (counted : count ≤ budget) (unspent : count ≡ budget → ⊥) (code-fits : length code ≤ longestCode)
       (m₀ : List ℕ) (kept : length m ≡ length m₀) (memory-fits : length m₀ ≤ longestMemory)
-      (moved : Moved) (registers′ integers′ m′ : List ℕ) (marks : Marks) (own : marks ≡ record { valid = valid; em = k .em; ts = k .ts; pending = k .pending; bar = marks .bar })
-      (ended : endedAs moved registers′ integers′ marks m′ ≡ stepAt code at (stateOf (machineOf registers integers marks) m)) where
+      (moved : Moved) (registers′ integers′ m′ : List ℕ) (bar : ℕ) (barred : bar ≡ barredBy marks)
+      (advanced : Advanced moved registers integers bar code at m registers′ integers′ m′) where
     abbrev s : State
-    s = stateOf (renewedWith k registers integers valid) m
+    s = stateOf (machineOf registers integers marks) m
 
     abbrev t : State
-    t = stateOf (renewedWith k registers′ integers′ (moved .valid)) m′
+    t = stateOf (machineOf registers′ integers′ (tagged marks (moved .valid))) m′
 
     turned : onward (runFrom read execute (budget - (count + 1)) code) count (stepAt code at s) ≡ R
     unfolding remaining
@@ -89,8 +89,7 @@ module _ (code : List ℕ) (at count budget : ℕ) (R : Answer State) where
         ∙ (simp one at run)
 
     completes : moved .refusal ≡ 0 → completed (moved .next) t ≡ stepAt code at s
-    unfolding endedAs
-    completes e = simp (own, eq-eqb (moved .refusal) 0 e) at ended
+    completes e = simp (eq-eqb (moved .refusal) 0 e) at (advanced .ends marks barred)
 
     pub run-within : moved .refusal ≡ 0 → moved .next ≤ length code
     run-within e =
@@ -103,14 +102,18 @@ module _ (code : List ℕ) (at count budget : ℕ) (R : Answer State) where
         ap (λ (n : ℕ). runFrom read execute (budget - (count + 1)) code (moved .next) n t) (add-one count)
         ∙ ap (onward (runFrom read execute (budget - (count + 1)) code) count) (completes e) ∙ turned
 
-    pub run-refused : (k′ : Machine) → k′ ≡ renewedWith k registers′ integers′ (moved .valid) → (moved .refusal ≡ 0 → ⊥)
-        → paperOfRun (record { end = Refused (moved .refusal); at = moved .next; count = count; machine = k′ }) m′ ≡ R
-    unfolding endedAs
-    run-refused k′ renewed e =
-        let refuses : refusedWith (moved .refusal) (moved .next) t ≡ stepAt code at s = simp (own, ne-eqb (moved .refusal) 0 e) at ended in
-        ap (λ (j : Machine). stopped (moved .refusal) (moved .next) count (stateOf j m′)) renewed
-        ∙ ap (onward (runFrom read execute (budget - (count + 1)) code) count) refuses ∙ turned
+    pub run-refused : (moved .refusal ≡ 0 → ⊥)
+        → paperOfRun (record { end = Refused (moved .refusal); at = moved .next; count = count; machine = machineOf registers′ integers′ marks }) m′ ≡ R
+    run-refused e =
+        let refuses : refusedWith (moved .refusal) (moved .next) (stateOf (machineOf registers′ integers′ marks) m′) ≡ stepAt code at s =
+        simp (ne-eqb (moved .refusal) 0 e) at (advanced .ends marks barred) in
+        ap (onward (runFrom read execute (budget - (count + 1)) code) count) refuses ∙ turned
+
+-- the tag mark bars nothing
+pub still-barred : (bar : ℕ) (marks : Marks) (valid : Bool) → bar ≡ barredBy marks → bar ≡ barredBy (tagged marks valid)
+unfolding barredBy
+still-barred bar marks valid h = h
 
 pub ruleset starting = (needs, run-memory, run-code, run-starts)
 
-pub ruleset turning = (needs, run-spent, run-done, run-within, run-on, run-refused)
+pub ruleset turning = (needs, run-spent, run-done, run-within, run-on, run-refused, still-barred)

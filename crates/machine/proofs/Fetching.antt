@@ -18,6 +18,7 @@ use Rattle.codec.proofs.Readers.{Holds, moved}
 use Rattle.codec.proofs.Given.{Known, Refusal, reads-known}
 use Rattle.codec.proofs.OurTable.{found-ours}
 use Rattle.codec.proofs.Theorems.{found-registers}
+use Rattle.manual.specs.declared.Marks.{Marks}
 use Rattle.manual.specs.State.{State, longestMemory}
 use Rattle.manual.specs.Effects.{Effect, unlessMarked, directly}
 use Rattle.manual.specs.Instructions.{effectOf, execute}
@@ -25,10 +26,9 @@ use Rattle.manual.specs.Steps.{concluded, refusedWith, resultOf, stepAt}
 use Rattle.manual.specs.Runs.{read}
 use Rattle.manual.proofs.Turns.{instruction-here}
 use Rattle.manual.proofs.Direct.{marks-first}
-use Rattle.machine.specs.declared.gathering.Marks.{Marks}
 use Rattle.machine.specs.declared.gathering.Work.{Work}
 use Rattle.machine.specs.State.{stateOf}
-use Rattle.machine.specs.Works.{machineOf, barredBy, effectIn, Listed, performed, Does, Gathered, refusedWork}
+use Rattle.machine.specs.Works.{machineOf, effectIn, Listed, performed, Does, Gathered, refusedWork}
 use Rattle.machine.proofs.Listing.{row-listed, effect-is}
 use Rattle.machine.proofs.Soundness.{sound-refusal}
 use Rattle.machine.proofs.Testing.{unbarred-by, barred-by}
@@ -52,65 +52,72 @@ module _ (table code : List ℕ) (at : ℕ) (x : Found) (ours : table ≡ opcode
           absurd (omega (arith, g .0))
 
   -- within the limits
-  module _ (registers integers m : List ℕ) (marks : Marks) (code-fits : length code ≤ longestCode) (memory-fits : length m ≤ longestMemory) where
-    abbrev s : State
-    s = stateOf (machineOf registers integers marks) m
-
+  module _ (s : State) (code-fits : length code ≤ longestCode) (memory-fits : length (s .memory) ≤ longestMemory) where
     step-reads : (z : Decoded) → readPart (drop at code) ≡ z
         → stepAt code at s
         ≡ caseOf (resultOf z) (λ n. refusedWith n at s) (λ r. concluded at (at + r .size) s (execute (r .instruction) s))
     unfolding stepAt read
     step-reads z r =
-        simp (instruction-here code at s (le-ltb longestMemory (length m) memory-fits) (le-ltb longestCode (length code) code-fits), r)
-
-    pub gathered-unread : (work : Work) → (x .refusal ≡ 0 → ⊥) → work ≡ refusedWork (x .refusal) → Gathered work registers integers marks code at m
-    unfolding performed
-    gathered-unread work h w = subst (λ (y : Work). Gathered y registers integers marks code at m) (sym w) (by (readPart (drop at code)) refl)
-      where
-        by : (z : Decoded) → readPart (drop at code) ≡ z → Gathered (refusedWork (x .refusal)) registers integers marks code at m
-        by (good i n) r =
-            absurd (h (ap (λ (y : Found). y .refusal) (found-is (good i n) r)))
-        by (refused n) r =
-            let f : x .refusal ≡ n = ap (λ (y : Found). y .refusal) (found-is (refused n) r) in
-            record { sound = sound-refusal (x .refusal) h; steps = ap (λ (k : ℕ). refusedWith k at s) f ∙ sym (step-reads (refused n) r) }
+        simp (instruction-here code at s (le-ltb longestMemory (length (s .memory)) memory-fits) (le-ltb longestCode (length code) code-fits), r)
 
     -- an instruction was found
     module _ (passed : x .refusal ≡ 0) where
-      step-found : stepAt code at s ≡ concluded at (x .next) s (unlessMarked (marks .em) (marks .ts) (marks .pending) (directly (effectIn (x .entry) (x .instruction)) s))
+      step-found : stepAt code at s ≡ concluded at (x .next) s (unlessMarked (s .marks) (directly (effectIn (x .entry) (x .instruction)) s))
       unfolding execute
       step-found = by (readPart (drop at code)) refl (reads-known formAt 0 (drop at code))
         where
           by : (z : Decoded) → readPart (drop at code) ≡ z → Holds (Known formAt) Refusal z
-              → stepAt code at s ≡ concluded at (x .next) s (unlessMarked (marks .em) (marks .ts) (marks .pending) (directly (effectIn (x .entry) (x .instruction)) s))
+              → stepAt code at s ≡ concluded at (x .next) s (unlessMarked (s .marks) (directly (effectIn (x .entry) (x .instruction)) s))
           by (good i n) r g =
               step-reads (good i n) r
-              ∙ ap (concluded at (at + n) s)
-              (marks-first s (effectOf i))
-              ∙ ap (λ (y : Effect). concluded at (at + n) s (unlessMarked (marks .em) (marks .ts) (marks .pending) (directly y s)))
-              (sym (effect-is i (g .registers)))
-              ∙ ap (λ (y : Found). concluded at (y .next) s (unlessMarked (marks .em) (marks .ts) (marks .pending) (directly (effectIn (y .entry) (y .instruction)) s)))
+              ∙ ap (concluded at (at + n) s) (marks-first s (effectOf i))
+              ∙ ap (λ (y : Effect). concluded at (at + n) s (unlessMarked (s .marks) (directly y s))) (sym (effect-is i (g .registers)))
+              ∙ ap (λ (y : Found). concluded at (y .next) s (unlessMarked (s .marks) (directly (effectIn (y .entry) (y .instruction)) s)))
               (sym (found-is (good i n) r))
           by (refused n) r g =
               let f : x .refusal ≡ n = ap (λ (y : Found). y .refusal) (found-is (refused n) r) in
               absurd (omega (arith, g .0))
 
-      pub gathered-barred : (work : Work) → marks .bar ≡ barredBy (marks .em) (marks .ts) (marks .pending) → (marks .bar ≡ 0 → ⊥) → work ≡ refusedWork (marks .bar) → Gathered work registers integers marks code at m
+  -- over lent registers and memory, and with the number of the control marks
+  module _ (registers integers m : List ℕ) (bar : ℕ) (code-fits : length code ≤ longestCode) (memory-fits : length m ≤ longestMemory) (work : Work) where
+    abbrev state : Marks → State
+    state marks = stateOf (machineOf registers integers marks) m
+
+    pub gathered-unread : (x .refusal ≡ 0 → ⊥) → work ≡ refusedWork (x .refusal) → Gathered work registers integers bar code at m
+    unfolding performed
+    gathered-unread h w = subst (λ (y : Work). Gathered y registers integers bar code at m) (sym w) (by (readPart (drop at code)) refl)
+      where
+        by : (z : Answer) → readPart (drop at code) ≡ z → Gathered (refusedWork (x .refusal)) registers integers bar code at m
+        by (good i n) r =
+            absurd (h (ap (λ (y : Found). y .refusal) (found-is (good i n) r)))
+        by (refused n) r =
+            let f : x .refusal ≡ n = ap (λ (y : Found). y .refusal) (found-is (refused n) r) in
+            record {
+              sound = sound-refusal (x .refusal) h;
+              steps = λ marks b. ap (λ (k : ℕ). refusedWith k at (state marks)) f ∙ sym (step-reads (state marks) code-fits memory-fits (refused n) r);
+            }
+
+    -- an instruction was found
+    module _ (passed : x .refusal ≡ 0) where
+      pub gathered-barred : (bar ≡ 0 → ⊥) → work ≡ refusedWork bar → Gathered work registers integers bar code at m
       unfolding performed
-      gathered-barred work b h w =
-          subst (λ (y : Work). Gathered y registers integers marks code at m) (sym w)
+      gathered-barred h w =
+          subst (λ (y : Work). Gathered y registers integers bar code at m) (sym w)
           (record {
-            sound = sound-refusal (marks .bar) h;
-            steps = ap (λ (k : ℕ). refusedWith k at s) b
-                ∙ sym (step-found ∙ ap (concluded at (x .next) s) (barred-by (marks .em) (marks .ts) (marks .pending) _ (λ z. h (b ∙ z))));
+            sound = sound-refusal bar h;
+            steps = λ marks b.
+                ap (λ (k : ℕ). refusedWith k at (state marks)) b
+                ∙ sym (step-found (state marks) code-fits memory-fits passed ∙ ap (concluded at (x .next) (state marks)) (barred-by marks _ (λ z. h (b ∙ z))));
           })
 
-      pub gathered-sorted : (work : Work) → marks .bar ≡ barredBy (marks .em) (marks .ts) (marks .pending) → marks .bar ≡ 0 → Does work registers integers m (effectIn (x .entry) (x .instruction)) (x .next)
-          → Gathered work registers integers marks code at m
-      gathered-sorted work b h d =
+      pub gathered-sorted : bar ≡ 0 → Does work registers integers m (effectIn (x .entry) (x .instruction)) (x .next)
+          → Gathered work registers integers bar code at m
+      gathered-sorted h d =
           record {
             sound = d .sound;
-            steps = d .does marks at
-                ∙ sym (step-found ∙ ap (concluded at (x .next) s) (unbarred-by (marks .em) (marks .ts) (marks .pending) _ (sym b ∙ h)));
+            steps = λ marks b.
+                d .does marks at
+                ∙ sym (step-found (state marks) code-fits memory-fits passed ∙ ap (concluded at (x .next) (state marks)) (unbarred-by marks _ (sym b ∙ h)));
           }
 
 pub ruleset fetching = (needs, names-registers, is-listed, gathered-unread, gathered-barred, gathered-sorted)

@@ -38,22 +38,22 @@ module _ (machine : Machine) (memory : List ℕ) (i : Instruction) where
   abbrev here : State
   here = stateOf machine memory
 
-  by-marks : mapResult print (footprint i here) ≡ unlessMarked (machine .em) (machine .ts) (machine .pending) (unmarkedPrint (effectOf i) here)
+  by-marks : mapResult print (footprint i here) ≡ unlessMarked (machine .marks) (unmarkedPrint (effectOf i) here)
   unfolding footprint unmarkedPrint
   by-marks =
       past-marks (λ (o : Result (Plan Place Kind)). mapResult print (footprintIn look (via (effectOf i)) here o)) (λ n. refl)
-      (machine .em) (machine .ts) (machine .pending) _
+      (machine .marks) _
 
   -- the number of the marks, or 0
-  module _ (bar : ℕ) (found : bar ≡ barredBy (machine .em) (machine .ts) (machine .pending)) where
+  module _ (bar : ℕ) (found : bar ≡ barredBy (machine .marks)) where
     pub print-barred : (bar ≡ 0 → ⊥) → refused bar ≡ mapResult print (footprint i here)
-    print-barred h = ap refused found ∙ sym (by-marks ∙ barred-by (machine .em) (machine .ts) (machine .pending) _ (λ e. h (found ∙ e)))
+    print-barred h = ap refused found ∙ sym (by-marks ∙ barred-by (machine .marks) _ (λ e. h (found ∙ e)))
 
     pub print-unbarred : (entry : ℕ) (r : Printed) → bar ≡ 0 → Registers (i .operand) → entry ≡ getD opcodeTable (i .second) 0
         → paperOfFootprint r ≡ unmarkedPrint (effectIn entry i) here → paperOfFootprint r ≡ mapResult print (footprint i here)
     print-unbarred entry r h names e p =
         p ∙ ap (λ (y : ℕ). unmarkedPrint (effectIn y i) here) e ∙ ap (λ (y : Effect). unmarkedPrint y here) (effect-is i names)
-        ∙ sym (by-marks ∙ unbarred-by (machine .em) (machine .ts) (machine .pending) _ (sym found ∙ h))
+        ∙ sym (by-marks ∙ unbarred-by (machine .marks) _ (sym found ∙ h))
 
 pub entry-listed : (entry second : ℕ) → entry ≡ getD opcodeTable second 0 → Listed (getD opcodeTable second 0) → Listed entry
 entry-listed entry second e l = subst Listed (sym e) l

@@ -26,7 +26,7 @@ use Rattle.manual.specs.Addresses.{address}
 use Rattle.manual.specs.Locations.{Location, mmxRegister, integerRegister, memory, rmOf, bytesFrom, fits, placesOf}
 use Rattle.manual.specs.Effects.{addressRegistersOf, unlessMarked, planOn, via, footprintOf}
 use Rattle.manual.specs.Instructions.{effectBy, effectOf, footprint}
-use Rattle.manual.proofs.Direct.{both, move, bare, one}
+use Rattle.manual.proofs.Direct.{both, move, bare, by-marks, one}
 use Rattle.machine.proofs.Numbering.{TwoOperands, is-storeD, is-loadD, is-storeQ, is-usualD, is-loadQ, is-usual, two-operands}
 use Rattle.machine.specs.Prints.{bytesOf}
 
@@ -95,11 +95,8 @@ module _ (s : State) where
   abbrev ofPlan : List Place → Result (Plan Place Kind) → Result (Footprint Place Kind)
   ofPlan vs planned = footprintIn look vs s planned
 
-  unmarked : (em ts pending : Bool) (vs : List Place) (o : Result (Plan Place Kind)) → RangedPrint (ofPlan vs o) → RangedPrint (ofPlan vs (unlessMarked em ts pending o))
-  unmarked true ts pending vs o h = tt
-  unmarked false true pending vs o h = tt
-  unmarked false false true vs o h = tt
-  unmarked false false false vs o h = h
+  unmarked : (vs : List Place) (o : Result (Plan Place Kind)) → RangedPrint (ofPlan vs o) → RangedPrint (ofPlan vs (unlessMarked (s .marks) o))
+  unmarked vs o h = by-marks (λ a b. RangedPrint (ofPlan vs a)) (λ n. tt) (s .marks) o o h
 
   nothing-after : (ps : List Place) → Range (bytesOf ps) → Range (bytesOf (ps ++ []))
   nothing-after ps h = subst (λ (l : List Place). Range (bytesOf l)) (sym (append-nil ps)) h
@@ -113,7 +110,7 @@ module _ (s : State) where
 
   ranged-move : (f : ℕ → ℕ) (d x : Location) → RangedPrint (footprintOf (move f d x) s)
   ranged-move f d x =
-      unmarked (s .em) (s .ts) (s .pending) (via (move f d x)) _
+      unmarked (via (move f d x)) _
       (moved f d x (placesOf s x) (placesOf s d) (ranged-places s x) (ranged-places s d))
 
   joined : (f : ℕ → ℕ → ℕ) (k : ℕ) (x : Location) (ps : Result (List Place)) → Ranged ps
@@ -125,12 +122,12 @@ module _ (s : State) where
 
   ranged-both : (f : ℕ → ℕ → ℕ) (k : ℕ) (x : Location) → RangedPrint (footprintOf (both f (mmxRegister k) x) s)
   ranged-both f k x =
-      unmarked (s .em) (s .ts) (s .pending) (via (both f (mmxRegister k) x)) _
+      unmarked (via (both f (mmxRegister k) x)) _
       (joined f k x (placesOf s x) (ranged-places s x))
 
   ranged-bare : (kind : Kind) → RangedPrint (footprintOf (bare kind) s)
   ranged-bare kind =
-      unmarked (s .em) (s .ts) (s .pending) [] _ (record { reads = no-bytes; writes = no-bytes })
+      unmarked [] _ (record { reads = no-bytes; writes = no-bytes })
 
   -- each form, by its number
   module _ (o : Operation) (i : Instruction) where

@@ -18,6 +18,7 @@ use Rattle.codec.specs.Table.{formOf, shiftIn, operationIn}
 use Rattle.codec.specs.declared.Operand.{Operand}
 use Rattle.codec.specs.declared.Instruction.{Instruction}
 use Rattle.codec.specs.declared.Kind.the-variants.{Ordinary, Emms}
+use Rattle.manual.specs.declared.Marks.{Marks}
 use Rattle.manual.specs.Refusals.{outsideMemory}
 use Rattle.manual.specs.State.{State, withMemory}
 use Rattle.manual.specs.Kinds.{marked}
@@ -27,7 +28,6 @@ use Rattle.manual.specs.Effects.{directly}
 use Rattle.manual.specs.Instructions.{effectBy}
 use Rattle.manual.specs.Steps.{concluded}
 use Rattle.manual.proofs.Direct.{valueAt, putAt, move-direct, both-direct}
-use Rattle.machine.specs.declared.gathering.Marks.{Marks}
 use Rattle.machine.specs.declared.gathering.Work.{Work}
 use Rattle.machine.specs.State.{stateOf}
 use Rattle.machine.specs.Works.{machineOf, effectIn, fileIn, otherOf, isMove, Listed, performed, Sound, Does, refusedWork}

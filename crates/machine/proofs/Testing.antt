@@ -1,48 +1,52 @@
 -- The tests before an instruction's work: the control marks in their order, and the bytes of an operand below the memory's length.
 use mathlib.Core.Path.{_≡_, refl, sym, _∙_}
-use mathlib.Core.Bool.{Bool, true, false}
+use mathlib.Core.Bool.{Bool, true, false, cond}
 use Prim.Native.Nat.{ℕ, _+_, _-_, _≤_, _<_}
 use native.Mathlib.Omega.{arith}
 use borrow.Author.Needs.{needs}
-use borrow.Author.Tests.{le-leb, lt-leb, leb-true, leb-false}
-use lib.Dec.{leb}
+use borrow.Author.Tests.{ne-eqb, le-leb, lt-leb, leb-true, leb-false}
+use lib.Dec.{eqb, leb}
 use Rattle.reorder.specs.Result.{Result, refused}
+use Rattle.manual.specs.declared.Marks.{Marks}
 use Rattle.manual.specs.Refusals.{invalidOpcode, notAvailable, isPending}
 use Rattle.manual.specs.Effects.{unlessMarked}
+use Rattle.manual.proofs.Direct.{controlled}
 use Rattle.machine.specs.Works.{barredBy}
 
-module _ (em ts pending : Bool) where
-  pub barred-em : em ≡ true → invalidOpcode ≡ barredBy em ts pending
+module _ (marks : Marks) where
+  pub barred-em : marks .em ≡ true → invalidOpcode ≡ barredBy marks
   unfolding barredBy
   barred-em e = simp e
 
-  pub barred-ts : em ≡ false → ts ≡ true → notAvailable ≡ barredBy em ts pending
+  pub barred-ts : marks .em ≡ false → marks .ts ≡ true → notAvailable ≡ barredBy marks
   unfolding barredBy
   barred-ts e t = simp (e, t)
 
-  pub barred-pending : em ≡ false → ts ≡ false → pending ≡ true → isPending ≡ barredBy em ts pending
+  pub barred-pending : marks .em ≡ false → marks .ts ≡ false → marks .pending ≡ true → isPending ≡ barredBy marks
   unfolding barredBy
   barred-pending e t p = simp (e, t, p)
 
-  pub barred-none : em ≡ false → ts ≡ false → pending ≡ false → 0 ≡ barredBy em ts pending
+  pub barred-none : marks .em ≡ false → marks .ts ≡ false → marks .pending ≡ false → 0 ≡ barredBy marks
   unfolding barredBy
   barred-none e t p = simp (e, t, p)
 
--- marks that bar nothing, and some that do
-pub unbarred-by : {A : Type 0} (em ts pending : Bool) (o : Result A) → barredBy em ts pending ≡ 0 → unlessMarked em ts pending o ≡ o
-unfolding barredBy
-unbarred-by true ts pending o h = absurd (omega arith)
-unbarred-by false true pending o h = absurd (omega arith)
-unbarred-by false false true o h = absurd (omega arith)
-unbarred-by false false false o h = refl
+  -- what is left of an answer, by the number of the marks
+  by-number : {A : Type 0} (o : Result A) → unlessMarked marks o ≡ cond (eqb (barredBy marks) 0) o (refused (barredBy marks))
+  unfolding barredBy
+  by-number o = by (marks .em) (marks .ts) (marks .pending)
+    where
+      by : (em ts pending : Bool) → let tested = controlled marks em ts pending in
+          unlessMarked tested o ≡ cond (eqb (barredBy tested) 0) o (refused (barredBy tested))
+      by true ts pending = refl
+      by false true pending = refl
+      by false false true = refl
+      by false false false = refl
 
-pub barred-by : {A : Type 0} (em ts pending : Bool) (o : Result A) → (barredBy em ts pending ≡ 0 → ⊥)
-    → unlessMarked em ts pending o ≡ refused (barredBy em ts pending)
-unfolding barredBy
-barred-by true ts pending o h = refl
-barred-by false true pending o h = refl
-barred-by false false true o h = refl
-barred-by false false false o h = absurd (h refl)
+  pub unbarred-by : {A : Type 0} (o : Result A) → barredBy marks ≡ 0 → unlessMarked marks o ≡ o
+  unbarred-by o h = by-number o ∙ simp h
+
+  pub barred-by : {A : Type 0} (o : Result A) → (barredBy marks ≡ 0 → ⊥) → unlessMarked marks o ≡ refused (barredBy marks)
+  barred-by o h = by-number o ∙ simp (ne-eqb (barredBy marks) 0 h)
 
 module _ (n a size : ℕ) where
   pub outside : n < size → false ≡ leb (a + size) n

@@ -4,6 +4,7 @@ use Prim.Native.Nat.{ℕ, _*_, _/_, _%_, _^_}
 use mathlib.Core.Bool.{Bool}
 use lib.Dec.{eqb}
 use Rattle.words.specs.Buffer.{loaded}
+use Rattle.manual.specs.declared.Marks.{Marks}
 use Rattle.machine.specs.declared.Machine.{Machine}
 
 -- the k-th number of `size` bytes in a field; in a field that is absent it is 0
@@ -19,14 +20,10 @@ eight field size =
 abbrev pub markAt : ℕ → ℕ → Bool
 markAt k marks = eqb (marks / 2 ^ k % 2) 1
 
--- MMX registers of 8 bytes, integer registers of 4; bit 0 is EM, 1 TS, 2 pending, 3 the tag mark
+-- bit 0 is EM, 1 TS, 2 pending, 3 the tag mark
+abbrev pub marksOf : ℕ → Marks
+marksOf marks = record { valid = markAt 3 marks; em = markAt 0 marks; ts = markAt 1 marks; pending = markAt 2 marks }
+
+-- MMX registers of 8 bytes, integer registers of 4
 unfoldable pub startOf : List ℕ → List ℕ → ℕ → Machine
-startOf mmx integers marks =
-    record {
-      mmx = eight mmx 8;
-      integers = eight integers 4;
-      valid = markAt 3 marks;
-      em = markAt 0 marks;
-      ts = markAt 1 marks;
-      pending = markAt 2 marks;
-    }
+startOf mmx integers marks = record { mmx = eight mmx 8; integers = eight integers 4; marks = marksOf marks }

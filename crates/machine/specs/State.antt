@@ -5,13 +5,4 @@ use Rattle.manual.specs.State.{State}
 use Rattle.machine.specs.declared.Machine.{Machine}
 
 abbrev pub stateOf : Machine → List ℕ → State
-stateOf machine memory =
-    record {
-      mmx = machine .mmx;
-      integers = machine .integers;
-      valid = machine .valid;
-      em = machine .em;
-      ts = machine .ts;
-      pending = machine .pending;
-      memory = memory;
-    }
+stateOf machine memory = record { mmx = machine .mmx; integers = machine .integers; marks = machine .marks; memory = memory }

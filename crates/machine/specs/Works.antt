@@ -13,27 +13,26 @@ use Rattle.codec.specs.declared.Operand.{Operand}
 use Rattle.manual.specs.Locations.{Location, rmOf}
 use Rattle.codec.specs.declared.Instruction.{Instruction}
 use Rattle.codec.specs.declared.Kind.the-variants.{Ordinary, Emms}
+use Rattle.manual.specs.declared.Marks.{Marks}
 use Rattle.manual.specs.Refusals.{invalidOpcode, notAvailable, isPending}
-use Rattle.manual.specs.State.{State, withMemory}
+use Rattle.manual.specs.State.{State, withMemory, tagged}
 use Rattle.manual.specs.Places.{mmx, integer, look, put}
 use Rattle.manual.specs.Kinds.{marked}
 use Rattle.manual.specs.Effects.{Effect, directly}
 use Rattle.manual.specs.Instructions.{effectBy}
 use Rattle.manual.specs.Steps.{concluded, Outcome, completed, refusedWith, stepAt}
 use Rattle.machine.specs.declared.Machine.{Machine}
-use Rattle.machine.specs.declared.gathering.Marks.{Marks}
 use Rattle.machine.specs.declared.gathering.Work.{Work}
 use Rattle.machine.specs.declared.stepping.Moved.{Moved}
 use Rattle.machine.specs.State.{stateOf}
 
 -- lent registers and marks
 abbrev pub machineOf : List ℕ → List ℕ → Marks → Machine
-machineOf registers integers marks =
-    record { mmx = registers; integers = integers; valid = marks .valid; em = marks .em; ts = marks .ts; pending = marks .pending }
+machineOf registers integers marks = record { mmx = registers; integers = integers; marks = marks }
 
 -- the refusal of the control marks, or 0
-unfoldable pub barredBy : Bool → Bool → Bool → ℕ
-barredBy em ts pending = cond em invalidOpcode (cond ts notAvailable (cond pending isPending 0))
+unfoldable pub barredBy : Marks → ℕ
+barredBy marks = cond (marks .em) invalidOpcode (cond (marks .ts) notAvailable (cond (marks .pending) isPending 0))
 
 -- the effect of an instruction by the table's number for it
 abbrev pub effectIn : ℕ → Instruction → Effect
@@ -109,18 +108,15 @@ pub record Does (work : Work) (registers integers memory : List ℕ) (e : Effect
 abbrev pub refusedWork : ℕ → Work
 refusedWork refusal = record { what = toRefuse; number = refusal; place = 0; value = 0; next = 0 }
 
--- a work does what the step at a position of the code does
-pub record Gathered (work : Work) (registers integers : List ℕ) (marks : Marks) (code : List ℕ) (at : ℕ) (memory : List ℕ) : Type 0 where
+-- a work does what the step at a position of the code does, whatever the marks that are barred so
+pub record Gathered (work : Work) (registers integers : List ℕ) (bar : ℕ) (code : List ℕ) (at : ℕ) (memory : List ℕ) : Type 0 where
   pub sound : Sound work
-  pub steps : let s = stateOf (machineOf registers integers marks) memory in performed work at s ≡ stepAt code at s
+  pub steps : (marks : Marks) → bar ≡ barredBy marks → let s = stateOf (machineOf registers integers marks) memory in performed work at s ≡ stepAt code at s
 
--- a machine with other registers and another tag mark
-abbrev pub renewedWith : Machine → List ℕ → List ℕ → Bool → Machine
-renewedWith machine registers integers valid =
-    record { mmx = registers; integers = integers; valid = valid; em = machine .em; ts = machine .ts; pending = machine .pending }
-
--- how a step ended, with what is then in the lent registers and memory
-unfoldable pub endedAs : Moved → List ℕ → List ℕ → Marks → List ℕ → Outcome
-endedAs moved registers integers marks memory =
-    let s = stateOf (record { mmx = registers; integers = integers; valid = moved .valid; em = marks .em; ts = marks .ts; pending = marks .pending }) memory in
-    cond (eqb (moved .refusal) 0) (completed (moved .next) s) (refusedWith (moved .refusal) (moved .next) s)
+-- a step that ended so, with what is then in the lent registers and memory, is the step at a position of the code, whatever the marks that are barred so
+pub record Advanced (moved : Moved) (registers integers : List ℕ) (bar : ℕ) (code : List ℕ) (at : ℕ) (memory registers′ integers′ memory′ : List ℕ) : Type 0 where
+  pub ends : (marks : Marks) → bar ≡ barredBy marks
+      → cond (eqb (moved .refusal) 0)
+      (completed (moved .next) (stateOf (machineOf registers′ integers′ (tagged marks (moved .valid))) memory′))
+      (refusedWith (moved .refusal) (moved .next) (stateOf (machineOf registers′ integers′ marks) memory′))
+      ≡ stepAt code at (stateOf (machineOf registers integers marks) memory)

@@ -129,7 +129,7 @@ fn of_instruction(machine: Machine, instruction: Instruction, memory: &[u8]) -> 
     requires { ⌜ Registers (instruction .operand) × Listed (getD opcodeTable (instruction .second) 0) ⌝ }
     ensures { λ r. ⌜ paperOfFootprint r ≡ mapResult print (footprint instruction (stateOf machine (now (memory .entry)))) ⌝ }
 {
-    let bar = gathering::barred(machine.em, machine.ts, machine.pending);
+    let bar = gathering::barred(machine.marks);
     if bar != 0 {
         return Printed::Refused(bar);
     }

@@ -14,6 +14,7 @@ use codec::forms::STORE_D;
 use codec::forms::STORE_Q;
 use codec::modes::REGISTER;
 use lanes::MOVE;
+use manual::Marks;
 ghost use mathlib.Core.Path.{_≡_};
 ghost use Prim.Native.Nat.{_+_, _/_, _^_, _≤_};
 ghost use lib.Dec.{leb};
@@ -26,15 +27,6 @@ ghost use Rattle.machine.specs.Works.{barredBy, effectIn, Listed, Does, 
 
 // How many values a doubleword has.
 pub(crate) const DOUBLEWORD_RANGE: u64 = 0x100000000;
-
-// The marks of a machine whose registers are lent, and the refusal of its control marks, which is found once, or 0.
-pub(crate) struct Marks {
-    pub(crate) valid: bool,
-    pub(crate) em: bool,
-    pub(crate) ts: bool,
-    pub(crate) pending: bool,
-    pub(crate) bar: u8,
-}
 
 // What is left of an instruction: what to do with a number, a place and a value, and the position after it.
 pub(crate) struct Work {
@@ -73,16 +65,16 @@ fn refused(refusal: u8) -> Work
 }
 
 // The refusal of the control marks, EM before TS before pending, or 0.
-pub(crate) fn barred(em: bool, ts: bool, pending: bool) -> u8
-    ensures { λ r. ⌜ r ≡ barredBy em ts pending ⌝ }
+pub(crate) fn barred(marks: Marks) -> u8
+    ensures { λ r. ⌜ r ≡ barredBy marks ⌝ }
 {
-    if em {
+    if marks.em {
         return INVALID_OPCODE;
     }
-    if ts {
+    if marks.ts {
         return NOT_AVAILABLE;
     }
-    if pending {
+    if marks.pending {
         return IS_PENDING;
     }
     0
@@ -224,25 +216,24 @@ fn sorted(
     }
 }
 
-// The instruction at a position: the reader's refusals, then those of the control marks, then that of its operand.
+// The instruction at a position: the reader's refusals, then `bar`, that of the control marks or 0, then that of its operand.
 pub(crate) fn gathered(
     table: &[u32; 256],
     mmx: &[u64; 8],
     integers: &[u32; 8],
-    marks: Marks,
+    bar: u8,
     code: &[u8],
     at: usize,
     memory: &[u8],
 ) -> Work
-    requires { ⌜ (now table ≡ opcodeTable) × ((length (now code) ≤ longestCode) × ((length (now memory) ≤ longestMemory) × (marks .bar ≡ barredBy (marks .em) (marks .ts) (marks .pending)))) ⌝ }
-    ensures { λ r. ⌜ Gathered r (now (mmx .entry)) (now (integers .entry)) marks (now (code .entry)) at (now (memory .entry)) ⌝ }
+    requires { ⌜ (now table ≡ opcodeTable) × ((length (now code) ≤ longestCode) × (length (now memory) ≤ longestMemory)) ⌝ }
+    ensures { λ r. ⌜ Gathered r (now (mmx .entry)) (now (integers .entry)) bar (now (code .entry)) at (now (memory .entry)) ⌝ }
 {
     let found = codec::read_from(table, code, at);
     let refusal = found.refusal;
     if refusal != 0 {
         return refused(refusal);
     }
-    let bar = marks.bar;
     if bar != 0 {
         return refused(bar);
     }

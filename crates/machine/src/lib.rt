@@ -12,6 +12,7 @@ mod starting;
 mod stepping;
 
 use codec::Kind;
+use manual::Marks;
 pub use meetings::meets;
 
 // The registers and marks. The memory is lent to each call beside them.
@@ -20,12 +21,7 @@ pub struct Machine {
     pub mmx: [u64; 8],
     // EAX ECX EDX EBX ESP EBP ESI EDI
     pub integers: [u32; 8],
-    // the tag mark: valid, or empty
-    pub valid: bool,
-    // the control marks
-    pub em: bool,
-    pub ts: bool,
-    pub pending: bool,
+    pub marks: Marks,
 }
 
 // What a step came to.

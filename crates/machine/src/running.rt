@@ -3,7 +3,6 @@ use crate::End;
 use crate::Machine;
 use crate::Ran;
 use crate::gathering;
-use crate::gathering::Marks;
 use crate::numbers::LONGEST_MEMORY;
 use crate::numbers::MEMORY_TOO_LONG;
 use crate::stepping;
@@ -36,10 +35,10 @@ impl Machine {
             };
         }
         let table = codec::table();
-        let bar = gathering::barred(self.em, self.ts, self.pending);
         let mut mmx = self.mmx;
         let mut integers = self.integers;
-        let mut valid = self.valid;
+        let mut marks = self.marks;
+        let bar = gathering::barred(marks);
         let mut at: usize = 0;
         let mut count: u32 = 0;
         while at < code.len() {
@@ -48,35 +47,40 @@ impl Machine {
                     end: End::Spent,
                     at: at,
                     count: count,
-                    machine: self.renewed(mmx, integers, valid),
+                    machine: Machine {
+                        mmx: mmx,
+                        integers: integers,
+                        marks: marks,
+                    },
                 };
             }
-            let marks = Marks {
-                valid: valid,
-                em: self.em,
-                ts: self.ts,
-                pending: self.pending,
-                bar: bar,
-            };
-            let moved = stepping::advance(&table, &mut mmx, &mut integers, marks, code, at, memory);
+            let moved = stepping::advance(&table, &mut mmx, &mut integers, bar, code, at, memory);
             let refusal = moved.refusal;
             at = moved.next;
-            valid = moved.valid;
             if refusal != 0 {
                 return Ran {
                     end: End::Refused(refusal),
                     at: at,
                     count: count,
-                    machine: self.renewed(mmx, integers, valid),
+                    machine: Machine {
+                        mmx: mmx,
+                        integers: integers,
+                        marks: marks,
+                    },
                 };
             }
+            marks.valid = moved.valid;
             count += 1;
         }
         Ran {
             end: End::Done,
             at: at,
             count: count,
-            machine: self.renewed(mmx, integers, valid),
+            machine: Machine {
+                mmx: mmx,
+                integers: integers,
+                marks: marks,
+            },
         }
     }
 }

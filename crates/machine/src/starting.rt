@@ -3,6 +3,7 @@ ghost use mathlib.Core.Path.{_≡_};
 ghost use Prim.Native.Nat.{_<_};
 ghost use Rattle.machine.specs.Starts.{nth, eight, startOf};
 use crate::Machine;
+use manual::Marks;
 
 // The bytes of an MMX register and of an integer register.
 const QUADWORD_BYTES: usize = 8;
@@ -72,10 +73,12 @@ impl Machine {
         Machine {
             mmx: registers,
             integers: others,
-            valid: marks / VALID % 2 == 1,
-            em: marks / EM % 2 == 1,
-            ts: marks / TS % 2 == 1,
-            pending: marks / PENDING % 2 == 1,
+            marks: Marks {
+                valid: marks / VALID % 2 == 1,
+                em: marks / EM % 2 == 1,
+                ts: marks / TS % 2 == 1,
+                pending: marks / PENDING % 2 == 1,
+            },
         }
     }
 }

@@ -3,7 +3,6 @@ use crate::Machine;
 use crate::Stepped;
 use crate::Taken;
 use crate::gathering;
-use crate::gathering::Marks;
 use crate::numbers::LONGEST_MEMORY;
 use crate::numbers::MEMORY_TOO_LONG;
 use codec::refusals::CODE_TOO_LONG;
@@ -17,9 +16,9 @@ ghost use Rattle.manual.specs.State.{longestMemory};
 ghost use Rattle.manual.specs.Steps.{stepAt};
 ghost use Rattle.machine.specs.State.{stateOf};
 ghost use Rattle.machine.specs.Steps.{paperOfStep};
-ghost use Rattle.machine.specs.Works.{machineOf, barredBy, renewedWith, endedAs};
+ghost use Rattle.machine.specs.Works.{Advanced};
 
-// How a step ended: the refusal or 0, the position and the tag mark after it.
+// How a step ended: the refusal or 0, the position after it and, where it completed, the tag mark.
 pub(crate) struct Moved {
     pub(crate) refusal: u8,
     pub(crate) next: usize,
@@ -34,20 +33,20 @@ fn put_low(integers: &mut [u32; 8], register: usize, value: u64)
     integers[register] = (value % gathering::DOUBLEWORD_RANGE) as u32;
 }
 
-// The step at a position, where memory and code are within their limits.
+// The step at a position, where memory and code are within their limits and `bar` is the refusal of the control marks, or 0.
 pub(crate) fn advance(
     table: &[u32; 256],
     mmx: &mut [u64; 8],
     integers: &mut [u32; 8],
-    marks: Marks,
+    bar: u8,
     code: &[u8],
     at: usize,
     memory: &mut [u8],
 ) -> Moved
-    requires { ⌜ (now table ≡ opcodeTable) × ((length (now code) ≤ longestCode) × ((length (now memory) ≤ longestMemory) × (marks .bar ≡ barredBy (marks .em) (marks .ts) (marks .pending)))) ⌝ }
-    ensures { λ r. ⌜ endedAs r (now (mmx .exit)) (now (integers .exit)) marks (now (memory .exit)) ≡ stepAt (now (code .entry)) at (stateOf (machineOf (now (mmx .entry)) (now (integers .entry)) marks) (now (memory .entry))) ⌝ }
+    requires { ⌜ (now table ≡ opcodeTable) × ((length (now code) ≤ longestCode) × (length (now memory) ≤ longestMemory)) ⌝ }
+    ensures { λ r. ⌜ Advanced r (now (mmx .entry)) (now (integers .entry)) bar (now (code .entry)) at (now (memory .entry)) (now (mmx .exit)) (now (integers .exit)) (now (memory .exit)) ⌝ }
 {
-    let work = gathering::gathered(table, mmx, integers, marks, code, at, memory);
+    let work = gathering::gathered(table, mmx, integers, bar, code, at, memory);
     let what = work.what;
     let place = work.place;
     let completed = Moved {
@@ -77,25 +76,11 @@ pub(crate) fn advance(
     Moved {
         refusal: work.number,
         next: at,
-        valid: marks.valid,
+        valid: true,
     }
 }
 
 impl Machine {
-    // The machine with these registers and this tag mark.
-    pub(crate) fn renewed(self, mmx: [u64; 8], integers: [u32; 8], valid: bool) -> Machine
-        ensures { λ r. ⌜ r ≡ renewedWith self mmx integers valid ⌝ }
-    {
-        Machine {
-            mmx: mmx,
-            integers: integers,
-            valid: valid,
-            em: self.em,
-            ts: self.ts,
-            pending: self.pending,
-        }
-    }
-
     // The instruction at a position.
     pub fn step(self, code: &[u8], at: usize, memory: &mut [u8]) -> Stepped
         ensures { λ r. ⌜ paperOfStep r (now (memory .exit)) ≡ stepAt (now (code .entry)) at (stateOf self (now (memory .entry))) ⌝ }
@@ -117,25 +102,30 @@ impl Machine {
         let table = codec::table();
         let mut mmx = self.mmx;
         let mut integers = self.integers;
-        let marks = Marks {
-            valid: self.valid,
-            em: self.em,
-            ts: self.ts,
-            pending: self.pending,
-            bar: gathering::barred(self.em, self.ts, self.pending),
-        };
-        let moved = advance(&table, &mut mmx, &mut integers, marks, code, at, memory);
-        let machine = self.renewed(mmx, integers, moved.valid);
+        let marks = self.marks;
+        let bar = gathering::barred(marks);
+        let moved = advance(&table, &mut mmx, &mut integers, bar, code, at, memory);
+        let mut after = marks;
+        after.valid = moved.valid;
         let refusal = moved.refusal;
-        if refusal == 0 {
+        if refusal != 0 {
             return Stepped {
-                answer: Taken::Completed,
-                machine: machine,
+                answer: Taken::Refused(refusal),
+                machine: Machine {
+                    mmx: mmx,
+                    integers: integers,
+                    marks: marks,
+                },
                 at: moved.next,
             };
         }
+        let machine = Machine {
+            mmx: mmx,
+            integers: integers,
+            marks: after,
+        };
         Stepped {
-            answer: Taken::Refused(refusal),
+            answer: Taken::Completed,
             machine: machine,
             at: moved.next,
         }

@@ -13,6 +13,7 @@ use Rattle.words.proofs.Laws.{length-gets}
 use Rattle.reorder.specs.Result.{Result, done, refused, andThen, mapResult}
 use Rattle.reorder.specs.Plan.{looks, puts, perform}
 use Rattle.codec.specs.declared.Kind.the-variants.{Ordinary}
+use Rattle.manual.specs.declared.Marks.{Marks}
 use Rattle.manual.specs.Refusals.{invalidOpcode, notAvailable, isPending, outsideMemory}
 use Rattle.manual.specs.State.{State, withMemory}
 use Rattle.manual.specs.Places.{Place, mmx, integer, byte, look, put}
@@ -46,13 +47,25 @@ move f destination source =
 abbrev pub bare : Kind → Effect
 bare kind = record { takes = []; gives = []; value = λ values. done []; kind = kind }
 
+-- the marks with these control marks
+abbrev pub controlled : Marks → Bool → Bool → Bool → Marks
+controlled marks em ts pending = record { valid = marks .valid; em = em; ts = ts; pending = pending }
+
+-- what holds of every refusal, and of what follows the test of the control marks, holds of both
+pub by-marks : {A B : Type 0} (P : Result A → Result B → Type 0) → ((n : ℕ) → P (refused n) (refused n)) → (marks : Marks) (a : Result A) (b : Result B)
+    → P a b → P (unlessMarked marks a) (unlessMarked marks b)
+by-marks P kept marks a b h = tests (marks .em) (marks .ts) (marks .pending)
+  where
+    tests : (em ts pending : Bool) → let tested = controlled marks em ts pending in P (unlessMarked tested a) (unlessMarked tested b)
+    tests true ts pending = kept invalidOpcode
+    tests false true pending = kept notAvailable
+    tests false false true = kept isPending
+    tests false false false = h
+
 -- what keeps every refusal keeps those of the control marks
-pub past-marks : {A B : Type 0} (f : Result A → Result B) → ((n : ℕ) → f (refused n) ≡ refused n) → (em ts pending : Bool) (o : Result A)
-    → f (unlessMarked em ts pending o) ≡ unlessMarked em ts pending (f o)
-past-marks f kept true ts pending o = kept invalidOpcode
-past-marks f kept false true pending o = kept notAvailable
-past-marks f kept false false true o = kept isPending
-past-marks f kept false false false o = refl
+pub past-marks : {A B : Type 0} (f : Result A → Result B) → ((n : ℕ) → f (refused n) ≡ refused n) → (marks : Marks) (o : Result A)
+    → f (unlessMarked marks o) ≡ unlessMarked marks (f o)
+past-marks f kept marks o = by-marks (λ a b. f a ≡ b) kept marks o (f o) refl
 
 -- the places of a list of one operand
 abbrev pub one : Result (List Place) → Result (List Place)
@@ -158,5 +171,5 @@ module _ (s : State) where
   both-direct f r x = operates f r x (valueAt s x) (placesOf s x) (taken s x)
 
   -- the control marks go first
-  pub marks-first : (e : Effect) → performs e s ≡ unlessMarked (s .em) (s .ts) (s .pending) (directly e s)
-  marks-first e = past-marks (perform look put marked s) (λ n. refl) (s .em) (s .ts) (s .pending) (placed e s)
+  pub marks-first : (e : Effect) → performs e s ≡ unlessMarked (s .marks) (directly e s)
+  marks-first e = past-marks (perform look put marked s) (λ n. refl) (s .marks) (placed e s)

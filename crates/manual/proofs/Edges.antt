@@ -9,6 +9,8 @@ use Rattle.reorder.specs.Run.{Answer, finished, spent, stopped}
 use Rattle.manual.specs.State.{State}
 use Rattle.manual.specs.Steps.{Outcome, completed, refusedWith, stepAt}
 use Rattle.manual.specs.Runs.{runOf}
+use Rattle.manual.proofs.Direct.{controlled}
+use Rattle.manual.proofs.Plates.{clear}
 
 -- the bytes 10 to 17 hex in the memory, all ones in MM0, these numbers in EAX and ECX, 4 in ESP and EBP, the tag mark empty, and these control marks
 abbrev start : ℕ → ℕ → Bool → Bool → Bool → State
@@ -16,17 +18,13 @@ start eax ecx em ts pending =
     record {
       mmx = 0xffffffffffffffff ∷ replicate 7 0;
       integers = eax ∷ ecx ∷ 0 ∷ 0 ∷ 4 ∷ 4 ∷ 0 ∷ 0 ∷ [];
-      valid = false;
-      em = em;
-      ts = ts;
-      pending = pending;
+      marks = controlled (clear false) em ts pending;
       memory = 0x10 ∷ 0x11 ∷ 0x12 ∷ 0x13 ∷ 0x14 ∷ 0x15 ∷ 0x16 ∷ 0x17 ∷ [];
     }
 
 -- nothing in the registers, over a memory
 abbrev over : List ℕ → State
-over memory =
-    record { mmx = replicate 8 0; integers = replicate 8 0; valid = false; em = false; ts = false; pending = false; memory = memory }
+over memory = record { mmx = replicate 8 0; integers = replicate 8 0; marks = clear false; memory = memory }
 
 abbrev run : List ℕ → Answer State
 run code = runOf code 4096 (start 0 0 false false false)
@@ -58,28 +56,28 @@ stepRefusedBy number (refusedWith n at t) = eqb n number
 -- what is left
 
 abbrev mm0 : ℕ → State → Bool
-mm0 value t = eqb (getD (t .mmx) 0 0) value && t .valid
+mm0 value t = eqb (getD (t .mmx) 0 0) value && t .marks .valid
 
 abbrev eax : ℕ → State → Bool
-eax value t = eqb (getD (t .integers) 0 0) value && t .valid
+eax value t = eqb (getD (t .integers) 0 0) value && t .marks .valid
 
 abbrev memory : ℕ → State → Bool
-memory value t = eqb (number (t .memory)) value && t .valid
+memory value t = eqb (number (t .memory)) value && t .marks .valid
 
 abbrev tagsEmpty : State → Bool
-tagsEmpty t = not (t .valid)
+tagsEmpty t = not (t .marks .valid)
 
 -- MM0 and the memory are as they were, and the tags still empty
 abbrev unchanged : State → Bool
 unchanged t =
-    eqb (getD (t .mmx) 0 0) 0xffffffffffffffff && eqb (number (t .memory)) 0x1716151413121110 && not (t .valid)
+    eqb (getD (t .mmx) 0 0) 0xffffffffffffffff && eqb (number (t .memory)) 0x1716151413121110 && not (t .marks .valid)
 
 -- a MOVQ from address 0 completes
 abbrev reachesZero : Answer State → Bool
 reachesZero = doneWith 1 (mm0 0x1716151413121110)
 
 abbrev completes : Answer State → Bool
-completes = doneWith 1 (λ t. t .valid)
+completes = doneWith 1 (λ t. t .marks .valid)
 
 abbrev refuses : ℕ → Answer State → Bool
 refuses number = refusedAfter number 0 unchanged

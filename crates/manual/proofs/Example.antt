@@ -4,6 +4,7 @@ use mathlib.Core.List.{List, [], _∷_, _++_}
 use Prim.Native.Nat.{ℕ}
 use lib.ListN.{replicate}
 use Rattle.manual.specs.State.{State}
+use Rattle.manual.proofs.Plates.{clear}
 
 abbrev pub block : List ℕ
 block =
@@ -25,10 +26,7 @@ here mm0 mm1 mm2 valid memory =
     record {
       mmx = mm0 ∷ mm1 ∷ mm2 ∷ replicate 5 0;
       integers = 0 ∷ 16 ∷ replicate 6 0;
-      valid = valid;
-      em = false;
-      ts = false;
-      pending = false;
+      marks = clear valid;
       memory = memory ++ replicate 8 0x03;
     }
 

@@ -10,11 +10,12 @@ use Rattle.codec.specs.declared.Kind.the-variants.{Ordinary, Emms}
 use Rattle.manual.specs.State.{State}
 use Rattle.manual.specs.Places.{Place, mmx, integer}
 use Rattle.manual.specs.Locations.{bytesFrom}
+use Rattle.manual.proofs.Plates.{clear}
 
 -- 8 in EAX, 2 in ECX, and 32 bytes of memory
 abbrev pub here : State
 here =
-    record { mmx = replicate 8 0; integers = 8 ∷ 2 ∷ replicate 6 0; valid = false; em = false; ts = false; pending = false; memory = replicate 32 0 }
+    record { mmx = replicate 8 0; integers = 8 ∷ 2 ∷ replicate 6 0; marks = clear false; memory = replicate 32 0 }
 
 -- an instruction's bytes, and the footprint of its step or the step's refusal
 abbrev Line : Type 0

@@ -15,6 +15,7 @@ use Rattle.manual.specs.Kinds.{marked, KindsMeet}
 use Rattle.manual.specs.Addresses.{Address, registerPart, address, registersOf, addressRegisters}
 use Rattle.manual.specs.Locations.{Location, mmxRegister, integerRegister, memory, tested, placesOf, registersBehind}
 use Rattle.manual.specs.Effects.{placesOfAll, registersBehindAll, addressRegistersOf, unlessMarked, planOn, plan, via}
+use Rattle.manual.proofs.Direct.{controlled}
 use Rattle.manual.proofs.Lists.{set-same, set-alike}
 
 look-other : (s : State) (p q : Place) (v : ℕ) → (p ≡ q → ⊥) → look (put s p v) q ≡ look s q
@@ -131,7 +132,7 @@ module _ (s s′ : State) (same : frozen s ≡ frozen s′) where
 
 pub local : Local look frozen via plan
 local e s s′ same h =
-    λ j. unlessMarked (same j .em) (same j .ts) (same j .pending)
+    λ j. unlessMarked (controlled (s .marks) (same j .em) (same j .ts) (same j .pending))
     (andThen (takes j) (λ source. mapResult (planOn e source) (gives j)))
   where
     agree : Agree s s′ same (addressRegistersOf e)

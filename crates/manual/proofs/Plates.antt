@@ -5,13 +5,18 @@ use Prim.Native.Nat.{ℕ}
 use lib.Dec.{eqb}
 use lib.ListN.{getD, replicate}
 use Rattle.reorder.specs.Run.{Answer, finished, spent, stopped}
+use Rattle.manual.specs.declared.Marks.{Marks}
 use Rattle.manual.specs.State.{State}
 use Rattle.manual.specs.Runs.{runOf}
+
+-- the tag mark, and no control mark
+abbrev pub clear : Bool → Marks
+clear valid = record { valid = valid; em = false; ts = false; pending = false }
 
 -- two numbers in MM0 and MM1, the tag mark, and nothing else
 abbrev pub start : ℕ → ℕ → Bool → State
 start destination source valid =
-    record { mmx = destination ∷ source ∷ replicate 6 0; integers = replicate 8 0; valid = valid; em = false; ts = false; pending = false; memory = [] }
+    record { mmx = destination ∷ source ∷ replicate 6 0; integers = replicate 8 0; marks = clear valid; memory = [] }
 
 -- done after one instruction, with this in MM0
 abbrev left : Answer State → ℕ → Bool

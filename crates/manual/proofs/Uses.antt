@@ -2,10 +2,10 @@
 -- from one plan.
 use mathlib.Core.Path.{_≡_, refl, sym, ap, _∙_, subst, subst₂}
 use mathlib.Core.Bool.{Bool, true, false, not, _||_, false≢true}
-use mathlib.Core.List.{List, [], List·Memᴰ as In}
+use mathlib.Core.List.{List, List·Memᴰ as In}
 use Prim.Native.Nat.{ℕ, _+_}
 use Rattle.reorder.specs.Result.{Result, done, refused, caseOf, andThen, mapResult}
-use Rattle.reorder.specs.Plan.{Plan, looks, perform as performed}
+use Rattle.reorder.specs.Plan.{Plan, looks}
 use Rattle.reorder.specs.Footprint.{Footprint, footprintOf as ofPlan, footprintIn, asked}
 use Rattle.reorder.specs.Run.{Fetched}
 use Rattle.reorder.proofs.Swapping.{completed as planned}
@@ -27,7 +27,7 @@ use Rattle.manual.specs.Instructions.{effectBy, effectOf, execute, footp
 use Rattle.manual.specs.Steps.{Outcome, completed, refusedWith, concluded, instructionAt, stepAt}
 use Rattle.manual.specs.Footprints.{footprintAt}
 use Rattle.manual.proofs.Laws.{laws, local}
-use Rattle.manual.proofs.Direct.{bare}
+use Rattle.manual.proofs.Direct.{bare, by-marks, marks-first}
 
 -- the places whose contents an instruction goes by in a state, whether it is refused or not
 abbrev pub askedBy : Instruction → State → List Place
@@ -78,26 +78,19 @@ abbrev pub tagOf : Kind → Bool
 tagOf Ordinary = true
 tagOf Emms = false
 
-tag-marked : (k : Kind) (s : State) → marked k s .valid ≡ tagOf k
+tag-marked : (k : Kind) (s : State) → marked k s .marks .valid ≡ tagOf k
 tag-marked Ordinary s = refl
 tag-marked Emms s = refl
 
 -- a plan has its effect's kind
 plan-kind : (e : Effect) (s : State) (pl : Plan Place Kind) → plan e s ≡ done pl → pl .kind ≡ e .kind
-plan-kind e s pl h = marks (s .em) (s .ts) (s .pending) h
+plan-kind e s pl =
+    by-marks (λ a b. a ≡ done pl → pl .kind ≡ e .kind) (λ n h. absurd (false≢true (cc))) (s .marks) _ (done pl) (placed (placesOfAll s (e .takes)) (placesOfAll s (e .gives)))
   where
     placed : (a b : Result (List Place)) → andThen a (λ source. mapResult (planOn e source) b) ≡ done pl → pl .kind ≡ e .kind
     placed (done from) (done to) h = let same : planOn e from to ≡ pl = cc in sym (ap (λ (p : Plan Place Kind). p .kind) same)
     placed (done from) (refused n) h = absurd (false≢true (cc))
     placed (refused n) b h = absurd (false≢true (cc))
-
-    marks : (em ts pending : Bool)
-        → unlessMarked em ts pending (andThen (placesOfAll s (e .takes)) (λ source. mapResult (planOn e source) (placesOfAll s (e .gives)))) ≡ done pl
-        → pl .kind ≡ e .kind
-    marks true ts pending h = absurd (false≢true (cc))
-    marks false true pending h = absurd (false≢true (cc))
-    marks false false true h = absurd (false≢true (cc))
-    marks false false false h = placed (placesOfAll s (e .takes)) (placesOfAll s (e .gives)) h
 
 -- 77 has the kind of EMMS, and no other second byte
 byte-tag : (second : ℕ) → tagOf (formAt second .kind) ≡ not (eqb second 0x77)
@@ -140,24 +133,17 @@ printed-kind i s f h = planning (plan (effectOf i) s) refl h
     planning (done pl) e h = making pl e (pl .make (looks look s (pl .source))) h
 
 -- "Every completed instruction but EMMS sets it valid; EMMS sets it empty"
-pub tag-after : (i : Instruction) (s t : State) → execute i s ≡ done t → t .valid ≡ not (eqb (i .second) 0x77)
+pub tag-after : (i : Instruction) (s t : State) → execute i s ≡ done t → t .marks .valid ≡ not (eqb (i .second) 0x77)
 unfolding execute
 tag-after i s t e =
     let (pl, vs, ep, em, et) = planned look put marked via plan (effectOf i) s t e in
-    ap (λ (u : State). u .valid) et ∙ tag-marked (pl .kind) _ ∙ ap tagOf (plan-kind (effectOf i) s pl ep) ∙ kind-tag i
+    ap (λ (u : State). u .marks .valid) et ∙ tag-marked (pl .kind) _ ∙ ap tagOf (plan-kind (effectOf i) s pl ep) ∙ kind-tag i
 
 -- "EMMS sets it empty and changes nothing else": what it leaves is the state with the tag mark empty, unless a control mark refuses it
-pub emms-leaves : (i : Instruction) (s : State) → i .second ≡ 0x77 → execute i s ≡ unlessMarked (s .em) (s .ts) (s .pending) (done (withTag s false))
+pub emms-leaves : (i : Instruction) (s : State) → i .second ≡ 0x77 → execute i s ≡ unlessMarked (s .marks) (done (withTag s false))
 unfolding execute effectOf formAt
 emms-leaves i s e =
-    ap (λ (second : ℕ). perform (effectBy (formAt second) (operationAt second (i .operand .reg)) i) s) e ∙ marks (s .em) (s .ts) (s .pending)
-  where
-    marks : (em ts pending : Bool)
-        → performed look put marked s (unlessMarked em ts pending (done (planOn (bare Emms) [] []))) ≡ unlessMarked em ts pending (done (withTag s false))
-    marks true ts pending = refl
-    marks false true pending = refl
-    marks false false true = refl
-    marks false false false = refl
+    ap (λ (second : ℕ). perform (effectBy (formAt second) (operationAt second (i .operand .reg)) i) s) e ∙ marks-first s (bare Emms)
 
 -- an outcome and a footprint go together: both there, or both refused by one number
 abbrev pub Together : Outcome → Result (Footprint Place Kind) → Type 0

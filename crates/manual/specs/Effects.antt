@@ -1,6 +1,6 @@
 -- The effect of an instruction: the operands it takes, the operands it gives, and a pure function between their values. From it come its step
 -- and its footprint.
-use mathlib.Core.Bool.{Bool, cond}
+use mathlib.Core.Bool.{cond}
 use mathlib.Core.List.{List, [], _∷_, _++_, map}
 use Prim.Native.Nat.{ℕ}
 use lib.ListN.{getD, take, drop}
@@ -9,6 +9,7 @@ use Rattle.reorder.specs.Result.{Result, done, refused, andThen, mapResult}
 use Rattle.reorder.specs.Plan.{Plan, execBy}
 use Rattle.reorder.specs.Footprint.{Footprint, footprintBy}
 use Rattle.codec.specs.declared.Kind.{Kind}
+use Rattle.manual.specs.declared.Marks.{Marks}
 use Rattle.manual.specs.Refusals.{invalidOpcode, notAvailable, isPending}
 use Rattle.manual.specs.State.{State}
 use Rattle.manual.specs.Places.{Place, integer, look, put}
@@ -59,9 +60,9 @@ contentsOfAll [] values = []
 contentsOfAll (x ∷ xs) values = contentsOf x (getD values 0 0) ++ contentsOfAll xs (drop 1 values)
 
 -- 7, 8, 9 where a control mark is set, EM before TS before pending; else what follows
-abbrev pub unlessMarked : {A : Type 0} → Bool → Bool → Bool → Result A → Result A
-unlessMarked em ts pending result =
-    cond em (refused invalidOpcode) (cond ts (refused notAvailable) (cond pending (refused isPending) result))
+abbrev pub unlessMarked : {A : Type 0} → Marks → Result A → Result A
+unlessMarked marks result =
+    cond (marks .em) (refused invalidOpcode) (cond (marks .ts) (refused notAvailable) (cond (marks .pending) (refused isPending) result))
 
 -- the effect on these places
 abbrev pub planOn : Effect → List Place → List Place → Plan Place Kind
@@ -83,7 +84,7 @@ directly = execBy look put marked placed
 
 -- the effect in a state: the control marks are tested before the operands
 abbrev pub plan : Effect → State → Result (Plan Place Kind)
-plan e s = unlessMarked (s .em) (s .ts) (s .pending) (placed e s)
+plan e s = unlessMarked (s .marks) (placed e s)
 
 -- the address registers of what it takes and of what it gives: they are read too
 abbrev pub addressRegistersOf : Effect → List ℕ

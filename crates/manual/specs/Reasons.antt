@@ -30,8 +30,8 @@ pub record Outside (s : State) (x : Location) : Type 0 where
 pub data Reason (code : List ℕ) (at : ℕ) (s : State) : ℕ → Type 0 where
   one : isTooLong (s .memory) ≡ true → Reason code at s memoryTooLong
   reading : {n : ℕ} → isTooLong (s .memory) ≡ false → ReasonAt code at n → Reason code at s n
-  seven : (i : Instruction) (size : ℕ) → Stands code at s i size → s .em ≡ true → Reason code at s invalidOpcode
-  eight : (i : Instruction) (size : ℕ) → Stands code at s i size → s .em ≡ false → s .ts ≡ true → Reason code at s notAvailable
-  nine : (i : Instruction) (size : ℕ) → Stands code at s i size → s .em ≡ false → s .ts ≡ false → s .pending ≡ true → Reason code at s isPending
-  ten : (i : Instruction) (size : ℕ) → Stands code at s i size → s .em ≡ false → s .ts ≡ false → s .pending ≡ false
+  seven : (i : Instruction) (size : ℕ) → Stands code at s i size → s .marks .em ≡ true → Reason code at s invalidOpcode
+  eight : (i : Instruction) (size : ℕ) → Stands code at s i size → s .marks .em ≡ false → s .marks .ts ≡ true → Reason code at s notAvailable
+  nine : (i : Instruction) (size : ℕ) → Stands code at s i size → s .marks .em ≡ false → s .marks .ts ≡ false → s .marks .pending ≡ true → Reason code at s isPending
+  ten : (i : Instruction) (size : ℕ) → Stands code at s i size → s .marks .em ≡ false → s .marks .ts ≡ false → s .marks .pending ≡ false
       → (x : Location) → In x (effectOf i .takes) ⊎ In x (effectOf i .gives) → Outside s x → Reason code at s outsideMemory

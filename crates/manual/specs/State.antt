@@ -4,39 +4,35 @@ use mathlib.Core.List.{List}
 use Prim.Native.Nat.{ℕ}
 use lib.Dec.{ltb}
 use lib.ListN.{length, set}
+use Rattle.manual.specs.declared.Marks.{Marks}
 
 pub record State : Type 0 where
   -- MM0 to MM7
   pub mmx : List ℕ
   -- EAX ECX EDX EBX ESP EBP ESI EDI
   pub integers : List ℕ
-  -- the tag mark: valid (true), or empty (false)
-  pub valid : Bool
-  -- the control marks
-  pub em : Bool
-  pub ts : Bool
-  pub pending : Bool
+  pub marks : Marks
   pub memory : List ℕ
 
 -- the state with a number in MMX register k
 abbrev pub withMmx : State → ℕ → ℕ → State
-withMmx s k value =
-    record { mmx = set (s .mmx) k value; integers = s .integers; valid = s .valid; em = s .em; ts = s .ts; pending = s .pending; memory = s .memory }
+withMmx s k value = record { mmx = set (s .mmx) k value; integers = s .integers; marks = s .marks; memory = s .memory }
 
 -- the state with a number in integer register k
 abbrev pub withInteger : State → ℕ → ℕ → State
-withInteger s k value =
-    record { mmx = s .mmx; integers = set (s .integers) k value; valid = s .valid; em = s .em; ts = s .ts; pending = s .pending; memory = s .memory }
+withInteger s k value = record { mmx = s .mmx; integers = set (s .integers) k value; marks = s .marks; memory = s .memory }
 
 -- the state with another memory
 abbrev pub withMemory : State → List ℕ → State
-withMemory s memory =
-    record { mmx = s .mmx; integers = s .integers; valid = s .valid; em = s .em; ts = s .ts; pending = s .pending; memory = memory }
+withMemory s memory = record { mmx = s .mmx; integers = s .integers; marks = s .marks; memory = memory }
+
+-- the marks with the tag mark valid (true) or empty (false)
+abbrev pub tagged : Marks → Bool → Marks
+tagged marks valid = record { valid = valid; em = marks .em; ts = marks .ts; pending = marks .pending }
 
 -- the state with the tag mark valid (true) or empty (false)
 abbrev pub withTag : State → Bool → State
-withTag s valid =
-    record { mmx = s .mmx; integers = s .integers; valid = valid; em = s .em; ts = s .ts; pending = s .pending; memory = s .memory }
+withTag s valid = record { mmx = s .mmx; integers = s .integers; marks = tagged (s .marks) valid; memory = s .memory }
 
 -- the longest memory, in bytes
 abbrev pub longestMemory : ℕ
@@ -57,9 +53,9 @@ pub record Frozen : Type 0 where
 abbrev pub frozen : State → Frozen
 frozen s =
     record {
-      em = s .em;
-      ts = s .ts;
-      pending = s .pending;
+      em = s .marks .em;
+      ts = s .marks .ts;
+      pending = s .marks .pending;
       mmx = length (s .mmx);
       integers = length (s .integers);
       memory = length (s .memory);

@@ -33,7 +33,7 @@ answer-text end.Spent at count s = refl
 answer-text (end.Refused n) at count s = refl
 
 pub reported : (ran : Ran) (memory buffer : List ℕ) (named : Ending) (p : Printed) → named ≡ endingOf (ran .end)
-    → p ≡ printed (reportText named (ran .count) (ran .at) (ran .machine .mmx) (ran .machine .integers) (ran .machine .valid) memory) buffer
+    → p ≡ printed (reportText named (ran .count) (ran .at) (ran .machine .mmx) (ran .machine .integers) (ran .machine .marks .valid) memory) buffer
     → p ≡ printed (answerText (paperOfRun ran memory)) buffer
 unfolding stateText
 reported ran memory buffer named p name told = rw (answer-text (ran .end) (ran .at) (ran .count) (stateOf (ran .machine) memory)) (rw name at told)

@@ -32,7 +32,7 @@ endingOf (end.Refused n) = ending.Refused n
 -- the report of a state, with how its run ended, the position reached and the count of instructions completed
 unfoldable pub stateText : Ending → ℕ → ℕ → State → List ℕ
 stateText e at count s =
-    reportText e count at (s .mmx) (s .integers) (s .valid) (s .memory)
+    reportText e count at (s .mmx) (s .integers) (s .marks .valid) (s .memory)
 
 -- the report of each answer of a run
 abbrev pub answerText : Answer State → List ℕ

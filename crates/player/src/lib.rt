@@ -44,7 +44,7 @@ fn print(ran: Ran, memory: &[u8], out: &mut [u8]) -> usize
         ran.at,
         mmx,
         integers,
-        machine.valid,
+        machine.marks.valid,
         memory,
     )
 }

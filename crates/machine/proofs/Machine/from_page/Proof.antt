@@ -3,15 +3,10 @@ use mathlib.Core.Path.{ap₂}
 use mathlib.Core.List.{List}
 use Prim.Native.Nat.{ℕ}
 use borrow.Author.Needs.{needs}
-use Rattle.machine.specs.declared.Machine.{Machine}
-use Rattle.machine.specs.Starts.{markAt, startOf}
+use Rattle.machine.specs.Starts.{marksOf, startOf}
+use Rattle.machine.specs.Works.{machineOf}
 use Rattle.machine.proofs.Machine.from_page.Statement.{statement}
 use Rattle.machine.proofs.Machine.from_page.Tie as tie
-
--- the machine of two lists of registers and a marks byte
-abbrev machineOf : ℕ → List ℕ → List ℕ → Machine
-machineOf marks mmx integers =
-    record { mmx = mmx; integers = integers; valid = markAt 3 marks; em = markAt 0 marks; ts = markAt 1 marks; pending = markAt 2 marks }
 
 pub from-page-spec : {M : Type 1} → statement M
 unfolding startOf
@@ -20,4 +15,4 @@ from-page-spec =
     (tie.spec
     (λ c κs. search needs)
     (λ c κs. search needs)
-    (λ c. ap₂ (machineOf (c .before .before .before .before .args .marks)) (c .before .mmx-of .ensures) (c .integers-of .ensures)))
+    (λ c. ap₂ (λ (mmx integers : List ℕ). machineOf mmx integers (marksOf (c .before .before .before .before .args .marks))) (c .before .mmx-of .ensures) (c .integers-of .ensures)))

@@ -5,20 +5,21 @@ use borrow.Author.Needs.{needs}
 use lib.ListN.{length}
 use Rattle.manual.specs.Runs.{runOf}
 use Rattle.machine.specs.State.{stateOf}
-use Rattle.machine.specs.Works.{renewedWith}
+use Rattle.machine.specs.Works.{machineOf, barredBy}
 use Rattle.machine.proofs.Budgets.{remaining, starting, turning}
 use Rattle.machine.proofs.Machine.run.Statement.{statement}
 use Rattle.machine.proofs.Machine.run.Tie as tie
 
 abbrev Inv-loop : tie.InvT-loop
-Inv-loop self code memory₀ budget table bar mmx₀ integers₀ valid₀ at₀ count₀ memory mmx integers valid at count =
+Inv-loop code memory₀ budget table mmx₀ integers₀ marks₀ bar at₀ count₀ memory mmx integers marks at count =
     (count ≤ budget)
     × ((at ≤ length code)
     × ((length memory ≡ length memory₀)
-    × (remaining (budget - count) code at count (stateOf (renewedWith self mmx integers valid) memory) ≡ runOf code budget (stateOf self memory₀))))
+    × ((bar ≡ barredBy marks)
+    × (remaining (budget - count) code at count (stateOf (machineOf mmx integers marks) memory) ≡ runOf code budget (stateOf (machineOf mmx₀ integers₀ marks₀) memory₀)))))
 
 abbrev μ-loop : tie.MeasureT-loop
-μ-loop self code memory₀ budget table bar mmx₀ integers₀ valid₀ at₀ count₀ memory mmx integers valid at count =
+μ-loop code memory₀ budget table mmx₀ integers₀ marks₀ bar at₀ count₀ memory mmx integers marks at count =
     budget - count
 
 pub run-spec : {M : Type 1} → statement M
@@ -32,16 +33,13 @@ run-spec =
     (λ c κs. search needs)
     (λ c κs. search needs)
     (λ c. search starting)
-    (λ c κs. search needs)
     (λ c. search needs)
     (λ c. search turning)
-    (λ c κs. (search needs, (search needs, (search needs, search needs))))
     (λ c κs. search needs)
     (λ c. search needs)
     (λ c. search turning)
     (λ c. search needs)
     (λ c. search needs)
-    (λ c. (search needs, (search turning, (search needs, search turning))))
-    (λ c κs. search needs)
+    (λ c. (search needs, (search turning, (search needs, (search turning, search turning)))))
     (λ c. search needs)
     (λ c. search turning))

@@ -12,7 +12,6 @@ step-spec =
     (λ c κs. search answering)
     (λ c κs. search answering)
     (λ c κs. search answering)
-    (λ c κs. search answering)
     (λ c. search answering)
     (λ c. search answering)
     (λ c. search answering)
