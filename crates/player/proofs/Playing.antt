@@ -20,7 +20,7 @@ use Rattle.machine.specs.Starts.{startOf}
 use Rattle.machine.specs.Runs.{paperOfEnd, paperOfRun}
 use Rattle.pagefile.specs.declared.Page.{Page}
 use Rattle.pagefile.specs.declared.Page.the-variants.{WellFormed, Refused}
-use Rattle.pagefile.specs.Reading.{codeOf, memoryOf, mmxOf, integersOf, pageOf, paperOfPage}
+use Rattle.pagefile.specs.Parsing.{codeOf, memoryOf, mmxOf, integersOf, pageOf, paperOfPage}
 use Rattle.printout.specs.declared.Ending.{Ending}
 use Rattle.printout.specs.Lines.{reportText, refusalText}
 use Rattle.printout.specs.Lent.{Printed, printed}

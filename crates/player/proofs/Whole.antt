@@ -16,7 +16,7 @@ use Rattle.manual.specs.Runs.{runOf}
 use Rattle.manual.proofs.Bounds.{Bounds, Bounded, run-bounded}
 use Rattle.machine.specs.State.{stateOf}
 use Rattle.machine.specs.Starts.{startOf}
-use Rattle.pagefile.specs.Reading.{codeOf, memoryOf, mmxOf, integersOf, wellFormedWith, refusedWith, pageOf, malformed, wellFormed, marksOf}
+use Rattle.pagefile.specs.Parsing.{codeOf, memoryOf, mmxOf, integersOf, wellFormedWith, refusedWith, pageOf, malformed, wellFormed, marksOf}
 use Rattle.printout.specs.declared.Ending.{Ending}
 use Rattle.printout.specs.declared.Ending.the-variants as ending
 use Rattle.printout.specs.Lines.{longestReport, refusalText}

@@ -14,7 +14,7 @@ use Rattle.machine.specs.declared.End.{End}
 use Rattle.machine.specs.declared.End.the-variants as end
 use Rattle.machine.specs.State.{stateOf}
 use Rattle.machine.specs.Starts.{startOf}
-use Rattle.pagefile.specs.Reading.{codeOf, memoryOf, mmxOf, integersOf, Outcome, wellFormedWith, refusedWith, pageOf}
+use Rattle.pagefile.specs.Parsing.{codeOf, memoryOf, mmxOf, integersOf, Parsed, wellFormedWith, refusedWith, pageOf}
 use Rattle.printout.specs.declared.Ending.{Ending}
 use Rattle.printout.specs.declared.Ending.the-variants as ending
 use Rattle.printout.specs.Lines.{reportText, refusalText}
@@ -51,8 +51,8 @@ wellFormedText marks file =
     (cond (ltb longestCode (length (codeOf file))) (refusalText codeTooLong)
     (answerText (runIn (memoryOf file) marks file)))
 
--- 13 comes before 1 and 2: it is what the reading of a malformed file comes to
-abbrev pub textOf : Outcome → List ℕ → List ℕ
+-- 13 comes before 1 and 2: it is what the parsing of a malformed file comes to
+abbrev pub textOf : Parsed → List ℕ → List ℕ
 textOf (wellFormedWith marks) file = wellFormedText marks file
 textOf (refusedWith n) file = refusalText n
 
