@@ -3,9 +3,10 @@ ghost use mathlib.Core.Path.{_≡_};
 ghost use Prim.Native.Nat.{_≤_};
 ghost use lib.Dec.{leb};
 ghost use lib.ListN.{length};
-ghost use Rattle.printout.specs.Lines.{answer, reportLength};
-use crate::Ending;
+ghost use Rattle.printout.specs.Lines.{answer};
+ghost use Rattle.printout.specs.inner.Room.{reportLength};
 use crate::put::decimal_places;
+use machine::End;
 
 // The characters of `done`, `spent` and `refused `, and of a line end.
 const DONE: usize = 4;
@@ -66,21 +67,21 @@ const HEADINGS: usize = REFUSED
 pub(crate) const LONGEST: usize = HEADINGS + BYTE * LARGEST_MEMORY;
 
 // How many characters the answer has.
-fn answer_length(ending: Ending) -> usize
+fn answer_length(ending: End) -> usize
     ensures { λ r. ⌜ (r ≡ length (answer ending)) × (r ≤ 28) ⌝ }
 {
     match ending {
-        Ending::Done => DONE,
-        Ending::Spent => SPENT,
-        Ending::Refused(number) => REFUSED + decimal_places(number as u64),
+        End::Done => DONE,
+        End::Spent => SPENT,
+        End::Refused(number) => REFUSED + decimal_places(number as u64),
     }
 }
 
 // Whether a buffer is as long as the report.
 pub(crate) fn has_room(
     buffer: usize,
-    ending: Ending,
-    count: usize,
+    ending: End,
+    count: u32,
     position: usize,
     memory: usize,
 ) -> bool
