@@ -8,7 +8,7 @@ ghost use Rattle.page.specs.inner.Inputs.{Within};
 // One byte more than the longest page file has, so that a longer one is seen as such.
 const FILE_BYTES: usize = pagefile::LONGEST_FILE + 1;
 
-// What reading came to: the file's length, or that a read failed.
+// What standard input gave: a whole file of so many bytes, or a read that failed.
 enum Input {
     Whole(usize),
     Failed,

@@ -7,6 +7,7 @@ use native.Mathlib.Nat.{pow-suc}
 use native.Mathlib.Omega.{arith}
 use borrow.Author.Tests.{le-leb}
 use lib.ListN.{length, drop}
+use Rattle.manual.specs.State.{longestMemory}
 use Rattle.machine.specs.declared.End.{End}
 use Rattle.machine.specs.declared.End.the-variants.{Done, Spent, Refused}
 use Rattle.printout.specs.Characters.{places}
@@ -35,7 +36,7 @@ refusal-most number small = omega (arith, length-refusal number, byte-most numbe
 
 -- a report of a memory that the machine takes, with a count and a position that the code can hold
 pub report-most : (ending : End) (count position : ℕ) (mmx integers : List ℕ) (valid : Bool) (memory : List ℕ)
-    → Small ending → count < 2 ^ 64 → position < 2 ^ 64 → length mmx ≡ 8 → length integers ≡ 8 → length memory ≤ 32768
+    → Small ending → count < 2 ^ 64 → position < 2 ^ 64 → length mmx ≡ 8 → length integers ≡ 8 → length memory ≤ longestMemory
     → length (reportText ending count position mmx integers valid memory) ≤ longestReport
 report-most ending count position mmx integers valid memory small less less′ eight eight′ largest =
     omega (

@@ -5,6 +5,7 @@ use Prim.Native.Char.{code}
 use Prim.Native.Nat.{ℕ, suc, _+_, _*_, _%_}
 use lib.Dec.{eqb}
 use lib.ListN.{length, take, drop}
+use Rattle.manual.specs.State.{longestMemory}
 use Rattle.machine.specs.declared.End.{End}
 use Rattle.machine.specs.declared.End.the-variants.{Done, Spent, Refused}
 use Rattle.printout.specs.Characters.{ascii, newline, hex, decimal}
@@ -67,7 +68,7 @@ reportText ending count position mmx integers valid memory =
 
 -- the longest report of a memory that the machine takes: a refusal has up to 3 digits, a count and a position up to 20 each, the memory's length 5
 abbrev pub longestReport : ℕ
-longestReport = (11 + 20 + 20 + 6) + (8 * 21 + 8 * 13 + 11) + (5 + 8) + 3 * 32768
+longestReport = (11 + 20 + 20 + 6) + (8 * 21 + 8 * 13 + 11) + (5 + 8) + 3 * longestMemory
 
 -- all that is printed of a refused file
 unfoldable pub refusalText : ℕ → List ℕ

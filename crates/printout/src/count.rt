@@ -7,6 +7,7 @@ ghost use Rattle.printout.specs.Lines.{answer};
 ghost use Rattle.printout.specs.inner.Room.{reportLength};
 use crate::put::decimal_places;
 use machine::End;
+use machine::numbers::LONGEST_MEMORY;
 
 // The characters of `done`, `spent` and `refused `, and of a line end.
 const DONE: usize = 4;
@@ -43,17 +44,14 @@ pub(crate) const BYTE_DIGITS: usize = 2;
 
 const BYTE: usize = BYTE_DIGITS + 1;
 
-// The digits of the longest refusal, of the largest number, and of the largest memory's length.
+// The digits of the longest refusal, of the largest number, and of the longest memory's length.
 const REFUSAL_DIGITS: usize = 3;
 
 const NUMBER_DIGITS: usize = 20;
 
 const MEMORY_DIGITS: usize = 5;
 
-// The bytes of the largest memory.
-const LARGEST_MEMORY: usize = 32768;
-
-// The characters of a report where all numbers are longest: without the memory's bytes, and with them.
+// The characters of a report where all numbers are longest, without the memory's bytes.
 const HEADINGS: usize = REFUSED
     + REFUSAL_DIGITS
     + 2 * NUMBER_DIGITS
@@ -64,7 +62,8 @@ const HEADINGS: usize = REFUSED
     + MEMORY_DIGITS
     + MEMORY_LINE;
 
-pub(crate) const LONGEST: usize = HEADINGS + BYTE * LARGEST_MEMORY;
+// The characters of the longest report of a memory that the machine takes.
+pub const LONGEST_REPORT: usize = HEADINGS + BYTE * LONGEST_MEMORY;
 
 // How many characters the answer has.
 fn answer_length(ending: End) -> usize

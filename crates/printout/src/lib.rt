@@ -11,7 +11,7 @@ mod line;
 mod put;
 
 use count::LINE_END;
-use count::LONGEST;
+pub use count::LONGEST_REPORT;
 use count::REFUSED;
 use count::has_room;
 use line::put_byte_lines;
@@ -23,10 +23,7 @@ use machine::Ran;
 use put::decimal_places;
 use put::put_number_line;
 
-// The bytes of the longest report of a memory that the machine takes.
-pub const LONGEST_REPORT: usize = LONGEST;
-
-// A buffer with room for every such report.
+// A buffer with room for every report of a memory that the machine takes.
 pub fn buffer() -> [u8; LONGEST_REPORT]
     ensures { λ r. ⌜ r ≡ replicate longestReport 0 ⌝ }
 {
