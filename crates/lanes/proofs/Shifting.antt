@@ -69,11 +69,11 @@ module _ (w x k : ℕ) (hw : 1 ≤ w) (hx : x < 2 ^ w) where
       let fits : (2 ^ w - 1 - x) / 2 ^ k < 2 ^ w = lt-of-le-of-lt (div-le-self (2 ^ w - 1 - x) (2 ^ k)) (ones-sub-lt w x) in
       ap (λ (y : ℕ). bitXor (y / 2 ^ k) (2 ^ w - 1)) (xor-ones w x hx) ∙ xor-ones w ((2 ^ w - 1 - x) / 2 ^ k) fits
       ∙ ap (λ (y : ℕ). 2 ^ w - 1 - y) (sym (mod-eq-of-lt fits))
-      ∙ ap (λ (y : ℕ). 2 ^ w - 1 - y / 2 ^ k % 2 ^ w) left
+      ∙ ap (λ (y : ℕ). 2 ^ w - 1 - y / 2 ^ k % 2 ^ w) rest
       ∙ sym (rw (le-ltb x h g) (ap (λ (z : ℤ). wrap w (shrZ z (2 ^ k))) (is-lt x (2 ^ w) hx)))
     where
-      left : 2 ^ w - 1 - x ≡ 2 ^ w - suc x
-      left = omega arith
+      rest : 2 ^ w - 1 - x ≡ 2 ^ w - suc x
+      rest = omega arith
 
   positive : x < h → bitXor (bitXor x 0 / 2 ^ k) 0 ≡ rightSigned w x k
   unfolding rightSigned signed wrap

@@ -1,6 +1,5 @@
 -- The lanes of a register: a register is a number below 2 ^ 64, and its lanes of w bits are counted from the low end.
-use mathlib.Core.Path.{_≡_}
-use Prim.Native.Nat.{ℕ, zero, suc, _+_, _*_, _/_, _%_, _^_, _≤_}
+use Prim.Native.Nat.{ℕ, zero, suc, _+_, _*_, _/_, _%_, _^_}
 
 -- lane i of x
 unfoldable pub lane : ℕ → ℕ → ℕ → ℕ
@@ -14,11 +13,3 @@ build w (suc n) f = f n * 2 ^ (w * n) + build w n f
 -- the register whose lanes are f 0, f 1, ..
 unfoldable pub register : ℕ → (ℕ → ℕ) → ℕ
 register w f = build w (64 / w) f
-
--- lane i lies in the register
-abbrev pub Within : ℕ → ℕ → Type 0
-Within w i = (1 ≤ w) × (w + w * i ≤ 64)
-
--- lanes of at most 32 bits that fill the register
-abbrev pub Fills : ℕ → Type 0
-Fills w = (1 ≤ w) × (w ≤ 32) × (w * (64 / w) ≡ 64)

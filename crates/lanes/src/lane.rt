@@ -2,8 +2,9 @@
 ghost use mathlib.Core.Path.{_≡_};
 ghost use Prim.Native.Nat.{_+_, _-_, _*_, _%_, _^_, _<_, _≤_};
 ghost use lib.IntN.{subℕ};
-ghost use Rattle.lanes.specs.Lane.{lane, Within};
+ghost use Rattle.lanes.specs.Lane.{lane};
 ghost use Rattle.lanes.specs.Signed.{wrap, clampUnsigned};
+ghost use Rattle.lanes.specs.inner.Widths.{Within};
 
 // The lanes' widths, and the bits of half a register. A quadword is a whole register.
 pub(crate) const BYTE: u64 = 8;

@@ -1,8 +1,8 @@
 // PSLL, PSRL and PSRA: the count is the whole source.
 ghost use mathlib.Core.Path.{_≡_};
 ghost use Prim.Native.Nat.{_≤_};
-ghost use Rattle.lanes.specs.Lane.{Within, Fills};
 ghost use Rattle.lanes.specs.Rules.{packed, shift, left, right, rightSigned};
+ghost use Rattle.lanes.specs.inner.Widths.{Within, Fills};
 use crate::compares::exceeds;
 use crate::lane::QUADWORD;
 use crate::lane::lane_of;

@@ -1,2 +1,2 @@
--- The definition: what reading a page file may answer.
-pub mod Readings
+-- No definition that anybody has to believe: only a word of a private contract.
+pub mod inner

@@ -3,19 +3,19 @@
 use libc::STDERR_FILENO;
 use libc::STDIN_FILENO;
 use libc::STDOUT_FILENO;
-ghost use Rattle.page.specs.Readings.{Within};
+ghost use Rattle.page.specs.inner.Inputs.{Within};
 
 // One byte more than the longest page file has, so that a longer one is seen as such.
 const FILE_BYTES: usize = pagefile::LONGEST_FILE + 1;
 
-// What reading came to: the file's length, or that a read failed.
-enum Reading {
+// What standard input gave: a whole file of so many bytes, or a read that failed.
+enum Input {
     Whole(usize),
     Failed,
 }
 
 // Reads until the input ends or the buffer is full. A pipe gives its bytes in parts, so that a short read is no end: an answer of 0 is.
-fn read(file: &mut [u8]) -> Reading
+fn read(file: &mut [u8]) -> Input
     ensures { λ r. ⌜ Within r (now (file .exit)) ⌝ }
 {
     let mut n: usize = 0;
@@ -23,15 +23,15 @@ fn read(file: &mut [u8]) -> Reading
         let rest = &mut file[n..];
         let got = libc::read(STDIN_FILENO, rest);
         if got < 0 {
-            return Reading::Failed;
+            return Input::Failed;
         }
         let more = io::count(got, rest);
         if more == 0 {
-            return Reading::Whole(n);
+            return Input::Whole(n);
         }
         n += more;
     }
-    Reading::Whole(n)
+    Input::Whole(n)
 }
 
 // Prints what is printed of a page file, and answers whether all of it was written.
@@ -48,11 +48,11 @@ fn tell(line: &[u8]) {
 fn main() {
     let mut file = [0u8; FILE_BYTES];
     match read(&mut file) {
-        Reading::Whole(n) => {
+        Input::Whole(n) => {
             if !print(&file[..n]) {
                 tell(b"page: the text could not be written whole\n");
             }
         }
-        Reading::Failed => tell(b"page: the file could not be read to its end\n"),
+        Input::Failed => tell(b"page: the file could not be read to its end\n"),
     }
 }

@@ -7,7 +7,7 @@ use denote.Triple.Clauses.{AtExit}
 use denote.Ref.{now}
 use Rattle.pagefile.specs.declared.Page.{Page}
 use Rattle.pagefile.specs.declared.Page.the-variants.{WellFormed, Refused}
-use Rattle.pagefile.specs.Reading.{paperOfPage}
+use Rattle.pagefile.specs.Parsing.{paperOfPage}
 use Rattle.pagefile.proofs.read.Reads as read-reads
 use Rattle.pagefile.proofs.read.Kinds as read-kinds
 use Rattle.pagefile.proofs.code.Reads as code-reads

@@ -5,7 +5,7 @@ use mathlib.Core.List.{List, [], _∷_, _++_, map}
 use Prim.Native.Nat.{ℕ}
 use lib.ListN.{replicate}
 use Rattle.pagefile.specs.Fields.{mayHold}
-use Rattle.pagefile.specs.Reading.{size, holds, left, wellFormed, contentsOf, wellFormedWith, refusedWith, pageOf}
+use Rattle.pagefile.specs.Parsing.{size, holds, remaining, wellFormed, contentsOf, wellFormedWith, refusedWith, pageOf}
 
 abbrev registers : List ℕ
 registers = 0xFF ∷ (replicate 7 0 ++ (0x02 ∷ replicate 55 0))
@@ -14,7 +14,7 @@ abbrev file : List ℕ
 file = 0x01 ∷ 0x03 ∷ 0x00 ∷ 0x0F ∷ 0xFC ∷ 0xC1 ∷ 0x03 ∷ 0x40 ∷ 0x00 ∷ registers
 
 pub example : (pageOf file ≡ wellFormedWith 0) × (map (λ (tag : ℕ). contentsOf tag file) (1 ∷ 2 ∷ 3 ∷ 4 ∷ []) ≡ (0x0F ∷ 0xFC ∷ 0xC1 ∷ []) ∷ [] ∷ registers ∷ [] ∷ [])
-unfolding mayHold size holds left wellFormed contentsOf pageOf
+unfolding mayHold size holds remaining wellFormed contentsOf pageOf
 example = (refl, refl)
 
 -- all five fields: code and memory may be empty, and a marks byte may have bits 0 to 3
@@ -27,7 +27,7 @@ five =
     ∷ (registers ++ (0x04 ∷ 0x20 ∷ 0x00 ∷ (integers ++ (0x05 ∷ 0x01 ∷ 0x00 ∷ 0x0F ∷ []))))
 
 pub five-fields : (pageOf five ≡ wellFormedWith 0x0F) × (map (λ (tag : ℕ). contentsOf tag five) (1 ∷ 2 ∷ 3 ∷ 4 ∷ []) ≡ [] ∷ [] ∷ registers ∷ integers ∷ [])
-unfolding mayHold size holds left wellFormed contentsOf pageOf
+unfolding mayHold size holds remaining wellFormed contentsOf pageOf
 five-fields = (refl, refl)
 
 -- wrong lengths, a tag twice, a descending tag, an unknown tag, a field that runs past the end, a stray byte, a reserved mark
@@ -43,15 +43,15 @@ pub broken : map pageOf
     ∷ (0x05 ∷ 0x01 ∷ 0x00 ∷ 0x10 ∷ [])
     ∷ [])
     ≡ replicate 9 (refusedWith 13)
-unfolding mayHold size left wellFormed contentsOf pageOf
+unfolding mayHold size remaining wellFormed contentsOf pageOf
 broken = refl
 
 -- 65,536 bytes are not too long, 65,537 are
 pub longest : map pageOf ((0x01 ∷ 0xFD ∷ 0xFF ∷ replicate 65533 0) ∷ (0x01 ∷ 0xFE ∷ 0xFF ∷ replicate 65534 0) ∷ []) ≡ wellFormedWith 0 ∷ refusedWith 13 ∷ []
-unfolding mayHold size holds left wellFormed contentsOf pageOf
+unfolding mayHold size holds remaining wellFormed contentsOf pageOf
 longest = refl
 
 -- the code of a file with a stray byte is no part of it
 pub no-part : contentsOf 1 (0x01 ∷ 0x01 ∷ 0x00 ∷ 0x90 ∷ 0x02 ∷ []) ≡ []
-unfolding mayHold size left wellFormed contentsOf
+unfolding mayHold size remaining wellFormed contentsOf
 no-part = refl

@@ -10,7 +10,7 @@ use lib.Dec.{eqb, leb}
 use lib.ListN.{length, getD, take, drop}
 use Rattle.words.proofs.Laws.{and-both}
 use Rattle.pagefile.specs.Fields.{mayHold}
-use Rattle.pagefile.specs.Reading.{lengthIn, contentsIn, stands, size, holds}
+use Rattle.pagefile.specs.Parsing.{lengthIn, contentsIn, stands, size, holds}
 
 pub record Stands (tag : ℕ) (s : List ℕ) : Type 0 where
   pub tagged : getD s 0 0 ≡ tag

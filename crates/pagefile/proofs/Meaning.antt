@@ -1,5 +1,5 @@
--- A file is well formed exactly if it is made of fields as a page file is, and its parts are what these fields hold: tag by tag, what is left
--- of the file is the bytes of the fields that are left.
+-- A file is well formed exactly if it is made of fields as a page file is, and its parts are what these fields hold: tag by tag, what
+-- remains of the file is the bytes of the fields that remain.
 use mathlib.Core.Path.{_≡_, refl, sym, ap, subst, _∙_}
 use mathlib.Core.Bool.{Bool, true, false, cond, false≢true}
 use mathlib.Core.List.{List, [], _∷_, _++_}
@@ -14,7 +14,7 @@ use lib.Seq.{getD-drop}
 use Rattle.words.specs.Number.{AllBytes}
 use Rattle.words.proofs.Laws.{and-both}
 use Rattle.pagefile.specs.Fields.{Field, written, Ascending, concatenated, MadeOf, held}
-use Rattle.pagefile.specs.Reading.{contentsIn, size, holds, left, wellFormed, contentsOf, marksOf, malformed, wellFormedWith, refusedWith, pageOf}
+use Rattle.pagefile.specs.Parsing.{contentsIn, size, holds, remaining, wellFormed, contentsOf, marksOf, malformed, wellFormedWith, refusedWith, pageOf}
 use Rattle.pagefile.proofs.Fronts.{Stands, Missing, front}
 use Rattle.pagefile.proofs.Written.{taken, kept, missing, rebuilt}
 
@@ -66,12 +66,12 @@ step fields t rest r = go (r .above) (r .ascending) (r .bytes) (r .same)
 
         next : (suc t ≡ f .tag) ⊎ (suc t < f .tag) → Stepped fields t rest
         next (inl p) =
-            let left-over : drop (size (suc t) rest) rest ≡ concatenated fs = rw (e, p) (taken f (concatenated fs) short right) in record {
+            let others : drop (size (suc t) rest) rest ≡ concatenated fs = rw (e, p) (taken f (concatenated fs) short right) in record {
               reached = record {
                 above = fs;
                 ascending = subst (λ (n : ℕ). Ascending n fs) (sym p) a;
-                bytes = left-over;
-                short = rw left-over (omega (arith, length-append (f .contents) (concatenated fs), short));
+                bytes = others;
+                short = rw others (omega (arith, length-append (f .contents) (concatenated fs), short));
                 same = λ tag h. rw (ne-eqb (f .tag) tag (λ (q : f .tag ≡ tag). omega arith)) at (same tag (omega arith));
               };
               holding = rw (e, p) (kept f (concatenated fs) short right) ∙ rw (eq-eqb (f .tag) (suc t) (sym p)) at (same (suc t) (omega arith));
@@ -82,38 +82,38 @@ step fields t rest r = go (r .above) (r .ascending) (r .bytes) (r .same)
 
 -- a file that is made of fields is well formed, and holds what they hold
 module _ (fields : List Field) (file : List ℕ) (made : MadeOf fields file) where
-  reached : (t : ℕ) → Reached fields t (left t file)
-  unfolding left
+  reached : (t : ℕ) → Reached fields t (remaining t file)
+  unfolding remaining
   reached zero = record { above = fields; ascending = made .ascending; bytes = made .whole; short = made .short; same = λ tag h. refl }
-  reached (suc t) = step fields t (left t file) (reached t) .reached
+  reached (suc t) = step fields t (remaining t file) (reached t) .reached
 
-  nothing-left : left 5 file ≡ []
-  nothing-left = go (reached 5 .above) (reached 5 .ascending) (reached 5 .bytes)
+  nothing-remaining : remaining 5 file ≡ []
+  nothing-remaining = go (reached 5 .above) (reached 5 .ascending) (reached 5 .bytes)
     where
-      go : (above : List Field) → Ascending 5 above → left 5 file ≡ concatenated above → left 5 file ≡ []
+      go : (above : List Field) → Ascending 5 above → remaining 5 file ≡ concatenated above → remaining 5 file ≡ []
       go [] a e = e
       go (f ∷ fs) (over, most, right, a) e = absurd (omega arith)
 
   pub made-well-formed : wellFormed file ≡ true
   unfolding wellFormed
-  made-well-formed = rw (le-leb _ _ (made .short), nothing-left)
+  made-well-formed = rw (le-leb _ _ (made .short), nothing-remaining)
 
   pub made-holds : (tag : ℕ) → 0 < tag → contentsOf tag file ≡ held tag fields
   unfolding contentsOf
   made-holds zero some = absurd (omega arith)
   made-holds (suc t) some =
       let before : suc t - 1 ≡ t = omega arith in
-      rw (made-well-formed, before) (step fields t (left t file) (reached t) .holding)
+      rw (made-well-formed, before) (step fields t (remaining t file) (reached t) .holding)
 
 -- a well-formed file of bytes is made of fields
 lower : (t : ℕ) (fields : List Field) → Ascending (suc t) fields → Ascending t fields
 lower t [] a = a
 lower t (f ∷ fs) (over, most, right, a) = (omega arith, most, right, a)
 
-all-left : (t : ℕ) (file : List ℕ) → AllBytes file → AllBytes (left t file)
-unfolding left
-all-left zero file all i = all i
-all-left (suc t) file all i = rw getD-drop (all-left t file all (size (suc t) (left t file) + i))
+all-remaining : (t : ℕ) (file : List ℕ) → AllBytes file → AllBytes (remaining t file)
+unfolding remaining
+all-remaining zero file all i = all i
+all-remaining (suc t) file all i = rw getD-drop (all-remaining t file all (size (suc t) (remaining t file) + i))
 
 record Made (last : ℕ) (rest : List ℕ) : Type 0 where
   fields : List Field
@@ -131,16 +131,16 @@ back t rest most all made = go (front (suc t) rest)
     }
     go (inr m) = record { fields = made .fields; ascending = lower t (made .fields) (made .ascending); bytes = rw (m .sized) at (made .bytes) }
 
-all-back : (t : ℕ) (file : List ℕ) → t ≤ 5 → AllBytes file → Made t (left t file) → Made 0 file
-unfolding left
+all-back : (t : ℕ) (file : List ℕ) → t ≤ 5 → AllBytes file → Made t (remaining t file) → Made 0 file
+unfolding remaining
 all-back zero file most all made = made
-all-back (suc t) file most all made = all-back t file (omega arith) all (back t (left t file) most (all-left t file all) made)
+all-back (suc t) file most all made = all-back t file (omega arith) all (back t (remaining t file) most (all-remaining t file all) made)
 
 pub well-formed-made : (file : List ℕ) → AllBytes file → wellFormed file ≡ true → (fields : List Field) × MadeOf fields file
 unfolding wellFormed
 well-formed-made file all good =
-    let (short, none) = and-both (leb (length file) 65536) (eqb (length (left 5 file)) 0) good in
-    let made = all-back 5 file (omega arith) all (record { fields = []; ascending = tt; bytes = empty (left 5 file) (eqb-true (length (left 5 file)) 0 none) }) in
+    let (short, none) = and-both (leb (length file) 65536) (eqb (length (remaining 5 file)) 0) good in
+    let made = all-back 5 file (omega arith) all (record { fields = []; ascending = tt; bytes = empty (remaining 5 file) (eqb-true (length (remaining 5 file)) 0 none) }) in
     (made .fields, record { ascending = made .ascending; whole = made .bytes; short = leb-true (length file) 65536 short })
   where
     empty : (l : List ℕ) → length l ≡ 0 → l ≡ []

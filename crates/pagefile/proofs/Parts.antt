@@ -8,7 +8,7 @@ use borrow.Author.Tests.{eq-eqb, ne-eqb, eqb-true, eqb-false, le-leb, lt-leb, no
 use lib.Dec.{eqb}
 use lib.ListN.{length, getD, take, drop, length-drop, List·getD-eq-default}
 use lib.Seq.{drop-drop}
-use Rattle.pagefile.specs.Reading.{size, left, wellFormed, contentsOf, malformed, wellFormedWith, refusedWith, pageOf}
+use Rattle.pagefile.specs.Parsing.{size, remaining, wellFormed, contentsOf, malformed, wellFormedWith, refusedWith, pageOf}
 use Rattle.pagefile.proofs.Fronts.{holds-sized}
 use Rattle.pagefile.proofs.Places.{places}
 
@@ -22,9 +22,9 @@ module _ (file : List ℕ) where
   ends-there end within true e = sym (eq-eqb (length file - end) 0 (omega (arith, eqb-true end (length file) e)))
   ends-there end within false e = sym (ne-eqb _ _ (λ (none : length file - end ≡ 0). eqb-false end (length file) e (omega arith)))
 
-  pub nothing-left : (end : ℕ) → drop end file ≡ left 5 file → end ≤ length file → length file ≤ 65536 → eqb end (length file) ≡ wellFormed file
+  pub nothing-remaining : (end : ℕ) → drop end file ≡ remaining 5 file → end ≤ length file → length file ≤ 65536 → eqb end (length file) ≡ wellFormed file
   unfolding wellFormed
-  nothing-left end rest within short =
+  nothing-remaining end rest within short =
       rw (le-leb _ _ short, ← rest, length-drop) (ends-there end within (eqb end (length file)) refl)
 
 -- the contents of a tag's field
@@ -33,7 +33,7 @@ module _ (file : List ℕ) (tag : ℕ) (good : Bool) (tested : good ≡ wellForm
   unfolding contentsOf
   no-part bad = rw (← tested, not-true good bad)
 
-  module _ (at end : ℕ) (here : drop at file ≡ left (tag - 1) file) (ends : end ≡ at + size tag (drop at file)) where
+  module _ (at end : ℕ) (here : drop at file ≡ remaining (tag - 1) file) (ends : end ≡ at + size tag (drop at file)) where
     pub part : not good ≡ false → take (end - (at + 3)) (drop (at + 3) file) ≡ contentsOf tag file
     unfolding contentsOf
     part right =
@@ -57,4 +57,4 @@ module _ (file : List ℕ) (good : Bool) (tested : good ≡ wellFormed file) whe
     pub unmarked : length marks ≡ 0 → wellFormedWith 0 ≡ pageOf file
     unmarked none = ap wellFormedWith (sym (List·getD-eq-default marks 0 (omega arith))) ∙ marked
 
-pub ruleset parts = (places, too-long, nothing-left, no-part, absent, part, refused, marked, unmarked)
+pub ruleset parts = (places, too-long, nothing-remaining, no-part, absent, part, refused, marked, unmarked)

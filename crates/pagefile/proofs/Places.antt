@@ -1,4 +1,4 @@
--- Where a field ends that starts at a place of the file, by the tests that the code makes there: what is left from the place on is `drop at file`.
+-- Where a field ends that starts at a place of the file, by the tests that the code makes there: what remains from the place on is `drop at file`.
 use mathlib.Core.Path.{_≡_, refl, sym, ap, _∙_}
 use mathlib.Core.Bool.{Bool, true, false, and-false}
 use mathlib.Core.List.{List}
@@ -14,7 +14,7 @@ use Rattle.words.specs.Number.{number}
 use Rattle.words.specs.Buffer.{loaded}
 use Rattle.words.proofs.Laws.{loaded-inside}
 use Rattle.pagefile.specs.Fields.{mayHold}
-use Rattle.pagefile.specs.Reading.{lengthIn, contentsIn, stands, size, left}
+use Rattle.pagefile.specs.Parsing.{lengthIn, contentsIn, stands, size, remaining}
 use Rattle.pagefile.proofs.Fronts.{standing, size-within, size-some}
 
 module _ (file : List ℕ) (tag at : ℕ) where
@@ -69,17 +69,17 @@ module _ (file : List ℕ) (tag at end : ℕ) (ends : end ≡ at + size tag (dro
   pub past-heading : (end ≡ at → ⊥) → at + 3 ≤ end
   past-heading some = omega (arith, size-some tag (drop at file) (λ none. some (omega arith)))
 
--- what is left of the file from the place on: all, then one field less, until all tags are read
-pub none-read : (file : List ℕ) → file ≡ left 0 file
-unfolding left
+-- what remains of the file from the place on: all, then one field less, until all tags are read
+pub none-read : (file : List ℕ) → file ≡ remaining 0 file
+unfolding remaining
 none-read file = refl
 
-module _ (file : List ℕ) (at read : ℕ) (here : drop at file ≡ left read file) where
-  pub one-read : (end : ℕ) → end ≡ at + size (read + 1) (drop at file) → drop end file ≡ left (read + 1) file
-  unfolding left
+module _ (file : List ℕ) (at read : ℕ) (here : drop at file ≡ remaining read file) where
+  pub one-read : (end : ℕ) → end ≡ at + size (read + 1) (drop at file) → drop end file ≡ remaining (read + 1) file
+  unfolding remaining
   one-read end ends = rw (ends, ← drop-drop (size (read + 1) (drop at file)) at file, here, add-one read)
 
-  pub all-read : (tag : ℕ) → read ≤ tag → tag ≤ read → drop at file ≡ left tag file
+  pub all-read : (tag : ℕ) → read ≤ tag → tag ≤ read → drop at file ≡ remaining tag file
   all-read tag most least = let all : read ≡ tag = omega arith in rw all at here
 
 pub ruleset ends = (needs, too-short, other-tag, runs-past, wrong-contents, whole-field)

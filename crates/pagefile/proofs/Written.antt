@@ -11,7 +11,7 @@ use lib.Seq.{length-take-le, take-append-seam, drop-append-seam}
 use Rattle.words.specs.Number.{AllBytes, bytes}
 use Rattle.words.proofs.Numbers.{number-bytes, bytes-number}
 use Rattle.pagefile.specs.Fields.{Field, written, mayHold}
-use Rattle.pagefile.specs.Reading.{lengthIn, contentsIn, size, holds}
+use Rattle.pagefile.specs.Parsing.{lengthIn, contentsIn, size, holds}
 use Rattle.pagefile.proofs.Fronts.{Stands, Missing, standing, front}
 
 -- a field that was written is read

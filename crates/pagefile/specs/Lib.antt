@@ -1,3 +1,3 @@
--- The definitions: what a page file is, and how one is read.
+-- The definitions: what a page file is, and how one is parsed.
 pub mod Fields
-pub mod Reading
+pub mod Parsing

@@ -3,7 +3,7 @@ ghost use mathlib.Core.Path.{_≡_};
 ghost use Prim.Native.Nat.{_+_, _<_, _≤_};
 ghost use lib.ListN.{length, drop};
 ghost use Rattle.pagefile.specs.Fields.{mayHold};
-ghost use Rattle.pagefile.specs.Reading.{size, left, wellFormed, contentsOf, codeOf, memoryOf, mmxOf, integersOf, pageOf, paperOfPage};
+ghost use Rattle.pagefile.specs.Parsing.{size, remaining, wellFormed, contentsOf, codeOf, memoryOf, mmxOf, integersOf, pageOf, paperOfPage};
 
 // The tags of the five fields.
 const CODE: u8 = 1;
@@ -89,7 +89,7 @@ fn field_end(file: &[u8], tag: u8, at: usize) -> usize
 
 // Where the fields of the tags up to this one end.
 fn fields_end(file: &[u8], tag: u8) -> usize
-    ensures { λ r. ⌜ (drop r (now (file .entry)) ≡ left tag (now (file .entry))) × (r ≤ length (now (file .entry))) ⌝ }
+    ensures { λ r. ⌜ (drop r (now (file .entry)) ≡ remaining tag (now (file .entry))) × (r ≤ length (now (file .entry))) ⌝ }
 {
     let mut at: usize = 0;
     let mut read: u8 = 0;

@@ -5,7 +5,7 @@ use contract.Lifetimes.{Lfts}
 use borrow.Fn.Kinds.{Dens, resT, endedOf}
 use denote.Triple.Clauses.{AtExit}
 use denote.Ref.{now}
-use Rattle.printout.specs.Lent.{Printed, printing}
+use Rattle.printout.specs.Printing.{Printed, printing}
 use Rattle.player.proofs.play.Reads as play-reads
 use Rattle.player.proofs.play.Kinds as play-kinds
 

@@ -16,7 +16,7 @@ use Rattle.manual.specs.Runs.{read, runOf}
 use Rattle.manual.proofs.Computed.{computed}
 use Rattle.machine.specs.Starts.{startOf}
 use Rattle.pagefile.specs.Fields.{mayHold}
-use Rattle.pagefile.specs.Reading.{size, holds, left, wellFormed, contentsOf, codeOf, memoryOf, pageOf}
+use Rattle.pagefile.specs.Parsing.{size, holds, remaining, wellFormed, contentsOf, codeOf, memoryOf, pageOf}
 use Rattle.printout.specs.Characters.{ascii, digits, places, decimal}
 use Rattle.printout.specs.Lines.{answer, firstLine, registerLines, mmxLines, integerLines, tagsLine, memoryLine, byteLines, reportText, refusalText}
 use Rattle.printout.proofs.Example.{lines}
@@ -47,7 +47,7 @@ pub example : pageText file
     ∷ "tags valid"
     ∷ "memory 0"
     ∷ [])
-unfolding loaded mayHold size holds left wellFormed contentsOf pageOf startOf stateText runIn wellFormedText pageText reportText answer firstLine registerLines mmxLines integerLines tagsLine memoryLine byteLines decimal digits places
+unfolding loaded mayHold size holds remaining wellFormed contentsOf pageOf startOf stateText runIn wellFormedText pageText reportText answer firstLine registerLines mmxLines integerLines tagsLine memoryLine byteLines decimal digits places
 example = ap answerText (computed .customer)
 
 -- EMMS, 17 bytes of memory, the MMX registers, the integer registers, and these marks
@@ -84,17 +84,17 @@ pub every-field : pageText (marked 0x09)
     ∷ "A0 A1 A2 A3 A4 A5 A6 A7 A8 A9 AA AB AC AD AE AF"
     ∷ "B0"
     ∷ [])
-unfolding loaded mayHold size holds left wellFormed contentsOf pageOf startOf formAt operationAt immediateReader formReader secondReader instructionReader effectOf execute read runOf stateText runIn wellFormedText pageText reportText answer firstLine registerLines mmxLines integerLines tagsLine memoryLine byteLines decimal digits places
+unfolding loaded mayHold size holds remaining wellFormed contentsOf pageOf startOf formAt operationAt immediateReader formReader secondReader instructionReader effectOf execute read runOf stateText runIn wellFormedText pageText reportText answer firstLine registerLines mmxLines integerLines tagsLine memoryLine byteLines decimal digits places
 every-field = refl
 
 -- TS, and pending
 pub other-marks : map (λ marks. take 9 (pageText (marked marks))) (0x02 ∷ 0x04 ∷ []) ≡ ascii "refused 8" ∷ ascii "refused 9" ∷ []
-unfolding loaded mayHold size holds left wellFormed contentsOf pageOf startOf formAt operationAt immediateReader formReader secondReader instructionReader effectOf execute read runOf stateText runIn wellFormedText pageText reportText answer firstLine decimal digits places
+unfolding loaded mayHold size holds remaining wellFormed contentsOf pageOf startOf formAt operationAt immediateReader formReader secondReader instructionReader effectOf execute read runOf stateText runIn wellFormedText pageText reportText answer firstLine decimal digits places
 other-marks = refl
 
 -- a stray byte: 13 alone
 pub stray : pageText (0x00 ∷ []) ≡ lines ("refused 13" ∷ [])
-unfolding mayHold size left wellFormed contentsOf pageOf pageText refusalText decimal digits places
+unfolding mayHold size remaining wellFormed contentsOf pageOf pageText refusalText decimal digits places
 stray = refl
 
 -- 1 alone where the memory is too long, whatever the code is; then 2 alone where the code is

@@ -20,32 +20,26 @@ use Rattle.machine.specs.Starts.{startOf}
 use Rattle.machine.specs.Runs.{paperOfEnd, paperOfRun}
 use Rattle.pagefile.specs.declared.Page.{Page}
 use Rattle.pagefile.specs.declared.Page.the-variants.{WellFormed, Refused}
-use Rattle.pagefile.specs.Reading.{codeOf, memoryOf, mmxOf, integersOf, pageOf, paperOfPage}
-use Rattle.printout.specs.declared.Ending.{Ending}
+use Rattle.pagefile.specs.Parsing.{codeOf, memoryOf, mmxOf, integersOf, pageOf, paperOfPage}
 use Rattle.printout.specs.Lines.{reportText, refusalText}
-use Rattle.printout.specs.Lent.{Printed, printed}
-use Rattle.player.specs.Page.{budget, endingOf, stateText, answerText, runIn, wellFormedText, pageText}
+use Rattle.printout.specs.Printing.{Printed, printed}
+use Rattle.player.specs.Page.{budget, stateText, answerText, runIn, wellFormedText, pageText}
 
 -- the report of an answer names the run's end
-answer-text : (e : End) (at count : ℕ) (s : State) → answerText (paperOfEnd e at count s) ≡ stateText (endingOf e) at count s
+answer-text : (e : End) (at count : ℕ) (s : State) → answerText (paperOfEnd e at count s) ≡ stateText e at count s
 answer-text end.Done at count s = refl
 answer-text end.Spent at count s = refl
 answer-text (end.Refused n) at count s = refl
 
-pub reported : (ran : Ran) (memory buffer : List ℕ) (named : Ending) (p : Printed) → named ≡ endingOf (ran .end)
-    → p ≡ printed (reportText named (ran .count) (ran .at) (ran .machine .mmx) (ran .machine .integers) (ran .machine .marks .valid) memory) buffer
-    → p ≡ printed (answerText (paperOfRun ran memory)) buffer
-unfolding stateText
-reported ran memory buffer named p name told = rw (answer-text (ran .end) (ran .at) (ran .count) (stateOf (ran .machine) memory)) (rw name at told)
-
 -- the run of a page's parts is the page's
 pub run-of-parts : (file memory after mmx integers code buffer : List ℕ) (marks : ℕ) (machine : Machine) (ran : Ran) (p : Printed)
     → mmx ≡ mmxOf file → integers ≡ integersOf file → machine ≡ startOf mmx integers marks → code ≡ codeOf file
-    → paperOfRun ran after ≡ runOf code budget (stateOf machine memory) → p ≡ printed (answerText (paperOfRun ran after)) buffer
+    → paperOfRun ran after ≡ runOf code budget (stateOf machine memory)
+    → p ≡ printed (reportText (ran .end) (ran .count) (ran .at) (ran .machine .mmx) (ran .machine .integers) (ran .machine .marks .valid) after) buffer
     → p ≡ printed (answerText (runIn memory marks file)) buffer
-unfolding runIn
+unfolding stateText runIn
 run-of-parts file memory after mmx integers code buffer marks machine ran p m i start c run told =
-    rw (sym m, sym i, sym start, sym c, sym run) told
+    rw (sym m, sym i, sym start, sym c, sym run, answer-text (ran .end) (ran .at) (ran .count) (stateOf (ran .machine) after)) told
 
 -- the copy of a memory, at the start of a buffer
 pub run-of-copy : (file memory before after buffer : List ℕ) (n marks : ℕ) (p : Printed)
@@ -82,4 +76,4 @@ module _ (file buffer : List ℕ) (page : Page) (number : ℕ) (p : Printed) (re
   unfolding pageText
   malformed is told = rw (sym read, is) told
 
-pub ruleset playing = (reported, long-memory, long-code, page-run, well-formed, malformed)
+pub ruleset playing = (long-memory, long-code, page-run, well-formed, malformed)

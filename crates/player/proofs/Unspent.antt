@@ -10,7 +10,7 @@ use Rattle.manual.specs.Runs.{runOf}
 use Rattle.manual.proofs.Endings.{never-spent, larger-budget}
 use Rattle.machine.specs.State.{stateOf}
 use Rattle.machine.specs.Starts.{startOf}
-use Rattle.pagefile.specs.Reading.{codeOf, mmxOf, integersOf}
+use Rattle.pagefile.specs.Parsing.{codeOf, mmxOf, integersOf}
 use Rattle.player.specs.Page.{budget, runIn}
 
 module _ (memory : List ℕ) (marks : ℕ) (file : List ℕ) where

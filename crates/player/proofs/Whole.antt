@@ -14,20 +14,20 @@ use Rattle.manual.specs.Refusals.{memoryTooLong}
 use Rattle.manual.specs.State.{State, Frozen, longestMemory, isTooLong}
 use Rattle.manual.specs.Runs.{runOf}
 use Rattle.manual.proofs.Bounds.{Bounds, Bounded, run-bounded}
+use Rattle.machine.specs.declared.End.{End}
+use Rattle.machine.specs.declared.End.the-variants.{Done, Spent, Refused}
 use Rattle.machine.specs.State.{stateOf}
 use Rattle.machine.specs.Starts.{startOf}
-use Rattle.pagefile.specs.Reading.{codeOf, memoryOf, mmxOf, integersOf, wellFormedWith, refusedWith, pageOf, malformed, wellFormed, marksOf}
-use Rattle.printout.specs.declared.Ending.{Ending}
-use Rattle.printout.specs.declared.Ending.the-variants as ending
+use Rattle.pagefile.specs.Parsing.{codeOf, memoryOf, mmxOf, integersOf, wellFormedWith, refusedWith, pageOf, malformed, wellFormed, marksOf}
 use Rattle.printout.specs.Lines.{longestReport, refusalText}
-use Rattle.printout.specs.Lent.{printing, printed}
+use Rattle.printout.specs.Printing.{printing, printed}
 use Rattle.printout.proofs.Longest.{Small, refusal-most, report-most, printed-whole}
 use Rattle.player.specs.Page.{budget, stateText, answerText, runIn, wellFormedText, textOf, pageText}
 
 -- the report of a state within bounds, from a start with eight registers each and a memory that is not too long
 module _ (code : List ℕ) (start : State) (eight : length (start .mmx) ≡ 8) (eight′ : length (start .integers) ≡ 8)
     (fits : length (start .memory) ≤ longestMemory) (short : length code ≤ longestCode) where
-  state-most : (e : Ending) (at count : ℕ) (t : State) → Small e → Bounds code budget start at count t → length (stateText e at count t) ≤ longestReport
+  state-most : (e : End) (at count : ℕ) (t : State) → Small e → Bounds code budget start at count t → length (stateText e at count t) ≤ longestReport
   unfolding stateText
   state-most e at count t small b =
       let same = b .kept in
@@ -38,9 +38,9 @@ module _ (code : List ℕ) (start : State) (eight : length (start .mmx) ≡ 8) (
       (omega (arith, b .completed-steps)) (omega (arith, b .position)) mmx integers (omega arith)
 
   answer-most : (a : Answer State) → Bounded code budget start a → length (answerText a) ≤ longestReport
-  answer-most (finished at count t) b = state-most ending.Done at count t tt b
-  answer-most (spent at count t) b = state-most ending.Spent at count t tt b
-  answer-most (stopped n at count t) (small, b) = state-most (ending.Refused n) at count t (omega arith) b
+  answer-most (finished at count t) b = state-most Done at count t tt b
+  answer-most (spent at count t) b = state-most Spent at count t tt b
+  answer-most (stopped n at count t) (small, b) = state-most (Refused n) at count t (omega arith) b
 
 well-formed-most : (marks : ℕ) (file : List ℕ) → length (wellFormedText marks file) ≤ longestReport
 unfolding wellFormedText runIn startOf

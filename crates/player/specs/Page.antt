@@ -11,34 +11,26 @@ use Rattle.manual.specs.Refusals.{memoryTooLong}
 use Rattle.manual.specs.State.{State, isTooLong}
 use Rattle.manual.specs.Runs.{runOf}
 use Rattle.machine.specs.declared.End.{End}
-use Rattle.machine.specs.declared.End.the-variants as end
+use Rattle.machine.specs.declared.End.the-variants.{Done, Spent, Refused}
 use Rattle.machine.specs.State.{stateOf}
 use Rattle.machine.specs.Starts.{startOf}
-use Rattle.pagefile.specs.Reading.{codeOf, memoryOf, mmxOf, integersOf, Outcome, wellFormedWith, refusedWith, pageOf}
-use Rattle.printout.specs.declared.Ending.{Ending}
-use Rattle.printout.specs.declared.Ending.the-variants as ending
+use Rattle.pagefile.specs.Parsing.{codeOf, memoryOf, mmxOf, integersOf, Parsed, wellFormedWith, refusedWith, pageOf}
 use Rattle.printout.specs.Lines.{reportText, refusalText}
 
 -- the page program's budget
 abbrev pub budget : ℕ
 budget = 4096
 
--- how the printout names each end of a run
-abbrev pub endingOf : End → Ending
-endingOf end.Done = ending.Done
-endingOf end.Spent = ending.Spent
-endingOf (end.Refused n) = ending.Refused n
-
 -- the report of a state, with how its run ended, the position reached and the count of instructions completed
-unfoldable pub stateText : Ending → ℕ → ℕ → State → List ℕ
-stateText e at count s =
-    reportText e count at (s .mmx) (s .integers) (s .marks .valid) (s .memory)
+unfoldable pub stateText : End → ℕ → ℕ → State → List ℕ
+stateText ending at count s =
+    reportText ending count at (s .mmx) (s .integers) (s .marks .valid) (s .memory)
 
 -- the report of each answer of a run
 abbrev pub answerText : Answer State → List ℕ
-answerText (finished at count s) = stateText ending.Done at count s
-answerText (spent at count s) = stateText ending.Spent at count s
-answerText (stopped n at count s) = stateText (ending.Refused n) at count s
+answerText (finished at count s) = stateText Done at count s
+answerText (spent at count s) = stateText Spent at count s
+answerText (stopped n at count s) = stateText (Refused n) at count s
 
 -- the answer of the run of a page's code, in the machine that its registers and marks start, with a memory
 unfoldable pub runIn : List ℕ → ℕ → List ℕ → Answer State
@@ -51,8 +43,8 @@ wellFormedText marks file =
     (cond (ltb longestCode (length (codeOf file))) (refusalText codeTooLong)
     (answerText (runIn (memoryOf file) marks file)))
 
--- 13 comes before 1 and 2: it is what the reading of a malformed file comes to
-abbrev pub textOf : Outcome → List ℕ → List ℕ
+-- 13 comes before 1 and 2: it is what the parsing of a malformed file comes to
+abbrev pub textOf : Parsed → List ℕ → List ℕ
 textOf (wellFormedWith marks) file = wellFormedText marks file
 textOf (refusedWith n) file = refusalText n
 

@@ -1,53 +1,18 @@
 // From a page file to what is printed of it.
 use codec::refusals::CODE_TOO_LONG;
 use codec::refusals::LONGEST_CODE;
-use machine::End;
 use machine::Machine;
-use machine::Ran;
 use machine::numbers::LONGEST_MEMORY;
 use machine::numbers::MEMORY_TOO_LONG;
 use pagefile::Page;
-use printout::Ending;
 ghost use mathlib.Core.Path.{_≡_};
 ghost use Prim.Native.Nat.{_≤_};
 ghost use lib.ListN.{length};
-ghost use Rattle.machine.specs.Runs.{paperOfRun};
-ghost use Rattle.printout.specs.Lent.{printing, printed};
-ghost use Rattle.player.specs.Page.{endingOf, answerText, runIn, wellFormedText, pageText};
+ghost use Rattle.printout.specs.Printing.{printing, printed};
+ghost use Rattle.player.specs.Page.{answerText, runIn, wellFormedText, pageText};
 
 // The instructions that a page may run.
 const BUDGET: u32 = 4096;
-
-// How the printout names the end of a run.
-fn ending(end: End) -> Ending
-    ensures { λ r. ⌜ r ≡ endingOf end ⌝ }
-{
-    match end {
-        End::Done => Ending::Done,
-        End::Spent => Ending::Spent,
-        End::Refused(number) => Ending::Refused(number),
-    }
-}
-
-// Prints what a run handed back, and the memory that it left.
-fn print(ran: Ran, memory: &[u8], out: &mut [u8]) -> usize
-    ensures { λ r. ⌜ printing r (now (out .exit)) ≡ printed (answerText (paperOfRun ran (now (memory .entry)))) (now (out .entry)) ⌝ }
-{
-    let end = ran.end;
-    let machine = ran.machine;
-    let mmx = machine.mmx;
-    let integers = machine.integers;
-    printout::report(
-        out,
-        ending(end),
-        ran.count as usize,
-        ran.at,
-        mmx,
-        integers,
-        machine.marks.valid,
-        memory,
-    )
-}
 
 // Runs a page's code in a memory, and prints.
 fn run(file: &[u8], marks: u8, memory: &mut [u8], out: &mut [u8]) -> usize
@@ -59,7 +24,7 @@ fn run(file: &[u8], marks: u8, memory: &mut [u8], out: &mut [u8]) -> usize
         marks,
     );
     let ran = machine.run(pagefile::code(file), memory, BUDGET);
-    print(ran, memory, out)
+    printout::report(out, ran, memory)
 }
 
 // The same in a copy of the memory, at the start of a buffer.

@@ -7,7 +7,7 @@ use contract.Lifetimes.{Lfts}
 use borrow.Fn.Kinds.{Dens, resT, endedOf}
 use denote.Triple.Clauses.{AtExit}
 use denote.Ref.{now}
-use Rattle.printout.specs.Lent.{Printed, printing}
+use Rattle.printout.specs.Printing.{Printed, printing}
 use Rattle.printout.proofs.buffer.Reads as buffer-reads
 use Rattle.printout.proofs.buffer.Kinds as buffer-kinds
 use Rattle.printout.proofs.report.Reads as report-reads

@@ -5,7 +5,7 @@ use mathlib.Core.Bool.{true, false}
 use mathlib.Core.List.{List, [], _∷_, _++_}
 use Prim.Native.String.{String}
 use Prim.Native.Nat.{ℕ}
-use Rattle.printout.specs.declared.Ending.the-variants.{Done, Spent, Refused}
+use Rattle.machine.specs.declared.End.the-variants.{Done, Spent, Refused}
 use Rattle.printout.specs.Characters.{ascii, newline, digits, places, decimal}
 use Rattle.printout.specs.Lines.{answer, firstLine, tagsLine, memoryLine, byteLines}
 

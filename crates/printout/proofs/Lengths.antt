@@ -6,10 +6,11 @@ use Prim.Native.Nat.{ℕ, suc, _+_, _*_}
 use native.Mathlib.Nat.{mul-suc}
 use native.Mathlib.Omega.{arith}
 use lib.ListN.{length, take, drop, length-append, length-take, length-drop}
-use Rattle.printout.specs.declared.Ending.{Ending}
-use Rattle.printout.specs.declared.Ending.the-variants.{Done, Spent, Refused}
+use Rattle.machine.specs.declared.End.{End}
+use Rattle.machine.specs.declared.End.the-variants.{Done, Spent, Refused}
 use Rattle.printout.specs.Characters.{places, decimal}
-use Rattle.printout.specs.Lines.{answer, firstLine, registerLines, mmxNames, integerNames, mmxLines, integerLines, tagsLine, memoryLine, byteLines, reportText, reportLength, refusalText}
+use Rattle.printout.specs.Lines.{answer, firstLine, registerLines, mmxNames, integerNames, mmxLines, integerLines, tagsLine, memoryLine, byteLines, reportText, refusalText}
+use Rattle.printout.specs.inner.Room.{reportLength}
 use Rattle.printout.proofs.Numbers.{length-digits}
 
 length-decimal : (n : ℕ) → length (decimal n) ≡ places n n
@@ -17,7 +18,7 @@ unfolding decimal
 length-decimal n = length-digits 10 (places n n) n
 
 -- the answer's, as the code counts it
-module _ (ending : Ending) where
+module _ (ending : End) where
   pub length-done : ending ≡ Done → 4 ≡ length (answer ending)
   unfolding answer
   length-done e = rw e
@@ -31,7 +32,7 @@ module _ (ending : Ending) where
   length-refused number count e counted = rw e (omega (arith, length-decimal number))
 
 -- the lines'
-length-first-line : (ending : Ending) (count position : ℕ)
+length-first-line : (ending : End) (count position : ℕ)
     → length (firstLine ending count position) ≡ length (answer ending) + places count count + places position position + 6
 unfolding firstLine
 length-first-line ending count position =
@@ -65,7 +66,7 @@ pub length-refusal : (number : ℕ) → length (refusalText number) ≡ 8 + plac
 unfolding refusalText
 length-refusal number = simp (length-append, length-decimal) (omega arith)
 
-pub length-report : (ending : Ending) (count position : ℕ) (mmx integers : List ℕ) (valid : Bool) (memory : List ℕ)
+pub length-report : (ending : End) (count position : ℕ) (mmx integers : List ℕ) (valid : Bool) (memory : List ℕ)
     → length mmx ≡ 8 → length integers ≡ 8
     → length (reportText ending count position mmx integers valid memory) ≡ reportLength ending count position (length memory)
 unfolding reportText mmxLines integerLines
@@ -75,7 +76,7 @@ length-report ending count position mmx integers valid memory eight eight′ =
     simp length-append (omega (arith, mmx-lines, integer-lines, length-tags-line valid, length-byte-lines 0 memory))
 
 -- the report's, from the characters that are counted of its numbers
-pub counted-report : (ending : Ending) (count position memory a c p m : ℕ)
+pub counted-report : (ending : End) (count position memory a c p m : ℕ)
     → a ≡ length (answer ending) → c ≡ places count count → p ≡ places position position → m ≡ places memory memory
     → reportLength ending count position memory ≡ a + c + p + m + 6 + 168 + 104 + 11 + 8 + 3 * memory
 counted-report ending count position memory a c p m answered counted placed sized =

@@ -7,16 +7,17 @@ use native.Mathlib.Nat.{pow-suc}
 use native.Mathlib.Omega.{arith}
 use borrow.Author.Tests.{le-leb}
 use lib.ListN.{length, drop}
-use Rattle.printout.specs.declared.Ending.{Ending}
-use Rattle.printout.specs.declared.Ending.the-variants.{Done, Spent, Refused}
+use Rattle.manual.specs.State.{longestMemory}
+use Rattle.machine.specs.declared.End.{End}
+use Rattle.machine.specs.declared.End.the-variants.{Done, Spent, Refused}
 use Rattle.printout.specs.Characters.{places}
 use Rattle.printout.specs.Lines.{answer, reportText, longestReport, refusalText}
-use Rattle.printout.specs.Lent.{printing, printed}
+use Rattle.printout.specs.Printing.{printing, printed}
 use Rattle.printout.proofs.Numbers.{places-most}
 use Rattle.printout.proofs.Lengths.{length-refused, length-refusal, length-report, counted-report}
 
 -- the refusals' numbers are bytes
-abbrev pub Small : Ending → Type 0
+abbrev pub Small : End → Type 0
 Small Done = Unit {0}
 Small Spent = Unit {0}
 Small (Refused number) = number < 256
@@ -24,7 +25,7 @@ Small (Refused number) = number < 256
 byte-most : (number : ℕ) → number < 256 → places number number ≤ 3
 byte-most number small = places-most 2 number number (omega (arith, pow-suc 10 0, pow-suc 10 1, pow-suc 10 2))
 
-answer-most : (ending : Ending) → Small ending → length (answer ending) ≤ 11
+answer-most : (ending : End) → Small ending → length (answer ending) ≤ 11
 unfolding answer
 answer-most Done small = omega arith
 answer-most Spent small = omega arith
@@ -34,8 +35,8 @@ pub refusal-most : (number : ℕ) → number < 256 → length (refusalText numbe
 refusal-most number small = omega (arith, length-refusal number, byte-most number small)
 
 -- a report of a memory that the machine takes, with a count and a position that the code can hold
-pub report-most : (ending : Ending) (count position : ℕ) (mmx integers : List ℕ) (valid : Bool) (memory : List ℕ)
-    → Small ending → count < 2 ^ 64 → position < 2 ^ 64 → length mmx ≡ 8 → length integers ≡ 8 → length memory ≤ 32768
+pub report-most : (ending : End) (count position : ℕ) (mmx integers : List ℕ) (valid : Bool) (memory : List ℕ)
+    → Small ending → count < 2 ^ 64 → position < 2 ^ 64 → length mmx ≡ 8 → length integers ≡ 8 → length memory ≤ longestMemory
     → length (reportText ending count position mmx integers valid memory) ≤ longestReport
 report-most ending count position mmx integers valid memory small less less′ eight eight′ largest =
     omega (

@@ -10,7 +10,7 @@ use borrow.Author.Tests.{lt-ltb, le-ltb}
 use lib.Dec.{ltb}
 use lib.ListN.{length, set, length-append}
 use Rattle.printout.specs.Characters.{digitOf, digits, places}
-use Rattle.printout.specs.Lent.{put, Puts}
+use Rattle.printout.specs.inner.Room.{put, Puts}
 use Rattle.printout.proofs.Putting.{put-after}
 
 pub length-digits : (base k n : ℕ) → length (digits base k n) ≡ k
@@ -24,20 +24,20 @@ pub digit-small : (n base : ℕ) → 0 < base → base ≤ 16 → n % base < 16
 digit-small n base some few = omega (arith, mod-lt n some)
 
 -- a digit is put before those that stand before it, until all are put
-module _ (out out₀ : List ℕ) (at base count number left rest : ℕ)
-    (same : put out at (digits base left rest) ≡ put out₀ at (digits base count number)) where
-  pub more-digits : (digit : ℕ) → digit ≡ digitOf (rest % base) → 0 < left
-      → put (set out (at + (left - 1)) digit) at (digits base (left - 1) (rest / base)) ≡ put out₀ at (digits base count number)
+module _ (out out₀ : List ℕ) (at base count number remaining rest : ℕ)
+    (same : put out at (digits base remaining rest) ≡ put out₀ at (digits base count number)) where
+  pub more-digits : (digit : ℕ) → digit ≡ digitOf (rest % base) → 0 < remaining
+      → put (set out (at + (remaining - 1)) digit) at (digits base (remaining - 1) (rest / base)) ≡ put out₀ at (digits base count number)
   unfolding digits
   more-digits digit is some =
-      let last : left ≡ suc (left - 1) = omega arith in
-      let place : at + (left - 1) ≡ at + length (digits base (left - 1) (rest / base)) = omega (arith, length-digits base (left - 1) (rest / base)) in
-      rw is (put-after out (digits base (left - 1) (rest / base)) at (at + (left - 1)) (digitOf (rest % base)) place ∙ (rw last at same))
+      let last : remaining ≡ suc (remaining - 1) = omega arith in
+      let place : at + (remaining - 1) ≡ at + length (digits base (remaining - 1) (rest / base)) = omega (arith, length-digits base (remaining - 1) (rest / base)) in
+      rw is (put-after out (digits base (remaining - 1) (rest / base)) at (at + (remaining - 1)) (digitOf (rest % base)) place ∙ (rw last at same))
 
-  pub all-digits : left ≤ 0 → Puts (digits base count number) at out₀ (at + count) out
+  pub all-digits : remaining ≤ 0 → Puts (digits base count number) at out₀ (at + count) out
   unfolding put digits
   all-digits none =
-      let empty : left ≡ 0 = omega arith in record { ends = omega (arith, length-digits base count number); content = rw empty at same }
+      let empty : remaining ≡ 0 = omega arith in record { ends = omega (arith, length-digits base count number); content = rw empty at same }
 
 -- a number below ten has one digit, another one more than its tenth
 places-one : (most n : ℕ) → n < 10 → places most n ≡ 1

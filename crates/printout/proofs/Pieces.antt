@@ -1,4 +1,4 @@
--- Each text by what the code knows of it: an answer by its case, a number by its digits, and what is left of a text by its next piece.
+-- Each text by what the code knows of it: an answer by its case, a number by its digits, and what remains of a text by its next piece.
 use mathlib.Core.Path.{_≡_, ap}
 use mathlib.Core.Bool.{Bool, true, false}
 use mathlib.Core.List.{List, [], _∷_, _++_}
@@ -8,15 +8,15 @@ use native.Mathlib.Numerals.{add-one}
 use native.Mathlib.Omega.{arith}
 use lib.ListN.{length, getD, take, drop, length-drop, length-append, drop-of-length-le}
 use lib.Seq.{drop-cons, drop-drop}
-use Rattle.printout.specs.declared.Ending.{Ending}
-use Rattle.printout.specs.declared.Ending.the-variants.{Done, Spent, Refused}
+use Rattle.machine.specs.declared.End.{End}
+use Rattle.machine.specs.declared.End.the-variants.{Done, Spent, Refused}
 use Rattle.printout.specs.Characters.{ascii, newline, hex, digits, places, decimal}
 use Rattle.printout.specs.Lines.{answer, refused, registerLines, tagsLine, gapAfter, byteLines}
-use Rattle.printout.specs.Lent.{Fits, Puts}
+use Rattle.printout.specs.inner.Room.{Fits, Puts}
 use Rattle.printout.proofs.Putting.{turning, chain, fits-next, fits-as, puts-as}
 use Rattle.printout.proofs.Numbers.{length-digits}
 
-module _ (ending : Ending) where
+module _ (ending : End) where
   pub answer-done : ending ≡ Done → answer ending ≡ ascii "done"
   unfolding answer
   answer-done e = rw e

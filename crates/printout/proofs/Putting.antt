@@ -1,4 +1,4 @@
--- Texts that are put one after the other are one text: each starts where the one before it ends. And what is left of a text, put, gives the whole.
+-- Texts that are put one after the other are one text: each starts where the one before it ends. And what remains of a text, put, gives the whole.
 use mathlib.Core.Path.{_≡_, refl, sym, ap, _∙_}
 use mathlib.Core.List.{List, [], _∷_, _++_}
 use Prim.Native.Nat.{ℕ, suc, _+_}
@@ -8,7 +8,7 @@ use borrow.Author.Needs.{needs}
 use lib.ListN.{length, set, length-append}
 use lib.Seq.{sets, length-sets, set-comm}
 use Rattle.words.proofs.Laws.{sets-append}
-use Rattle.printout.specs.Lent.{put, Fits, Puts}
+use Rattle.printout.specs.inner.Room.{put, Fits, Puts}
 
 put-append : (l xs ys : List ℕ) (at p : ℕ) → p ≡ at + length xs → put l at (xs ++ ys) ≡ put (put l at xs) p ys
 unfolding put
@@ -51,37 +51,37 @@ fits-as fits same = rw same at fits
 pub puts-as : {xs ys l m : List ℕ} {at p : ℕ} → Puts ys at l p m → xs ≡ ys → Puts xs at l p m
 puts-as puts same = rw same puts
 
--- what is left to put, put at a place, gives the whole
-pub record Left (rest : List ℕ) (p : ℕ) (m : List ℕ) (whole : List ℕ) (at : ℕ) (l : List ℕ) : Type 0 where
+-- what remains to put, put at a place, gives the whole
+pub record Remaining (rest : List ℕ) (p : ℕ) (m : List ℕ) (whole : List ℕ) (at : ℕ) (l : List ℕ) : Type 0 where
   pub ends : p + length rest ≡ at + length whole
   pub content : put m p rest ≡ put l at whole
 
-pub all-left : (l : List ℕ) (at : ℕ) (whole : List ℕ) → Left whole at l whole at l
-all-left l at whole = record { ends = refl; content = refl }
+pub all-remaining : (l : List ℕ) (at : ℕ) (whole : List ℕ) → Remaining whole at l whole at l
+all-remaining l at whole = record { ends = refl; content = refl }
 
-pub less-left : {rest xs ys l m n whole : List ℕ} {at p q : ℕ} → Puts xs p m q n → Left rest p m whole at l → rest ≡ xs ++ ys
-    → Left ys q n whole at l
-less-left {rest} {xs} {ys} {l} {m} {n} {whole} {at} {p} {q} one more e = record {
+pub less-remaining : {rest xs ys l m n whole : List ℕ} {at p q : ℕ} → Puts xs p m q n → Remaining rest p m whole at l → rest ≡ xs ++ ys
+    → Remaining ys q n whole at l
+less-remaining {rest} {xs} {ys} {l} {m} {n} {whole} {at} {p} {q} one more e = record {
   ends = omega (arith, more .ends, one .ends, simp length-append at (ap length e));
   content =
       ap (λ (k : List ℕ). put k q ys) (one .content) ∙ sym (put-append m xs ys p q (one .ends))
       ∙ ap (put m p) (sym e) ∙ more .content;
 }
 
-pub none-left : {rest l m whole : List ℕ} {at p : ℕ} → Left rest p m whole at l → rest ≡ [] → Puts whole at l p m
+pub none-remaining : {rest l m whole : List ℕ} {at p : ℕ} → Remaining rest p m whole at l → rest ≡ [] → Puts whole at l p m
 unfolding put
-none-left {rest} {l} {m} {whole} {at} {p} left e =
-    record { ends = omega (arith, left .ends, ap length e); content = ap (put m p) (sym e) ∙ left .content }
+none-remaining {rest} {l} {m} {whole} {at} {p} remaining e =
+    record { ends = omega (arith, remaining .ends, ap length e); content = ap (put m p) (sym e) ∙ remaining .content }
 
-pub same-room : {rest m whole l : List ℕ} {p at : ℕ} → Left rest p m whole at l → length m ≡ length l
-same-room {rest} {m} {whole} {l} {p} {at} left = sym (length-put m p rest) ∙ ap length (left .content) ∙ length-put l at whole
+pub same-room : {rest m whole l : List ℕ} {p at : ℕ} → Remaining rest p m whole at l → length m ≡ length l
+same-room {rest} {m} {whole} {l} {p} {at} remaining = sym (length-put m p rest) ∙ ap length (remaining .content) ∙ length-put l at whole
 
-pub fits-left : {rest xs l m whole : List ℕ} (ys : List ℕ) {at p : ℕ} → Left rest p m whole at l → rest ≡ xs ++ ys → Fits whole at l → Fits xs p m
-fits-left {rest} {xs} {l} {m} {whole} ys {at} {p} left e fits = record {
-  room = omega (arith, left .ends, fits .room, simp length-append at (ap length e), same-room left);
+pub fits-remaining : {rest xs l m whole : List ℕ} (ys : List ℕ) {at p : ℕ} → Remaining rest p m whole at l → rest ≡ xs ++ ys → Fits whole at l → Fits xs p m
+fits-remaining {rest} {xs} {l} {m} {whole} ys {at} {p} remaining e fits = record {
+  room = omega (arith, remaining .ends, fits .room, simp length-append at (ap length e), same-room remaining);
 }
 
-pub ruleset turning = (needs, all-left, less-left, none-left, same-room, fits-left)
+pub ruleset turning = (needs, all-remaining, less-remaining, none-remaining, same-room, fits-remaining)
 
 -- a character after a text, put before it
 sets-after : (l xs : List ℕ) (at p x : ℕ) → p ≡ at + length xs → sets (set l p x) at xs ≡ sets l at (xs ++ (x ∷ []))

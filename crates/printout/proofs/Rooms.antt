@@ -10,14 +10,16 @@ use borrow.Author.Tests.{leb-true, leb-false, le-leb, lt-leb, not-true, not-fals
 use lib.Dec.{leb}
 use lib.ListN.{length, drop, length-append}
 use lib.Seq.{sets-eq}
-use Rattle.printout.specs.declared.Ending.{Ending}
+use Rattle.machine.specs.declared.End.{End}
 use Rattle.printout.specs.Characters.{places}
-use Rattle.printout.specs.Lines.{reportText, reportLength, refusalText}
-use Rattle.printout.specs.Lent.{put, Fits, Puts, Printed, printing, printed}
+use Rattle.printout.specs.Lines.{firstLine, mmxLines, integerLines, tagsLine, memoryLine, byteLines, reportText, refusalText}
+use Rattle.printout.specs.Printing.{Printed, printing, printed}
+use Rattle.printout.specs.inner.Room.{put, Fits, Puts, reportLength}
+use Rattle.printout.proofs.Putting.{fits-first, fits-next, then}
 use Rattle.printout.proofs.Lengths.{length-done, length-spent, length-refused, length-refusal, length-report, counted-report}
 
 -- the test of the room for a report: its headings, and then 3 characters for each byte of the memory
-module _ (ending : Ending) (count position memory buffer headings : ℕ) where
+module _ (ending : End) (count position memory buffer headings : ℕ) where
   pub no-room : buffer < headings → reportLength ending count position memory ≡ headings + 3 * memory
       → false ≡ leb (reportLength ending count position memory) buffer
   no-room short sum = sym (lt-leb (reportLength ending count position memory) buffer (omega arith))
@@ -71,33 +73,39 @@ module _ (number count : ℕ) (buffer : List ℕ) (counted : count ≡ places nu
       → printing end after ≡ printed (refusalText number) buffer
   refusal-printed end after enough puts = whole (refusalText number) buffer end after (refusal-fits enough) puts
 
--- a report, where the test of its room is made; the integer registers are put as wider numbers
-module _ (ending : Ending) (count position : ℕ) (mmx integers : List ℕ) (valid : Bool) (memory buffer : List ℕ) (enough : Bool)
+-- a report, where the test of its room is made: its upper part is put, then its lower part
+module _ (ending : End) (count position : ℕ) (mmx integers : List ℕ) (valid : Bool) (memory buffer : List ℕ) (enough : Bool)
     (tested : enough ≡ leb (reportLength ending count position (length memory)) (length buffer))
     (eight : length mmx ≡ 8) (eight′ : length integers ≡ 8) where
+  abbrev top : List ℕ
+  top = firstLine ending count position ++ mmxLines mmx ++ integerLines integers
+
+  abbrev bottom : List ℕ
+  bottom = tagsLine valid ++ memoryLine (length memory) ++ byteLines 0 memory
+
+  counted : length (top ++ bottom) ≡ reportLength ending count position (length memory)
+  unfolding reportText
+  counted = length-report ending count position mmx integers valid memory eight eight′
+
   pub report-short : not enough ≡ true → printing 0 buffer ≡ printed (reportText ending count position mmx integers valid memory) buffer
+  unfolding reportText
   report-short failed =
-      too-short (reportText ending count position mmx integers valid memory) buffer
-      (omega (
-        arith,
-        leb-false _ (length buffer) (sym tested ∙ not-true enough failed),
-        length-report ending count position mmx integers valid memory eight eight′,
-      ))
+      too-short (top ++ bottom) buffer (omega (arith, leb-false _ (length buffer) (sym tested ∙ not-true enough failed), counted))
 
-  module _ (wide : List ℕ) (same : wide ≡ integers) (passed : not enough ≡ false) where
-    pub report-fits : Fits (reportText ending count position mmx wide valid memory) 0 buffer
-    report-fits = rw same (
-        record {
-          room = omega (
-            arith,
-            leb-true _ (length buffer) (sym tested ∙ not-false enough passed),
-            length-report ending count position mmx integers valid memory eight eight′,
-          );
-        })
+  module _ (passed : not enough ≡ false) where
+    report-fits : Fits (top ++ bottom) 0 buffer
+    report-fits = record { room = omega (arith, leb-true _ (length buffer) (sym tested ∙ not-false enough passed), counted) }
 
-    pub report-printed : (end : ℕ) (after : List ℕ) → Puts (reportText ending count position mmx wide valid memory) 0 buffer end after
-        → printing end after ≡ printed (reportText ending count position mmx integers valid memory) buffer
-    report-printed end after puts =
-        whole (reportText ending count position mmx integers valid memory) buffer end after (rw same at report-fits) (rw same at puts)
+    pub top-fits : Fits top 0 buffer
+    top-fits = fits-first bottom report-fits
 
-pub ruleset rooms = (needs, refusal-short, refusal-fits, refusal-printed, report-short, report-fits, report-printed)
+    module _ (between : ℕ) (middle : List ℕ) (upper : Puts top 0 buffer between middle) where
+      pub bottom-fits : Fits bottom between middle
+      bottom-fits = fits-next upper report-fits
+
+      pub report-printed : (end : ℕ) (after : List ℕ) → Puts bottom between middle end after
+          → printing end after ≡ printed (reportText ending count position mmx integers valid memory) buffer
+      unfolding reportText
+      report-printed end after lower = whole (top ++ bottom) buffer end after report-fits (then upper lower)
+
+pub ruleset rooms = (needs, refusal-short, refusal-fits, refusal-printed, report-short, top-fits, bottom-fits, report-printed)

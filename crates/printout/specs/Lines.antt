@@ -5,22 +5,23 @@ use Prim.Native.Char.{code}
 use Prim.Native.Nat.{ℕ, suc, _+_, _*_, _%_}
 use lib.Dec.{eqb}
 use lib.ListN.{length, take, drop}
+use Rattle.manual.specs.State.{longestMemory}
+use Rattle.machine.specs.declared.End.{End}
+use Rattle.machine.specs.declared.End.the-variants.{Done, Spent, Refused}
 use Rattle.printout.specs.Characters.{ascii, newline, hex, decimal}
-use Rattle.printout.specs.declared.Ending.{Ending}
-use Rattle.printout.specs.declared.Ending.the-variants.{Done, Spent, Refused}
 
 -- `refused 13`
 abbrev pub refused : ℕ → List ℕ
 refused number = ascii "refused " ++ decimal number
 
 -- `done`, `spent` or `refused 10`
-unfoldable pub answer : Ending → List ℕ
+unfoldable pub answer : End → List ℕ
 answer Done = ascii "done"
 answer Spent = ascii "spent"
 answer (Refused number) = refused number
 
 -- `done 1 at 3`
-unfoldable pub firstLine : Ending → ℕ → ℕ → List ℕ
+unfoldable pub firstLine : End → ℕ → ℕ → List ℕ
 firstLine ending count position =
     answer ending ++ (ascii " " ++ decimal count) ++ (ascii " at " ++ decimal position ++ newline)
 
@@ -60,19 +61,14 @@ byteLines index [] = []
 byteLines index (byte ∷ bytes) = hex 2 byte ++ (gapAfter index (length bytes) ∷ []) ++ byteLines (suc index) bytes
 
 -- all that is printed of a run
-unfoldable pub reportText : Ending → ℕ → ℕ → List ℕ → List ℕ → Bool → List ℕ → List ℕ
+unfoldable pub reportText : End → ℕ → ℕ → List ℕ → List ℕ → Bool → List ℕ → List ℕ
 reportText ending count position mmx integers valid memory =
     (firstLine ending count position ++ mmxLines mmx ++ integerLines integers)
     ++ (tagsLine valid ++ memoryLine (length memory) ++ byteLines 0 memory)
 
--- how long that is with n bytes of memory: 8 lines of 21 characters, 8 of 13 and one of 11 stand between the first line and the memory's heading
-abbrev pub reportLength : Ending → ℕ → ℕ → ℕ → ℕ
-reportLength ending count position n =
-    length (firstLine ending count position) + (8 * 21 + 8 * 13 + 11) + length (memoryLine n) + 3 * n
-
 -- the longest report of a memory that the machine takes: a refusal has up to 3 digits, a count and a position up to 20 each, the memory's length 5
 abbrev pub longestReport : ℕ
-longestReport = (11 + 20 + 20 + 6) + (8 * 21 + 8 * 13 + 11) + (5 + 8) + 3 * 32768
+longestReport = (11 + 20 + 20 + 6) + (8 * 21 + 8 * 13 + 11) + (5 + 8) + 3 * longestMemory
 
 -- all that is printed of a refused file
 unfoldable pub refusalText : ℕ → List ℕ

@@ -3,9 +3,11 @@ ghost use mathlib.Core.Path.{_≡_};
 ghost use Prim.Native.Nat.{_≤_};
 ghost use lib.Dec.{leb};
 ghost use lib.ListN.{length};
-ghost use Rattle.printout.specs.Lines.{answer, reportLength};
-use crate::Ending;
+ghost use Rattle.printout.specs.Lines.{answer};
+ghost use Rattle.printout.specs.inner.Room.{reportLength};
 use crate::put::decimal_places;
+use machine::End;
+use machine::numbers::LONGEST_MEMORY;
 
 // The characters of `done`, `spent` and `refused `, and of a line end.
 const DONE: usize = 4;
@@ -42,17 +44,14 @@ pub(crate) const BYTE_DIGITS: usize = 2;
 
 const BYTE: usize = BYTE_DIGITS + 1;
 
-// The digits of the longest refusal, of the largest number, and of the largest memory's length.
+// The digits of the longest refusal, of the largest number, and of the longest memory's length.
 const REFUSAL_DIGITS: usize = 3;
 
 const NUMBER_DIGITS: usize = 20;
 
 const MEMORY_DIGITS: usize = 5;
 
-// The bytes of the largest memory.
-const LARGEST_MEMORY: usize = 32768;
-
-// The characters of a report where all numbers are longest: without the memory's bytes, and with them.
+// The characters of a report where all numbers are longest, without the memory's bytes.
 const HEADINGS: usize = REFUSED
     + REFUSAL_DIGITS
     + 2 * NUMBER_DIGITS
@@ -63,24 +62,25 @@ const HEADINGS: usize = REFUSED
     + MEMORY_DIGITS
     + MEMORY_LINE;
 
-pub(crate) const LONGEST: usize = HEADINGS + BYTE * LARGEST_MEMORY;
+// The characters of the longest report of a memory that the machine takes.
+pub const LONGEST_REPORT: usize = HEADINGS + BYTE * LONGEST_MEMORY;
 
 // How many characters the answer has.
-fn answer_length(ending: Ending) -> usize
+fn answer_length(ending: End) -> usize
     ensures { λ r. ⌜ (r ≡ length (answer ending)) × (r ≤ 28) ⌝ }
 {
     match ending {
-        Ending::Done => DONE,
-        Ending::Spent => SPENT,
-        Ending::Refused(number) => REFUSED + decimal_places(number as u64),
+        End::Done => DONE,
+        End::Spent => SPENT,
+        End::Refused(number) => REFUSED + decimal_places(number as u64),
     }
 }
 
 // Whether a buffer is as long as the report.
 pub(crate) fn has_room(
     buffer: usize,
-    ending: Ending,
-    count: usize,
+    ending: End,
+    count: u32,
     position: usize,
     memory: usize,
 ) -> bool

@@ -4,29 +4,31 @@ ghost use mathlib.Core.List.{_++_};
 ghost use Prim.Native.Nat.{_*_};
 ghost use lib.ListN.{length};
 ghost use Rattle.printout.specs.Characters.{newline, hex};
-ghost use Rattle.printout.specs.Lines.{answer, firstLine, registerLines, tagsLine, gapAfter, byteLines};
-ghost use Rattle.printout.specs.Lent.{Fits, Puts};
-use crate::Ending;
+ghost use Rattle.printout.specs.Lines.{answer, firstLine, registerLines, mmxLines, integerLines, tagsLine, gapAfter, byteLines};
+ghost use Rattle.printout.specs.inner.Room.{Fits, Puts};
 use crate::count::BYTE_DIGITS;
+use crate::count::INTEGER_DIGITS;
+use crate::count::MMX_DIGITS;
 use crate::count::NAME;
 use crate::count::REGISTERS;
 use crate::put::put_hex;
 use crate::put::put_number;
 use crate::put::put_number_line;
 use crate::put::put_word;
+use machine::End;
 
 // How many bytes of the memory stand on a line.
 const LINE: usize = 16;
 
 // How a run ended.
-fn put_answer(out: &mut [u8], at: usize, ending: Ending) -> usize
+fn put_answer(out: &mut [u8], at: usize, ending: End) -> usize
     requires { ⌜ Fits (answer ending) at (now out) ⌝ }
     ensures { λ r. ⌜ Puts (answer ending) at (now (out .entry)) r (now (out .exit)) ⌝ }
 {
     match ending {
-        Ending::Done => put_word(out, at, b"done"),
-        Ending::Spent => put_word(out, at, b"spent"),
-        Ending::Refused(number) => put_number(out, at, b"refused ", number as u64),
+        End::Done => put_word(out, at, b"done"),
+        End::Spent => put_word(out, at, b"spent"),
+        End::Refused(number) => put_number(out, at, b"refused ", number as u64),
     }
 }
 
@@ -34,8 +36,8 @@ fn put_answer(out: &mut [u8], at: usize, ending: Ending) -> usize
 pub(crate) fn put_first_line(
     out: &mut [u8],
     at: usize,
-    ending: Ending,
-    count: usize,
+    ending: End,
+    count: u32,
     position: usize,
 ) -> usize
     requires { ⌜ Fits (firstLine ending count position) at (now out) ⌝ }
@@ -56,13 +58,7 @@ fn put_register(out: &mut [u8], at: usize, name: &[u8], value: u64, count: usize
 }
 
 // The lines of registers.
-pub(crate) fn put_registers(
-    out: &mut [u8],
-    at: usize,
-    names: &[u8],
-    values: &[u64],
-    count: usize,
-) -> usize
+fn put_registers(out: &mut [u8], at: usize, names: &[u8], values: &[u64], count: usize) -> usize
     requires { ⌜ (length (now names) ≡ 4 * length (now values)) × Fits (registerLines (now names) count (now values)) at (now out) ⌝ }
     ensures { λ r. ⌜ Puts (registerLines (now (names .entry)) count (now (values .entry))) at (now (out .entry)) r (now (out .exit)) ⌝ }
 {
@@ -82,7 +78,7 @@ pub(crate) fn put_registers(
 }
 
 // The integer registers as wider numbers.
-pub(crate) fn widened(values: [u32; 8]) -> [u64; 8]
+fn widened(values: [u32; 8]) -> [u64; 8]
     ensures { λ r. ⌜ r ≡ values ⌝ }
 {
     let mut wide: [u64; 8] = [0; 8];
@@ -92,6 +88,35 @@ pub(crate) fn widened(values: [u32; 8]) -> [u64; 8]
         i += 1;
     }
     wide
+}
+
+// The lines of MM0 to MM7.
+pub(crate) fn put_mmx_lines(out: &mut [u8], at: usize, values: [u64; 8]) -> usize
+    requires { ⌜ Fits (mmxLines values) at (now out) ⌝ }
+    ensures { λ r. ⌜ Puts (mmxLines values) at (now (out .entry)) r (now (out .exit)) ⌝ }
+{
+    put_registers(
+        out,
+        at,
+        b"mm0 mm1 mm2 mm3 mm4 mm5 mm6 mm7 ",
+        &values,
+        MMX_DIGITS,
+    )
+}
+
+// The lines of the integer registers.
+pub(crate) fn put_integer_lines(out: &mut [u8], at: usize, values: [u32; 8]) -> usize
+    requires { ⌜ Fits (integerLines values) at (now out) ⌝ }
+    ensures { λ r. ⌜ Puts (integerLines values) at (now (out .entry)) r (now (out .exit)) ⌝ }
+{
+    let wide = widened(values);
+    put_registers(
+        out,
+        at,
+        b"eax ecx edx ebx esp ebp esi edi ",
+        &wide,
+        INTEGER_DIGITS,
+    )
 }
 
 // The line of the tags.

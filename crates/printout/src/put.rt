@@ -4,7 +4,7 @@ ghost use mathlib.Core.List.{[], _∷_, _++_};
 ghost use Prim.Native.Nat.{_+_, _<_, _≤_};
 ghost use lib.ListN.{length};
 ghost use Rattle.printout.specs.Characters.{newline, digitOf, digits, hex, places, decimal};
-ghost use Rattle.printout.specs.Lent.{Fits, Puts};
+ghost use Rattle.printout.specs.inner.Room.{Fits, Puts};
 
 // The bases of the numbers.
 const DECIMAL: u64 = 10;
@@ -52,10 +52,10 @@ fn put_digits(out: &mut [u8], at: usize, number: u64, base: u64, count: usize) -
     ensures { λ r. ⌜ Puts (digits base count number) at (now (out .entry)) r (now (out .exit)) ⌝ }
 {
     let mut rest = number;
-    let mut left = count;
-    while 0 < left {
-        left -= 1;
-        out[at + left] = digit(rest % base);
+    let mut remaining = count;
+    while 0 < remaining {
+        remaining -= 1;
+        out[at + remaining] = digit(rest % base);
         rest = rest / base;
     }
     at + count

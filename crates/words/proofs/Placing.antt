@@ -62,23 +62,23 @@ module _ (buffer : List ℕ) (at size : ℕ) (r : Bool) (tested : r ≡ inside (
 pub none-passed : (buffer : List ℕ) (at size : ℕ) → 0 ≡ number (gets (size - size) buffer at)
 none-passed buffer at size = rw sub-self
 
-module _ (buffer : List ℕ) (at size left value : ℕ) (passed : value ≡ number (gets (size - left) buffer (at + left))) where
-  pub one-passed : 0 < left → left ≤ size → getD buffer (at + (left - 1)) 0 + 256 * value ≡ number (gets (size - (left - 1)) buffer (at + (left - 1)))
+module _ (buffer : List ℕ) (at size remaining value : ℕ) (passed : value ≡ number (gets (size - remaining) buffer (at + remaining))) where
+  pub one-passed : 0 < remaining → remaining ≤ size → getD buffer (at + (remaining - 1)) 0 + 256 * value ≡ number (gets (size - (remaining - 1)) buffer (at + (remaining - 1)))
   one-passed some within =
-      let more : size - (left - 1) ≡ suc (size - left) = omega arith in
-      let next : at + left ≡ at + (left - 1) + 1 = omega arith in
+      let more : size - (remaining - 1) ≡ suc (size - remaining) = omega arith in
+      let next : at + remaining ≡ at + (remaining - 1) + 1 = omega arith in
       rw (more, passed, next)
 
-  pub all-passed : left ≤ 0 → value ≡ number (gets size buffer at)
+  pub all-passed : remaining ≤ 0 → value ≡ number (gets size buffer at)
   all-passed none =
-      let whole : size - left ≡ size = omega arith in let start : at + left ≡ at = omega arith in rw (whole, start) at passed
+      let whole : size - remaining ≡ size = omega arith in let start : at + remaining ≡ at = omega arith in rw (whole, start) at passed
 
-  module _ (byte : (i : ℕ) → Fits w8 (getD buffer i 0)) (few : size ≤ 8) (some : 0 < left) (within : left ≤ size) where
+  module _ (byte : (i : ℕ) → Fits w8 (getD buffer i 0)) (few : size ≤ 8) (some : 0 < remaining) (within : remaining ≤ size) where
     room : 256 * value + 255 < 2 ^ 64
     room =
-        let fewer : size - left ≤ 7 = omega arith in
-        let most : 256 ^ (size - left) ≤ 256 ^ 7 = pow-le-pow-right (omega arith) fewer in
-        omega (arith, gets-below (size - left) buffer (at + left) (λ j. byte j .fits))
+        let fewer : size - remaining ≤ 7 = omega arith in
+        let most : 256 ^ (size - remaining) ≤ 256 ^ 7 = pow-le-pow-right (omega arith) fewer in
+        omega (arith, gets-below (size - remaining) buffer (at + remaining) (λ j. byte j .fits))
 
     pub moved-fits : 256 * value < 2 ^ 64
     moved-fits = omega (arith, room)
@@ -87,19 +87,19 @@ module _ (buffer : List ℕ) (at size left value : ℕ) (passed : value ≡ numb
     more-fits i = omega (arith, room, byte i)
 
 -- the bytes from the first one up: what is left of them, put, gives the end
-pub all-left : (buffer : List ℕ) (at size value : ℕ) → sets buffer (at + 0) (bytes (size - 0) value) ≡ sets buffer at (bytes size value)
-all-left buffer at size value = rw (add-zero, sub-zero)
+pub all-remaining : (buffer : List ℕ) (at size value : ℕ) → sets buffer (at + 0) (bytes (size - 0) value) ≡ sets buffer at (bytes size value)
+all-remaining buffer at size value = rw (add-zero, sub-zero)
 
-module _ (buffer end : List ℕ) (at size i rest : ℕ) (left : sets buffer (at + i) (bytes (size - i) rest) ≡ end) where
+module _ (buffer end : List ℕ) (at size i rest : ℕ) (remaining : sets buffer (at + i) (bytes (size - i) rest) ≡ end) where
   pub one-put : i < size → sets (set buffer (at + i) (rest % 256)) (at + (i + 1)) (bytes (size - (i + 1)) (rest / 256)) ≡ end
   one-put more =
       let next : at + (i + 1) ≡ suc (at + i) = omega arith in
       let fewer : size - i ≡ suc (size - (i + 1)) = omega arith in
-      rw next (rw fewer at left)
+      rw next (rw fewer at remaining)
 
-  pub none-left : size ≤ i → buffer ≡ end
-  none-left all = let none : size - i ≡ 0 = omega arith in rw none at left
+  pub none-remaining : size ≤ i → buffer ≡ end
+  none-remaining all = let none : size - i ≡ 0 = omega arith in rw none at remaining
 
 pub ruleset placing = (needs, too-large, too-long, no-sum, not-loaded, not-stored, few-there, lies-there, is-loaded, is-stored)
 
-pub ruleset passing = (needs, none-passed, one-passed, all-passed, moved-fits, more-fits, all-left, one-put, none-left)
+pub ruleset passing = (needs, none-passed, one-passed, all-passed, moved-fits, more-fits, all-remaining, one-put, none-remaining)

@@ -36,10 +36,10 @@ fn load_bytes(buffer: &[u8], at: usize, size: usize) -> u64
     ensures { λ r. ⌜ r ≡ number (gets size (now (buffer .entry)) at) ⌝ }
 {
     let mut value: u64 = 0;
-    let mut left = size;
-    while 0 < left {
-        left -= 1;
-        value = buffer[at + left] as u64 + BASE * value;
+    let mut remaining = size;
+    while 0 < remaining {
+        remaining -= 1;
+        value = buffer[at + remaining] as u64 + BASE * value;
     }
     value
 }

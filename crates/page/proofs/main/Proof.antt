@@ -5,16 +5,16 @@ use mathlib.Core.List.{List}
 use lib.ListN.{length, take}
 use lib.Seq.{length-take-le}
 use borrow.Author.Needs.{needs}
-use Rattle.page.specs.Readings.{Within}
-use Rattle.page.specs.declared.Reading.{Reading}
-use Rattle.page.specs.declared.Reading.the-variants.{Whole}
+use Rattle.page.specs.inner.Inputs.{Within}
+use Rattle.page.specs.declared.Input.{Input}
+use Rattle.page.specs.declared.Input.the-variants.{Whole}
 use Rattle.page.proofs.main.Statement.{statement}
 use Rattle.page.proofs.main.Tie as tie
 
-within : (r : Reading) (n : ℕ) (file : List ℕ) → Within r file → r ≡ Whole n → n ≤ length file
-within r n file h e = subst (λ (s : Reading). Within s file) e h
+within : (r : Input) (n : ℕ) (file : List ℕ) → Within r file → r ≡ Whole n → n ≤ length file
+within r n file h e = subst (λ (s : Input). Within s file) e h
 
-counted : (r : Reading) (n : ℕ) (file : List ℕ) → Within r file → r ≡ Whole n → n ≡ length (take n file)
+counted : (r : Input) (n : ℕ) (file : List ℕ) → Within r file → r ≡ Whole n → n ≡ length (take n file)
 counted r n file h e = sym (length-take-le n file (within r n file h e))
 
 pub main-spec : {M : Type 1} → statement M

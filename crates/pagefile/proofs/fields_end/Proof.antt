@@ -1,15 +1,15 @@
--- `fields_end` meets its contract: what is left from the place on is what the tags read so far leave.
+-- `fields_end` meets its contract: what remains from the place on is what the tags read so far leave.
 -- The measure is how many tags are to be read.
 use mathlib.Core.Path.{_≡_}
 use Prim.Native.Nat.{_-_, _≤_}
 use lib.ListN.{length, drop}
-use Rattle.pagefile.specs.Reading.{left}
+use Rattle.pagefile.specs.Parsing.{remaining}
 use Rattle.pagefile.proofs.Places.{places}
 use Rattle.pagefile.proofs.fields_end.Statement.{statement}
 use Rattle.pagefile.proofs.fields_end.Tie as tie
 
 abbrev Inv-loop : tie.InvT-loop
-Inv-loop file tag at₀ read₀ at read = (read ≤ tag) × (at ≤ length file) × (drop at file ≡ left read file)
+Inv-loop file tag at₀ read₀ at read = (read ≤ tag) × (at ≤ length file) × (drop at file ≡ remaining read file)
 
 abbrev μ-loop : tie.MeasureT-loop
 μ-loop file tag at₀ read₀ at read = tag - read

@@ -1,4 +1,4 @@
--- `report` meets its contract: the test of the room leads to its case.
+-- `report` meets its contract: the test of the room leads to its case, and the two parts are put one after the other.
 use Rattle.printout.proofs.Rooms.{rooms}
 use Rattle.printout.proofs.report.Statement.{statement}
 use Rattle.printout.proofs.report.Tie as tie
@@ -10,8 +10,6 @@ report-spec =
     (λ c κs. search rooms)
     (λ c. search rooms)
     (λ c κs. search rooms)
-    (λ c. search rooms)
-    (λ c. search rooms)
     (λ c κs. search rooms)
     (λ c. search rooms)
     (λ c. search rooms))

@@ -9,10 +9,10 @@ use Rattle.words.proofs.load_bytes.Statement.{statement}
 use Rattle.words.proofs.load_bytes.Tie as tie
 
 abbrev Inv-loop : tie.InvT-loop
-Inv-loop buffer at size value₀ left₀ value left = (left ≤ size) × (value ≡ number (gets (size - left) buffer (at + left)))
+Inv-loop buffer at size value₀ remaining₀ value remaining = (remaining ≤ size) × (value ≡ number (gets (size - remaining) buffer (at + remaining)))
 
 abbrev μ-loop : tie.MeasureT-loop
-μ-loop buffer at size value₀ left₀ value left = left
+μ-loop buffer at size value₀ remaining₀ value remaining = remaining
 
 pub load-bytes-spec : {M : Type 1} → statement M
 load-bytes-spec =

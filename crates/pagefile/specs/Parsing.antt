@@ -1,5 +1,5 @@
--- How a page file is read: each tag's field, from 01 to 05, is taken off the front of what is left, where it stands there. The file is well
--- formed where nothing is left in the end.
+-- How a page file is parsed: each tag's field, from 01 to 05, is taken off the front of what remains, where it stands there. The file is well
+-- formed where nothing remains in the end.
 use mathlib.Core.Bool.{Bool, cond, _&&_}
 use mathlib.Core.List.{List, []}
 use Prim.Native.Nat.{ℕ, zero, suc, _+_, _-_}
@@ -28,18 +28,18 @@ size tag s = cond (stands tag s) (3 + lengthIn s) 0
 unfoldable pub holds : ℕ → List ℕ → List ℕ
 holds tag s = cond (stands tag s) (contentsIn s) []
 
--- what is left of a file after the fields of the tags up to this one
-unfoldable pub left : ℕ → List ℕ → List ℕ
-left zero file = file
-left (suc tag) file = drop (size (suc tag) (left tag file)) (left tag file)
+-- what remains of a file after the fields of the tags up to this one
+unfoldable pub remaining : ℕ → List ℕ → List ℕ
+remaining zero file = file
+remaining (suc tag) file = drop (size (suc tag) (remaining tag file)) (remaining tag file)
 
--- at most 65,536 bytes, and nothing left over
+-- at most 65,536 bytes, and nothing remains
 unfoldable pub wellFormed : List ℕ → Bool
-wellFormed file = leb (length file) 65536 && eqb (length (left 5 file)) 0
+wellFormed file = leb (length file) 65536 && eqb (length (remaining 5 file)) 0
 
 -- the contents of the field of a tag; none, where it is absent or the file is malformed
 unfoldable pub contentsOf : ℕ → List ℕ → List ℕ
-contentsOf tag file = cond (wellFormed file) (holds tag (left (tag - 1) file)) []
+contentsOf tag file = cond (wellFormed file) (holds tag (remaining (tag - 1) file)) []
 
 abbrev pub codeOf : List ℕ → List ℕ
 codeOf file = contentsOf 1 file
@@ -60,16 +60,16 @@ marksOf file = contentsOf 5 file
 abbrev pub malformed : ℕ
 malformed = 13
 
--- what the reading of a file comes to: well formed, with its marks; or refused, with the refusal's number
-pub data Outcome : Type 0 where
-  wellFormedWith : ℕ → Outcome
-  refusedWith : ℕ → Outcome
+-- what the parsing of a file comes to: well formed, with its marks; or refused, with the refusal's number
+pub data Parsed : Type 0 where
+  wellFormedWith : ℕ → Parsed
+  refusedWith : ℕ → Parsed
 
 -- the marks of a well-formed file, 0 where they are absent
-unfoldable pub pageOf : List ℕ → Outcome
+unfoldable pub pageOf : List ℕ → Parsed
 pageOf file = cond (wellFormed file) (wellFormedWith (getD (marksOf file) 0 0)) (refusedWith malformed)
 
 -- the paper's answer for each case of the code's
-abbrev pub paperOfPage : Page → Outcome
+abbrev pub paperOfPage : Page → Parsed
 paperOfPage (WellFormed marks) = wellFormedWith marks
 paperOfPage (Refused number) = refusedWith number

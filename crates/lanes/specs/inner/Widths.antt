@@ -1,0 +1,11 @@
+-- Which lanes lie in a register, and which widths fill it.
+use mathlib.Core.Path.{_≡_}
+use Prim.Native.Nat.{ℕ, _+_, _*_, _/_, _≤_}
+
+-- lane i lies in the register
+abbrev pub Within : ℕ → ℕ → Type 0
+Within w i = (1 ≤ w) × (w + w * i ≤ 64)
+
+-- lanes of at most 32 bits that fill the register
+abbrev pub Fills : ℕ → Type 0
+Fills w = (1 ≤ w) × (w ≤ 32) × (w * (64 / w) ≡ 64)

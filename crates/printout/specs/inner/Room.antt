@@ -1,0 +1,26 @@
+-- Whether a text has room at a place of a buffer, and what putting it there leaves.
+use mathlib.Core.Path.{_≡_}
+use mathlib.Core.List.{List}
+use Prim.Native.Nat.{ℕ, _+_, _*_, _≤_}
+use lib.ListN.{length}
+use lib.Seq.{sets}
+use Rattle.machine.specs.declared.End.{End}
+use Rattle.printout.specs.Lines.{firstLine, memoryLine}
+
+-- the buffer with a text from a place on
+unfoldable pub put : List ℕ → ℕ → List ℕ → List ℕ
+put buffer at text = sets buffer at text
+
+-- a text has room at a place of a buffer
+pub record Fits (text : List ℕ) (at : ℕ) (buffer : List ℕ) : Type 0 where
+  pub room : at + length text ≤ length buffer
+
+-- a text is put at a place of a buffer: where it ends, and what the buffer is then
+pub record Puts (text : List ℕ) (at : ℕ) (buffer : List ℕ) (end : ℕ) (after : List ℕ) : Type 0 where
+  pub ends : end ≡ at + length text
+  pub content : after ≡ put buffer at text
+
+-- how long a report with n bytes of memory is: 8 lines of 21 characters, 8 of 13 and one of 11 stand between its first line and the memory's heading
+abbrev pub reportLength : End → ℕ → ℕ → ℕ → ℕ
+reportLength ending count position n =
+    length (firstLine ending count position) + (8 * 21 + 8 * 13 + 11) + length (memoryLine n) + 3 * n
