@@ -22,10 +22,7 @@ use Rattle.manual.specs.Addresses.{Address, address}
 use Rattle.manual.specs.Locations.{Location, mmxRegister, integerRegister, memory, bytesFrom, fits, placesOf}
 use Rattle.manual.specs.Effects.{Effect, width, valueIn, contentsOf, unlessMarked, planOn, placed, directly, perform as performs}
 use Rattle.manual.specs.Instructions.{both, move}
-
--- the marks with these control marks
-abbrev pub controlled : Marks → Bool → Bool → Bool → Marks
-controlled marks em ts pending = record { valid = marks .valid; em = em; ts = ts; pending = pending }
+use Rattle.manual.proofs.Marking.{controlled}
 
 -- what holds of every refusal, and of what follows the test of the control marks, holds of both
 pub by-marks : {A B : Type 0} (P : Result A → Result B → Type 0) → ((n : ℕ) → P (refused n) (refused n)) → (marks : Marks) (a : Result A) (b : Result B)
