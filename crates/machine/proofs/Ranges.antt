@@ -24,7 +24,8 @@ use Rattle.manual.specs.Addresses.{address}
 use Rattle.manual.specs.Locations.{Location, mmxRegister, integerRegister, memory, rmOf, regOf, bytesFrom, fits, placesOf}
 use Rattle.manual.specs.Effects.{addressRegistersOf, unlessMarked, planOn, via, footprintOf}
 use Rattle.manual.specs.Instructions.{both, move, bare, whole, lowHalf, shiftBy, shiftOf, effectBy, effectAt, footprint}
-use Rattle.manual.proofs.Direct.{by-marks, one}
+use Rattle.manual.proofs.Marking.{by-marks}
+use Rattle.manual.proofs.Direct.{one}
 use Rattle.machine.specs.Prints.{bytesOf}
 
 -- the numbers of the list are those from its first one on, as many as there are
