@@ -23,7 +23,7 @@ use Rattle.manual.specs.Effects.{Effect, unlessMarked, via}
 use Rattle.manual.specs.Instructions.{effectOf, footprint}
 use Rattle.manual.specs.Steps.{instructionAt}
 use Rattle.manual.specs.Footprints.{footprintAt}
-use Rattle.manual.proofs.Direct.{past-marks}
+use Rattle.manual.proofs.Marking.{past-marks}
 use Rattle.machine.specs.declared.Machine.{Machine}
 use Rattle.machine.specs.declared.Printed.{Printed}
 use Rattle.machine.specs.State.{stateOf}

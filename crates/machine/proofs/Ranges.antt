@@ -26,7 +26,8 @@ use Rattle.manual.specs.Addresses.{address}
 use Rattle.manual.specs.Locations.{Location, mmxRegister, integerRegister, memory, rmOf, bytesFrom, fits, placesOf}
 use Rattle.manual.specs.Effects.{addressRegistersOf, unlessMarked, planOn, via, footprintOf}
 use Rattle.manual.specs.Instructions.{effectBy, effectOf, footprint}
-use Rattle.manual.proofs.Direct.{both, move, bare, by-marks, one}
+use Rattle.manual.proofs.Marking.{by-marks}
+use Rattle.manual.proofs.Direct.{both, move, bare, one}
 use Rattle.machine.proofs.Numbering.{TwoOperands, is-storeD, is-loadD, is-storeQ, is-usualD, is-loadQ, is-usual, two-operands}
 use Rattle.machine.specs.Prints.{bytesOf}
 

@@ -10,7 +10,7 @@ use Rattle.reorder.specs.Result.{Result, refused}
 use Rattle.manual.specs.declared.Marks.{Marks}
 use Rattle.manual.specs.Refusals.{invalidOpcode, notAvailable, isPending}
 use Rattle.manual.specs.Effects.{unlessMarked}
-use Rattle.manual.proofs.Direct.{controlled}
+use Rattle.manual.proofs.Marking.{controlled}
 use Rattle.machine.specs.Works.{barredBy}
 
 module _ (marks : Marks) where

@@ -8,20 +8,20 @@ use native.Mathlib.Omega.{arith}
 use lib.ListN.{length, getD, take}
 use lib.Seq.{sets, take-all}
 use Rattle.words.specs.Number.{number, bytes}
-use Rattle.words.specs.Bytewise.{gets}
+use Rattle.words.specs.inner.Bytewise.{gets}
 use Rattle.words.proofs.Laws.{length-gets}
 use Rattle.reorder.specs.Result.{Result, done, refused, andThen, mapResult}
 use Rattle.reorder.specs.Plan.{looks, puts, perform}
+use Rattle.codec.specs.declared.Kind.{Kind}
 use Rattle.codec.specs.declared.Kind.the-variants.{Ordinary}
-use Rattle.manual.specs.declared.Marks.{Marks}
-use Rattle.manual.specs.Refusals.{invalidOpcode, notAvailable, isPending, outsideMemory}
+use Rattle.manual.specs.Refusals.{outsideMemory}
 use Rattle.manual.specs.State.{State, withMemory}
 use Rattle.manual.specs.Places.{Place, mmx, integer, byte, look, put}
 use Rattle.manual.specs.Kinds.{marked}
 use Rattle.manual.specs.Addresses.{Address, address}
 use Rattle.manual.specs.Locations.{Location, mmxRegister, integerRegister, memory, bytesFrom, fits, placesOf}
 use Rattle.manual.specs.Effects.{Effect, width, valueIn, contentsOf, unlessMarked, planOn, placed, directly, perform as performs}
-use Rattle.codec.specs.declared.Kind.{Kind}
+use Rattle.manual.proofs.Marking.{past-marks}
 
 -- the destination becomes a number made from the destination and the source
 abbrev pub both : (ℕ → ℕ → ℕ) → Location → Location → Effect
@@ -46,26 +46,6 @@ move f destination source =
 -- no operand
 abbrev pub bare : Kind → Effect
 bare kind = record { takes = []; gives = []; value = λ values. done []; kind = kind }
-
--- the marks with these control marks
-abbrev pub controlled : Marks → Bool → Bool → Bool → Marks
-controlled marks em ts pending = record { valid = marks .valid; em = em; ts = ts; pending = pending }
-
--- what holds of every refusal, and of what follows the test of the control marks, holds of both
-pub by-marks : {A B : Type 0} (P : Result A → Result B → Type 0) → ((n : ℕ) → P (refused n) (refused n)) → (marks : Marks) (a : Result A) (b : Result B)
-    → P a b → P (unlessMarked marks a) (unlessMarked marks b)
-by-marks P kept marks a b h = tests (marks .em) (marks .ts) (marks .pending)
-  where
-    tests : (em ts pending : Bool) → let tested = controlled marks em ts pending in P (unlessMarked tested a) (unlessMarked tested b)
-    tests true ts pending = kept invalidOpcode
-    tests false true pending = kept notAvailable
-    tests false false true = kept isPending
-    tests false false false = h
-
--- what keeps every refusal keeps those of the control marks
-pub past-marks : {A B : Type 0} (f : Result A → Result B) → ((n : ℕ) → f (refused n) ≡ refused n) → (marks : Marks) (o : Result A)
-    → f (unlessMarked marks o) ≡ unlessMarked marks (f o)
-past-marks f kept marks o = by-marks (λ a b. f a ≡ b) kept marks o (f o) refl
 
 -- the places of a list of one operand
 abbrev pub one : Result (List Place) → Result (List Place)

@@ -9,8 +9,7 @@ use Rattle.reorder.specs.Run.{Answer, finished, spent, stopped}
 use Rattle.manual.specs.State.{State}
 use Rattle.manual.specs.Steps.{Outcome, completed, refusedWith, stepAt}
 use Rattle.manual.specs.Runs.{runOf}
-use Rattle.manual.proofs.Direct.{controlled}
-use Rattle.manual.proofs.Plates.{clear}
+use Rattle.manual.proofs.Marking.{controlled, clear}
 
 -- the bytes 10 to 17 hex in the memory, all ones in MM0, these numbers in EAX and ECX, 4 in ESP and EBP, the tag mark empty, and these control marks
 abbrev start : ℕ → ℕ → Bool → Bool → Bool → State

@@ -22,7 +22,7 @@ use Rattle.manual.specs.Effects.{placesOfAll, planOn, directly, plan, un
 use Rattle.manual.specs.Instructions.{effectOf, execute}
 use Rattle.manual.specs.Steps.{refusedWith, resultOf, concluded, instructionAt, stepAt}
 use Rattle.manual.specs.Reasons.{Stands, Outside, Reason, one, reading, seven, eight, nine, ten}
-use Rattle.manual.proofs.Direct.{controlled}
+use Rattle.manual.proofs.Marking.{controlled}
 
 -- Operands: the only refusal is 10, and it is given exactly where one of them is outside
 

@@ -4,7 +4,7 @@ use mathlib.Core.List.{List, [], _∷_, _++_}
 use Prim.Native.Nat.{ℕ}
 use lib.ListN.{replicate}
 use Rattle.manual.specs.State.{State}
-use Rattle.manual.proofs.Plates.{clear}
+use Rattle.manual.proofs.Marking.{clear}
 
 abbrev pub block : List ℕ
 block =

@@ -10,7 +10,7 @@ use Rattle.codec.specs.declared.Kind.the-variants.{Ordinary, Emms}
 use Rattle.manual.specs.State.{State}
 use Rattle.manual.specs.Places.{Place, mmx, integer}
 use Rattle.manual.specs.Locations.{bytesFrom}
-use Rattle.manual.proofs.Plates.{clear}
+use Rattle.manual.proofs.Marking.{clear}
 
 -- 8 in EAX, 2 in ECX, and 32 bytes of memory
 abbrev pub here : State

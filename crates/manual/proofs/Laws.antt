@@ -15,8 +15,8 @@ use Rattle.manual.specs.Kinds.{marked, KindsMeet}
 use Rattle.manual.specs.Addresses.{Address, registerPart, address, registersOf, addressRegisters}
 use Rattle.manual.specs.Locations.{Location, mmxRegister, integerRegister, memory, tested, placesOf, registersBehind}
 use Rattle.manual.specs.Effects.{placesOfAll, registersBehindAll, addressRegistersOf, unlessMarked, planOn, plan, via}
-use Rattle.manual.proofs.Direct.{controlled}
 use Rattle.manual.proofs.Lists.{set-same, set-alike}
+use Rattle.manual.proofs.Marking.{controlled}
 
 look-other : (s : State) (p q : Place) (v : ℕ) → (p ≡ q → ⊥) → look (put s p v) q ≡ look s q
 look-other s (mmx i) (mmx j) v n = getD-set-other (s .mmx) i j v 0 (λ e. n (ap mmx (sym e)))

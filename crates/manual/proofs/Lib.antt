@@ -1,6 +1,7 @@
 -- The laws of the manual's rules: the places obey the laws of lists, reading is local, and so demand 3; a run is its steps; what refusals keep;
 -- what a footprint says, and which meet; the manual's headings; examples that the definitions compute.
 pub mod Lists
+pub mod Marking
 pub mod Laws
 pub mod Locality
 pub mod Turns

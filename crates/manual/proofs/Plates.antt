@@ -5,13 +5,9 @@ use Prim.Native.Nat.{ℕ}
 use lib.Dec.{eqb}
 use lib.ListN.{getD, replicate}
 use Rattle.reorder.specs.Run.{Answer, finished, spent, stopped}
-use Rattle.manual.specs.declared.Marks.{Marks}
 use Rattle.manual.specs.State.{State}
 use Rattle.manual.specs.Runs.{runOf}
-
--- the tag mark, and no control mark
-abbrev pub clear : Bool → Marks
-clear valid = record { valid = valid; em = false; ts = false; pending = false }
+use Rattle.manual.proofs.Marking.{clear}
 
 -- two numbers in MM0 and MM1, the tag mark, and nothing else
 abbrev pub start : ℕ → ℕ → Bool → State

@@ -27,7 +27,8 @@ use Rattle.manual.specs.Instructions.{effectBy, effectOf, execute, footp
 use Rattle.manual.specs.Steps.{Outcome, completed, refusedWith, concluded, instructionAt, stepAt}
 use Rattle.manual.specs.Footprints.{footprintAt}
 use Rattle.manual.proofs.Laws.{laws, local}
-use Rattle.manual.proofs.Direct.{bare, by-marks, marks-first}
+use Rattle.manual.proofs.Marking.{by-marks}
+use Rattle.manual.proofs.Direct.{bare, marks-first}
 
 -- the places whose contents an instruction goes by in a state, whether it is refused or not
 abbrev pub askedBy : Instruction → State → List Place

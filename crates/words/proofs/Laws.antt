@@ -12,7 +12,7 @@ use lib.ListN.{length, getD, set, take, drop}
 use lib.Seq.{sets, sets-eq, drop-cons}
 use Rattle.words.specs.Number.{AllBytes, number, bytes}
 use Rattle.words.specs.Buffer.{inside, loaded, stored}
-use Rattle.words.specs.Bytewise.{gets}
+use Rattle.words.specs.inner.Bytewise.{gets}
 use Rattle.words.proofs.Numbers.{length-bytes, number-below}
 
 -- two tests in one, and what is so where a test holds

@@ -15,7 +15,7 @@ use mir.Syntax.{w8}
 use mir.Val.{Fits}
 use Rattle.words.specs.Number.{number, bytes}
 use Rattle.words.specs.Buffer.{inside, loaded, stored}
-use Rattle.words.specs.Bytewise.{gets}
+use Rattle.words.specs.inner.Bytewise.{gets}
 use Rattle.words.proofs.Laws.{inside-true, gets-below, loaded-bytewise, stored-bytewise}
 
 -- the test of a place, without the sum

@@ -1,4 +1,4 @@
--- The definitions: a number and its bytes, a number in a buffer, a buffer byte by byte.
+-- The definitions: a number and its bytes, a number in a buffer; then the words of private contracts.
 pub mod Number
 pub mod Buffer
-pub mod Bytewise
+pub mod inner

@@ -6,7 +6,7 @@ ghost use lib.ListN.{length};
 ghost use lib.Seq.{sets};
 ghost use Rattle.words.specs.Number.{number, bytes};
 ghost use Rattle.words.specs.Buffer.{inside, loaded, stored};
-ghost use Rattle.words.specs.Bytewise.{gets};
+ghost use Rattle.words.specs.inner.Bytewise.{gets};
 
 // The bytes of a quadword, the most that a number has.
 const QUADWORD: usize = 8;

@@ -3,7 +3,7 @@ use mathlib.Core.Path.{_≡_}
 use Prim.Native.Nat.{_+_, _-_, _≤_}
 use mir.Facts.{fits-8-64}
 use Rattle.words.specs.Number.{number}
-use Rattle.words.specs.Bytewise.{gets}
+use Rattle.words.specs.inner.Bytewise.{gets}
 use Rattle.words.proofs.Placing.{passing}
 use Rattle.words.proofs.load_bytes.Statement.{statement}
 use Rattle.words.proofs.load_bytes.Tie as tie
