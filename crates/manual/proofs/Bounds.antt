@@ -73,22 +73,22 @@ Bounded code budget start (spent at count t) = Bounds code budget start at count
 Bounded code budget start (stopped n at count t) = (n ≤ 10) × Bounds code budget start at count t
 
 module _ (code : List ℕ) (code-fits : ltb longestCode (length code) ≡ false) (budget : ℕ) (start : State) where
-  from : (left at count : ℕ) (s : State) → count + left ≤ budget → isTooLong (s .memory) ≡ false → Bounds code budget start at count s
-      → Bounded code budget start (runFrom read execute left code at count s)
+  from : (remaining at count : ℕ) (s : State) → count + remaining ≤ budget → isTooLong (s .memory) ≡ false → Bounds code budget start at count s
+      → Bounded code budget start (runFrom read execute remaining code at count s)
   from zero at count s most fits b = at-end (eqb at (length code))
     where
       at-end : (t : Bool) → Bounded code budget start (cond t (finished at count s) (spent at count s))
       at-end true = b
       at-end false = b
-  from (suc left) at count s most fits b =
-      at-end (eqb at (length code)) refl (λ at′ u fits′ b′. from left at′ (suc count) u (omega arith) fits′ b′)
+  from (suc remaining) at count s most fits b =
+      at-end (eqb at (length code)) refl (λ at′ u fits′ b′. from remaining at′ (suc count) u (omega arith) fits′ b′)
     where
       Further : Type 0
       Further =
           (at′ : ℕ) (u : State) → isTooLong (u .memory) ≡ false → Bounds code budget start at′ (suc count) u
-          → Bounded code budget start (runFrom read execute left code at′ (suc count) u)
+          → Bounded code budget start (runFrom read execute remaining code at′ (suc count) u)
 
-      stepping : (o : Outcome) → stepAt code at s ≡ o → Further → Bounded code budget start (onward (runFrom read execute left code) count o)
+      stepping : (o : Outcome) → stepAt code at s ≡ o → Further → Bounded code budget start (onward (runFrom read execute remaining code) count o)
       stepping (refusedWith n at′ u) e further =
           let (same-at, same-state) = refused-step code at n at′ s u e in
           let given : stepAt code at s ≡ refusedWith n at s = cc in (
@@ -104,9 +104,9 @@ module _ (code : List ℕ) (code-fits : ltb longestCode (length code) ≡ false)
           further at′ u (ap (λ (f : Frozen). ltb longestMemory (f .memory)) same ∙ fits)
           (record { position = step-within code code-fits at at′ s u fits e; completed-steps = omega arith; kept = same ∙ b .kept })
 
-      at-end : (t : Bool) → eqb at (length code) ≡ t → Further → Bounded code budget start (runFrom read execute (suc left) code at count s)
+      at-end : (t : Bool) → eqb at (length code) ≡ t → Further → Bounded code budget start (runFrom read execute (suc remaining) code at count s)
       at-end true e further = rw e b
-      at-end false e further = subst (Bounded code budget start) (sym (turn code at s fits code-fits left count e)) (stepping (stepAt code at s) refl further)
+      at-end false e further = subst (Bounded code budget start) (sym (turn code at s fits code-fits remaining count e)) (stepping (stepAt code at s) refl further)
 
 pub run-bounded : (code : List ℕ) (budget : ℕ) (s : State) → Bounded code budget s (runOf code budget s)
 unfolding runOf

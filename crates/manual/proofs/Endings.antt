@@ -30,15 +30,15 @@ Halved (finished at count t) = 2 * count ≤ at
 Halved (spent at count t) = 2 * count ≤ at
 Halved (stopped n at count t) = 2 * count ≤ at
 
-halved : (code : List ℕ) (left at count : ℕ) (s : State) → 2 * count ≤ at → Halved (runFrom read execute left code at count s)
+halved : (code : List ℕ) (remaining at count : ℕ) (s : State) → 2 * count ≤ at → Halved (runFrom read execute remaining code at count s)
 halved code =
-    by-turns read execute code (λ left at count s a. 2 * count ≤ at → Halved a)
+    by-turns read execute code (λ remaining at count s a. 2 * count ≤ at → Halved a)
     (record {
-      ends = λ left at count s e h. h;
+      ends = λ remaining at count s e h. h;
       spends = λ at count s e h. h;
-      unread = λ left at count n s e er h. h;
-      unexecuted = λ left at count n s r e er eo h. h;
-      turns = λ left at count s t r a e er eo rest h. rest (omega (arith, h, local (drop at code) r er .two));
+      unread = λ remaining at count n s e er h. h;
+      unexecuted = λ remaining at count n s r e er eo h. h;
+      turns = λ remaining at count s t r a e er eo rest h. rest (omega (arith, h, local (drop at code) r er .two));
     })
 
 module _ (code : List ℕ) (budget : ℕ) (s : State) where

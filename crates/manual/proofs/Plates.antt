@@ -15,10 +15,10 @@ start destination source valid =
     record { mmx = destination ∷ source ∷ replicate 6 0; integers = replicate 8 0; marks = clear valid; memory = [] }
 
 -- done after one instruction, with this in MM0
-abbrev left : Answer State → ℕ → Bool
-left (finished at count t) result = eqb count 1 && eqb (getD (t .mmx) 0 0) result
-left (spent at count t) result = false
-left (stopped n at count t) result = false
+abbrev leaves : Answer State → ℕ → Bool
+leaves (finished at count t) result = eqb count 1 && eqb (getD (t .mmx) 0 0) result
+leaves (spent at count t) result = false
+leaves (stopped n at count t) result = false
 
 -- refused at the start by this number
 abbrev stoppedBy : Answer State → ℕ → Bool
@@ -28,7 +28,7 @@ stoppedBy (stopped n at count t) number = eqb n number && eqb at 0 && eqb count 
 
 -- bytes, destination, source, what is left
 abbrev plate : List ℕ → ℕ → ℕ → ℕ → Bool
-plate code destination source result = left (runOf code 4096 (start destination source false)) result
+plate code destination source result = leaves (runOf code 4096 (start destination source false)) result
 
 abbrev pub plates : List Bool
 plates =

@@ -69,22 +69,22 @@ module _ (code : List ℕ) (code-fits : ltb longestCode (length code) ≡ false)
   Kept at count s =
       (count ≤ total) × (runFrom read execute (total - count) code at count s ≡ spent end total t) × (stepAt code end t ≡ refusedWith n end t)
 
-  kept : (left at count : ℕ) (s : State) → isTooLong (s .memory) ≡ false
-      → runFrom read execute left code at count s ≡ stopped n end total t → Kept at count s
+  kept : (remaining at count : ℕ) (s : State) → isTooLong (s .memory) ≡ false
+      → runFrom read execute remaining code at count s ≡ stopped n end total t → Kept at count s
   kept zero at count s fits h = at-end (eqb at (length code)) h
     where
       at-end : (b : Bool) → cond b (finished at count s) (spent at count s) ≡ stopped n end total t → Kept at count s
       at-end true h = absurd (false≢true (cc))
       at-end false h = absurd (false≢true (cc))
-  kept (suc left) at count s fits h =
-      at-end (eqb at (length code)) refl (λ at′ u fits′. kept left at′ (suc count) u fits′) h
+  kept (suc remaining) at count s fits h =
+      at-end (eqb at (length code)) refl (λ at′ u fits′. kept remaining at′ (suc count) u fits′) h
     where
       Further : Type 0
       Further =
-          (at′ : ℕ) (u : State) → isTooLong (u .memory) ≡ false → runFrom read execute left code at′ (suc count) u ≡ stopped n end total t → Kept at′ (suc count) u
+          (at′ : ℕ) (u : State) → isTooLong (u .memory) ≡ false → runFrom read execute remaining code at′ (suc count) u ≡ stopped n end total t → Kept at′ (suc count) u
 
       stepping : eqb at (length code) ≡ false → (o : Outcome) → stepAt code at s ≡ o → Further
-          → onward (runFrom read execute left code) count o ≡ stopped n end total t → Kept at count s
+          → onward (runFrom read execute remaining code) count o ≡ stopped n end total t → Kept at count s
       stepping more (refusedWith m at′ u) e further h =
           let (same-at, same-state) = refused-step code at m at′ s u e in
           let all : count ≡ total = cc in
@@ -102,10 +102,10 @@ module _ (code : List ℕ) (code-fits : ltb longestCode (length code) ≡ false)
             last,
           )
 
-      at-end : (b : Bool) → eqb at (length code) ≡ b → Further → runFrom read execute (suc left) code at count s ≡ stopped n end total t → Kept at count s
+      at-end : (b : Bool) → eqb at (length code) ≡ b → Further → runFrom read execute (suc remaining) code at count s ≡ stopped n end total t → Kept at count s
       at-end true e further h = let over : finished at count s ≡ stopped n end total t = simp e at h in absurd (false≢true (cc))
       at-end false e further h =
-          stepping e (stepAt code at s) refl further (sym (turn code at s fits code-fits left count e) ∙ h)
+          stepping e (stepAt code at s) refl further (sym (turn code at s fits code-fits remaining count e) ∙ h)
 
 -- "A refused run keeps what earlier instructions did": it has come to a step that is refused, in the state that a run with just the budget of
 -- those instructions leaves; or it was refused at its start, and nothing has changed.

@@ -26,21 +26,21 @@ module _ (code : List ℕ) (at : ℕ) (s : State) (memory-fits : isTooLong (s .m
   instruction-here = simp (memory-fits, code-fits)
 
   -- a turn of the run is a step at its position
-  pub turn : (left count : ℕ) → eqb at (length code) ≡ false
-      → runFrom read execute (suc left) code at count s ≡ onward (runFrom read execute left code) count (stepAt code at s)
+  pub turn : (remaining count : ℕ) → eqb at (length code) ≡ false
+      → runFrom read execute (suc remaining) code at count s ≡ onward (runFrom read execute remaining code) count (stepAt code at s)
   unfolding stepAt
-  turn left count more = simp (more, instruction-here) (reading (read (drop at code)))
+  turn remaining count more = simp (more, instruction-here) (reading (read (drop at code)))
     where
       executing : (size : ℕ) (o : Result State)
-          → caseOf o (λ n. stopped n at count s) (λ t. runFrom read execute left code (at + size) (suc count) t)
-          ≡ onward (runFrom read execute left code) count (concluded at (at + size) s o)
+          → caseOf o (λ n. stopped n at count s) (λ t. runFrom read execute remaining code (at + size) (suc count) t)
+          ≡ onward (runFrom read execute remaining code) count (concluded at (at + size) s o)
       executing size (refused n) = refl
       executing size (done t) = refl
 
       reading : (o : Result (Fetched Instruction))
           → caseOf o (λ n. stopped n at count s)
-          (λ r. caseOf (execute (r .instruction) s) (λ n. stopped n at count s) (λ t. runFrom read execute left code (at + r .size) (suc count) t))
-          ≡ onward (runFrom read execute left code) count
+          (λ r. caseOf (execute (r .instruction) s) (λ n. stopped n at count s) (λ t. runFrom read execute remaining code (at + r .size) (suc count) t))
+          ≡ onward (runFrom read execute remaining code) count
           (caseOf o (λ n. refusedWith n at s) (λ r. concluded at (at + r .size) s (execute (r .instruction) s)))
       reading (refused n) = refl
       reading (done r) = executing (r .size) (execute (r .instruction) s)

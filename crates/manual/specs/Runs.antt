@@ -16,7 +16,7 @@ use Rattle.manual.specs.Steps.{resultOf}
 
 -- reading what is left of a code
 unfoldable pub read : List ℕ → Result (Fetched Instruction)
-read left = resultOf (readPart left)
+read rest = resultOf (readPart rest)
 
 -- 1 and 2 first; then, before each instruction: at the code's end done, with nothing left of the budget spent, else a step
 unfoldable pub runOf : List ℕ → ℕ → State → Answer State

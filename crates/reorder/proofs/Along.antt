@@ -67,9 +67,9 @@ module _ {S I F : Type 0} (read : List ℕ → Result (Fetched I)) (exec : I →
           go : Whole read (getD pieces k []) → Comes (flatten pieces) s k
           go (r, er, z) =
               let at = length (flatten (take k pieces)) in
-              let (runs, left, (u, does)) = spent-at read exec reader pieces k (flatten pieces) 0 0 s t (omega arith) refl whole completes b in
+              let (runs, remaining, (u, does)) = spent-at read exec reader pieces k (flatten pieces) 0 0 s t (omega arith) refl whole completes b in
               let here : drop at (flatten pieces) ≡ getD pieces k [] ++ flatten (drop (suc k) pieces) =
-              ap (λ (n : ℕ). drop n (flatten pieces)) (sym (zero-add at)) ∙ left ∙ flatten-at pieces k b in
+              ap (λ (n : ℕ). drop n (flatten pieces)) (sym (zero-add at)) ∙ remaining ∙ flatten-at pieces k b in
               let cuts : piecesOf read (flatten pieces) ≡ pieces = pieces-found read reader pieces whole in
               record {
                 at = at;

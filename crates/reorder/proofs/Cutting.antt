@@ -36,57 +36,57 @@ read-front read reader piece tail r e z =
 module _ {S I : Type 0} (read : List ℕ → Result (Fetched I)) (exec : I → S → Result S) (reader : LocalReader read) where
   -- what is left of the code is these whole pieces, whose row completes; each takes one of the budget
   abbrev pub Cut : List ℕ → ℕ → ℕ → ℕ → S → ℕ → ℕ → S → Type 0
-  Cut code left position count s end total t =
+  Cut code remaining position count s end total t =
       (pieces : List (List ℕ)) × (drop position code ≡ flatten pieces) × AllWhole read pieces × (execAll (onBytes read exec) pieces s ≡ done t)
-      × (total ≡ count + length pieces) × (length pieces ≤ left) × (end ≡ length code)
+      × (total ≡ count + length pieces) × (length pieces ≤ remaining) × (end ≡ length code)
 
   -- the step of a run
   abbrev step : ℕ → List ℕ → ℕ → ℕ → S → Answer S
-  step left code position count s =
+  step remaining code position count s =
       caseOf (read (drop position code)) (λ n. stopped n position count s)
       (λ r. caseOf (exec (r .instruction) s) (λ n. stopped n position count s)
-      (λ t. runFrom read exec left code (position + r .size) (suc count) t))
+      (λ t. runFrom read exec remaining code (position + r .size) (suc count) t))
 
   -- a step that reads r and comes to s₁
-  stepped : (left : ℕ) (code : List ℕ) (position count : ℕ) (s s₁ : S) (r : Fetched I) → read (drop position code) ≡ done r
-      → exec (r .instruction) s ≡ done s₁ → step left code position count s ≡ runFrom read exec left code (position + r .size) (suc count) s₁
-  stepped left code position count s s₁ r er es = simp (er, es)
+  stepped : (remaining : ℕ) (code : List ℕ) (position count : ℕ) (s s₁ : S) (r : Fetched I) → read (drop position code) ≡ done r
+      → exec (r .instruction) s ≡ done s₁ → step remaining code position count s ≡ runFrom read exec remaining code (position + r .size) (suc count) s₁
+  stepped remaining code position count s s₁ r er es = simp (er, es)
 
-  cut-end : (left : ℕ) (code : List ℕ) (position count : ℕ) (s : S) (end total : ℕ) (t : S) → position ≡ length code
-      → finished position count s ≡ finished end total t → Cut code left position count s end total t
+  cut-end : (remaining : ℕ) (code : List ℕ) (position count : ℕ) (s : S) (end total : ℕ) (t : S) → position ≡ length code
+      → finished position count s ≡ finished end total t → Cut code remaining position count s end total t
   unfolding flatten
-  cut-end left code position count s end total t e h =
+  cut-end remaining code position count s end total t e h =
       ([], ap (λ (n : ℕ). drop n code) e ∙ drop-length code, tt, ap done (cc), sym (add-zero count ∙ (cc)), omega arith, (cc))
 
   -- one step of a run that finishes, taken apart
   abbrev Stepped : ℕ → List ℕ → ℕ → ℕ → S → Answer S → Type 0
-  Stepped left code position count s a =
+  Stepped remaining code position count s a =
       (r : Fetched I) × (s₁ : S) × (read (drop position code) ≡ done r) × (exec (r .instruction) s ≡ done s₁)
-      × (runFrom read exec left code (position + r .size) (suc count) s₁ ≡ a)
+      × (runFrom read exec remaining code (position + r .size) (suc count) s₁ ≡ a)
 
-  step-apart : (left : ℕ) (code : List ℕ) (position count : ℕ) (s : S) (end total : ℕ) (t : S)
-      → step left code position count s ≡ finished end total t → Stepped left code position count s (finished end total t)
-  step-apart left code position count s end total t h = found (read (drop position code)) refl
+  step-apart : (remaining : ℕ) (code : List ℕ) (position count : ℕ) (s : S) (end total : ℕ) (t : S)
+      → step remaining code position count s ≡ finished end total t → Stepped remaining code position count s (finished end total t)
+  step-apart remaining code position count s end total t h = found (read (drop position code)) refl
     where
       ran : (r : Fetched I) → read (drop position code) ≡ done r → (o : Result S) → exec (r .instruction) s ≡ o
-          → Stepped left code position count s (finished end total t)
-      ran r er (done s₁) es = (r, s₁, er, es, sym (stepped left code position count s s₁ r er es) ∙ h)
+          → Stepped remaining code position count s (finished end total t)
+      ran r er (done s₁) es = (r, s₁, er, es, sym (stepped remaining code position count s s₁ r er es) ∙ h)
       ran r er (refused n) es =
           let z : stopped n position count s ≡ finished end total t = simp (er, es) at h in
           absurd (false≢true (cc))
 
-      found : (o : Result (Fetched I)) → read (drop position code) ≡ o → Stepped left code position count s (finished end total t)
+      found : (o : Result (Fetched I)) → read (drop position code) ≡ o → Stepped remaining code position count s (finished end total t)
       found (done r) er = ran r er (exec (r .instruction) s) refl
       found (refused n) er =
           let z : stopped n position count s ≡ finished end total t = simp er at h in
           absurd (false≢true (cc))
 
-  cut-step : (left : ℕ) (code : List ℕ) (position count : ℕ) (s : S) (end total : ℕ) (t : S) → position ≤ length code
-      → ((position′ count′ : ℕ) (s′ : S) → position′ ≤ length code → runFrom read exec left code position′ count′ s′ ≡ finished end total t
-      → Cut code left position′ count′ s′ end total t)
-      → Stepped left code position count s (finished end total t) → Cut code (suc left) position count s end total t
+  cut-step : (remaining : ℕ) (code : List ℕ) (position count : ℕ) (s : S) (end total : ℕ) (t : S) → position ≤ length code
+      → ((position′ count′ : ℕ) (s′ : S) → position′ ≤ length code → runFrom read exec remaining code position′ count′ s′ ≡ finished end total t
+      → Cut code remaining position′ count′ s′ end total t)
+      → Stepped remaining code position count s (finished end total t) → Cut code (suc remaining) position count s end total t
   unfolding flatten
-  cut-step left code position count s end total t l rest (r, s₁, er, es, ran) =
+  cut-step remaining code position count s end total t l rest (r, s₁, er, es, ran) =
       let n : ℕ = r .size in
       let bytes : List ℕ = drop position code in
       let fits : n ≤ length bytes = reader .some-bytes bytes r er .1 in
@@ -103,8 +103,8 @@ module _ {S I : Type 0} (read : List ℕ → Result (Fetched I)) (exec : I → S
         p,
       )
 
-  pub cut : (left : ℕ) (code : List ℕ) (position count : ℕ) (s : S) (end total : ℕ) (t : S) → position ≤ length code
-      → runFrom read exec left code position count s ≡ finished end total t → Cut code left position count s end total t
+  pub cut : (remaining : ℕ) (code : List ℕ) (position count : ℕ) (s : S) (end total : ℕ) (t : S) → position ≤ length code
+      → runFrom read exec remaining code position count s ≡ finished end total t → Cut code remaining position count s end total t
   cut zero code position count s end total t l h = go (ℕ-discrete position (length code))
     where
       go : Dec (position ≡ length code) → Cut code zero position count s end total t
@@ -112,23 +112,23 @@ module _ {S I : Type 0} (read : List ℕ → Result (Fetched I)) (exec : I → S
       go (no e) =
           let z : spent position count s ≡ finished end total t = simp (ne-eqb _ _ e) at h in
           absurd (false≢true (cc))
-  cut (suc left) code position count s end total t l h =
-      go (λ position′ count′ s′. cut left code position′ count′ s′ end total t) (ℕ-discrete position (length code))
+  cut (suc remaining) code position count s end total t l h =
+      go (λ position′ count′ s′. cut remaining code position′ count′ s′ end total t) (ℕ-discrete position (length code))
     where
-      go : ((position′ count′ : ℕ) (s′ : S) → position′ ≤ length code → runFrom read exec left code position′ count′ s′ ≡ finished end total t
-          → Cut code left position′ count′ s′ end total t)
-          → Dec (position ≡ length code) → Cut code (suc left) position count s end total t
-      go rest (yes e) = cut-end (suc left) code position count s end total t e (simp (eq-eqb _ _ e) at h)
+      go : ((position′ count′ : ℕ) (s′ : S) → position′ ≤ length code → runFrom read exec remaining code position′ count′ s′ ≡ finished end total t
+          → Cut code remaining position′ count′ s′ end total t)
+          → Dec (position ≡ length code) → Cut code (suc remaining) position count s end total t
+      go rest (yes e) = cut-end (suc remaining) code position count s end total t e (simp (eq-eqb _ _ e) at h)
       go rest (no e) =
-          cut-step left code position count s end total t l rest
-          (step-apart left code position count s end total t (simp (ne-eqb _ _ e) at h))
+          cut-step remaining code position count s end total t l rest
+          (step-apart remaining code position count s end total t (simp (ne-eqb _ _ e) at h))
 
   -- a run over whole pieces whose row completes goes past the first of them
   pub record Past (piece : List ℕ) (pieces : List (List ℕ)) (code : List ℕ) (position count : ℕ) (s t : S) : Type 0 where
     pub state : S
     pub not-end : position ≡ length code → ⊥
     pub inside : position + length piece ≤ length code
-    pub left : drop (position + length piece) code ≡ flatten pieces
+    pub remaining : drop (position + length piece) code ≡ flatten pieces
     pub ran : onBytes read exec piece s ≡ done state
     pub rest : execAll (onBytes read exec) pieces state ≡ done t
     pub turn : (budget : ℕ) → runFrom read exec (suc budget) code position count s ≡ runFrom read exec budget code (position + length piece) (suc count) state
@@ -148,7 +148,7 @@ module _ {S I : Type 0} (read : List ℕ → Result (Fetched I)) (exec : I → S
         state = s₁;
         not-end = more;
         inside = omega arith;
-        left = sym (drop-drop (length piece) position code) ∙ ap (drop (length piece)) e ∙ drop-at piece (flatten pieces) (length piece) refl;
+        remaining = sym (drop-drop (length piece) position code) ∙ ap (drop (length piece)) e ∙ drop-at piece (flatten pieces) (length piece) refl;
         ran = ran;
         rest = rest;
         turn = λ budget. simp (ne-eqb _ _ more)
@@ -157,21 +157,21 @@ module _ {S I : Type 0} (read : List ℕ → Result (Fetched I)) (exec : I → S
       }
 
   -- the way back: whole pieces whose row completes are run to their end
-  pub joined : (pieces : List (List ℕ)) (left : ℕ) (code : List ℕ) (position count : ℕ) (s t : S) → position ≤ length code
-      → drop position code ≡ flatten pieces → AllWhole read pieces → execAll (onBytes read exec) pieces s ≡ done t → length pieces ≤ left
-      → runFrom read exec left code position count s ≡ finished (length code) (count + length pieces) t
+  pub joined : (pieces : List (List ℕ)) (remaining : ℕ) (code : List ℕ) (position count : ℕ) (s t : S) → position ≤ length code
+      → drop position code ≡ flatten pieces → AllWhole read pieces → execAll (onBytes read exec) pieces s ≡ done t → length pieces ≤ remaining
+      → runFrom read exec remaining code position count s ≡ finished (length code) (count + length pieces) t
   unfolding flatten
   joined [] zero code position count s t l e w h b =
       let z : position ≡ length code = omega (arith, simp length-drop at (ap length e)) in
       simp (eq-eqb _ _ z) (cc (z, add-zero count))
-  joined [] (suc left) code position count s t l e w h b =
+  joined [] (suc remaining) code position count s t l e w h b =
       let z : position ≡ length code = omega (arith, simp length-drop at (ap length e)) in
       simp (eq-eqb _ _ z) (cc (z, add-zero count))
   joined (piece ∷ pieces) zero code position count s t l e w h b = absurd (omega arith)
-  joined (piece ∷ pieces) (suc left) code position count s t l e (whole, w) h b =
+  joined (piece ∷ pieces) (suc remaining) code position count s t l e (whole, w) h b =
       let p = past piece pieces code position count s t l e whole h in
-      p .turn left
-      ∙ joined pieces left code (position + length piece) (suc count) (p .state) t (p .inside) (p .left) w (p .rest) (omega arith)
+      p .turn remaining
+      ∙ joined pieces remaining code (position + length piece) (suc count) (p .state) t (p .inside) (p .remaining) w (p .rest) (omega arith)
       ∙ ap (λ (n : ℕ). finished (length code) n t) (omega arith)
 
   -- a run of fewer instructions is spent at the piece that it has come to, in the state before it, and that piece completes
@@ -187,7 +187,7 @@ module _ {S I : Type 0} (read : List ℕ → Result (Fetched I)) (exec : I → S
       (simp (ne-eqb _ _ (p .not-end), add-zero), simp add-zero e, (p .state, p .ran))
   spent-at (piece ∷ pieces) (suc k) code position count s t l e (whole, w) h b =
       let p = past piece pieces code position count s t l e whole h in
-      let (runs, stands, completes) = spent-at pieces k code (position + length piece) (suc count) (p .state) t (p .inside) (p .left) w (p .rest) (omega arith) in
+      let (runs, stands, completes) = spent-at pieces k code (position + length piece) (suc count) (p .state) t (p .inside) (p .remaining) w (p .rest) (omega arith) in
       let same : position + length piece + length (flatten (take k pieces)) ≡ position + length (piece ++ flatten (take k pieces)) =
       omega (arith, length-append piece (flatten (take k pieces))) in
       let count-on : suc count + k ≡ count + suc k = omega arith in

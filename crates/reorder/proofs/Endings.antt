@@ -27,54 +27,54 @@ module _ {S I : Type 0} (read : List ℕ → Result (Fetched I)) (exec : I → S
   -- a property of runs (what is left of the budget, the position, the count, the state, the answer) that each way to end has, and that a turn
   -- hands back from the run after it
   pub record ByTurns (P : ℕ → ℕ → ℕ → S → Answer S → Type 0) : Type 0 where
-    pub ends : (left at count : ℕ) (s : S) → at ≡ length code → P left at count s (finished at count s)
+    pub ends : (remaining at count : ℕ) (s : S) → at ≡ length code → P remaining at count s (finished at count s)
     pub spends : (at count : ℕ) (s : S) → ¬ (at ≡ length code) → P zero at count s (spent at count s)
-    pub unread : (left at count n : ℕ) (s : S) → ¬ (at ≡ length code) → read (drop at code) ≡ refused n → P (suc left) at count s (stopped n at count s)
-    pub unexecuted : (left at count n : ℕ) (s : S) (r : Fetched I) → ¬ (at ≡ length code) → read (drop at code) ≡ done r → exec (r .instruction) s ≡ refused n
-        → P (suc left) at count s (stopped n at count s)
-    pub turns : (left at count : ℕ) (s t : S) (r : Fetched I) (a : Answer S) → ¬ (at ≡ length code) → read (drop at code) ≡ done r → exec (r .instruction) s ≡ done t
-        → P left (at + r .size) (suc count) t a → P (suc left) at count s a
+    pub unread : (remaining at count n : ℕ) (s : S) → ¬ (at ≡ length code) → read (drop at code) ≡ refused n → P (suc remaining) at count s (stopped n at count s)
+    pub unexecuted : (remaining at count n : ℕ) (s : S) (r : Fetched I) → ¬ (at ≡ length code) → read (drop at code) ≡ done r → exec (r .instruction) s ≡ refused n
+        → P (suc remaining) at count s (stopped n at count s)
+    pub turns : (remaining at count : ℕ) (s t : S) (r : Fetched I) (a : Answer S) → ¬ (at ≡ length code) → read (drop at code) ≡ done r → exec (r .instruction) s ≡ done t
+        → P remaining (at + r .size) (suc count) t a → P (suc remaining) at count s a
 
-  pub by-turns : (P : ℕ → ℕ → ℕ → S → Answer S → Type 0) → ByTurns P → (left at count : ℕ) (s : S) → P left at count s (runFrom read exec left code at count s)
+  pub by-turns : (P : ℕ → ℕ → ℕ → S → Answer S → Type 0) → ByTurns P → (remaining at count : ℕ) (s : S) → P remaining at count s (runFrom read exec remaining code at count s)
   by-turns P h zero at count s = go (ℕ-discrete at (length code))
     where
       go : Dec (at ≡ length code) → P zero at count s (runFrom read exec zero code at count s)
       go (yes e) = simp (eq-eqb _ _ e) (h .ends zero at count s e)
       go (no e) = simp (ne-eqb _ _ e) (h .spends at count s e)
-  by-turns P h (suc left) at count s = go (ℕ-discrete at (length code)) (by-turns P h left)
+  by-turns P h (suc remaining) at count s = go (ℕ-discrete at (length code)) (by-turns P h remaining)
     where
       Further : Type 0
-      Further = (at count : ℕ) (s : S) → P left at count s (runFrom read exec left code at count s)
+      Further = (at count : ℕ) (s : S) → P remaining at count s (runFrom read exec remaining code at count s)
 
       executing : ¬ (at ≡ length code) → Further → (r : Fetched I) → read (drop at code) ≡ done r → (o : Result S) → exec (r .instruction) s ≡ o
-          → P (suc left) at count s (runFrom read exec (suc left) code at count s)
-      executing e further r er (refused n) eo = simp (ne-eqb _ _ e, er, eo) (h .unexecuted left at count n s r e er eo)
-      executing e further r er (done t) eo = simp (ne-eqb _ _ e, er, eo) (h .turns left at count s t r _ e er eo (further (at + r .size) (suc count) t))
+          → P (suc remaining) at count s (runFrom read exec (suc remaining) code at count s)
+      executing e further r er (refused n) eo = simp (ne-eqb _ _ e, er, eo) (h .unexecuted remaining at count n s r e er eo)
+      executing e further r er (done t) eo = simp (ne-eqb _ _ e, er, eo) (h .turns remaining at count s t r _ e er eo (further (at + r .size) (suc count) t))
 
-      reading : ¬ (at ≡ length code) → Further → (o : Result (Fetched I)) → read (drop at code) ≡ o → P (suc left) at count s (runFrom read exec (suc left) code at count s)
-      reading e further (refused n) eo = simp (ne-eqb _ _ e, eo) (h .unread left at count n s e eo)
+      reading : ¬ (at ≡ length code) → Further → (o : Result (Fetched I)) → read (drop at code) ≡ o → P (suc remaining) at count s (runFrom read exec (suc remaining) code at count s)
+      reading e further (refused n) eo = simp (ne-eqb _ _ e, eo) (h .unread remaining at count n s e eo)
       reading e further (done r) eo = executing e further r eo (exec (r .instruction) s) refl
 
-      go : Dec (at ≡ length code) → Further → P (suc left) at count s (runFrom read exec (suc left) code at count s)
-      go (yes e) further = simp (eq-eqb _ _ e) (h .ends (suc left) at count s e)
+      go : Dec (at ≡ length code) → Further → P (suc remaining) at count s (runFrom read exec (suc remaining) code at count s)
+      go (yes e) further = simp (eq-eqb _ _ e) (h .ends (suc remaining) at count s e)
       go (no e) further = reading e further (read (drop at code)) refl
 
-  pub ends-well : (left at count : ℕ) (s : S) → EndsWell code (count + left) (runFrom read exec left code at count s)
+  pub ends-well : (remaining at count : ℕ) (s : S) → EndsWell code (count + remaining) (runFrom read exec remaining code at count s)
   ends-well =
-      by-turns (λ left at count s a. EndsWell code (count + left) a)
+      by-turns (λ remaining at count s a. EndsWell code (count + remaining) a)
       (record {
-        ends = λ left at count s e. e;
+        ends = λ remaining at count s e. e;
         spends = λ at count s e. (sym (add-zero count), e);
-        unread = λ left at count n s e er. tt;
-        unexecuted = λ left at count n s r e er eo. tt;
-        turns = λ left at count s t r a e er eo rest. subst (λ (most : ℕ). EndsWell code most a) (omega arith) rest;
+        unread = λ remaining at count n s e er. tt;
+        unexecuted = λ remaining at count n s r e er eo. tt;
+        turns = λ remaining at count s t r a e er eo rest. subst (λ (most : ℕ). EndsWell code most a) (omega arith) rest;
       })
 
   -- with more left of the budget the answer is the same
   abbrev Stays : ℕ → ℕ → ℕ → S → Answer S → Type 0
-  Stays left at count s a = (more : ℕ) → left ≤ more → Ended a → runFrom read exec more code at count s ≡ a
+  Stays remaining at count s a = (more : ℕ) → remaining ≤ more → Ended a → runFrom read exec more code at count s ≡ a
 
-  pub ended-stays : (left at count : ℕ) (s : S) → Stays left at count s (runFrom read exec left code at count s)
+  pub ended-stays : (remaining at count : ℕ) (s : S) → Stays remaining at count s (runFrom read exec remaining code at count s)
   ended-stays =
       by-turns Stays
       (record {
@@ -85,20 +85,20 @@ module _ {S I : Type 0} (read : List ℕ → Result (Fetched I)) (exec : I → S
         turns = further;
       })
     where
-      at-end : (left at count : ℕ) (s : S) → at ≡ length code → Stays left at count s (finished at count s)
-      at-end left at count s e zero b ended = simp (eq-eqb _ _ e)
-      at-end left at count s e (suc more) b ended = simp (eq-eqb _ _ e)
+      at-end : (remaining at count : ℕ) (s : S) → at ≡ length code → Stays remaining at count s (finished at count s)
+      at-end remaining at count s e zero b ended = simp (eq-eqb _ _ e)
+      at-end remaining at count s e (suc more) b ended = simp (eq-eqb _ _ e)
 
-      not-read : (left at count n : ℕ) (s : S) → ¬ (at ≡ length code) → read (drop at code) ≡ refused n → Stays (suc left) at count s (stopped n at count s)
-      not-read left at count n s e er zero b ended = absurd (omega arith)
-      not-read left at count n s e er (suc more) b ended = simp (ne-eqb _ _ e, er)
+      not-read : (remaining at count n : ℕ) (s : S) → ¬ (at ≡ length code) → read (drop at code) ≡ refused n → Stays (suc remaining) at count s (stopped n at count s)
+      not-read remaining at count n s e er zero b ended = absurd (omega arith)
+      not-read remaining at count n s e er (suc more) b ended = simp (ne-eqb _ _ e, er)
 
-      not-executed : (left at count n : ℕ) (s : S) (r : Fetched I) → ¬ (at ≡ length code) → read (drop at code) ≡ done r → exec (r .instruction) s ≡ refused n
-          → Stays (suc left) at count s (stopped n at count s)
-      not-executed left at count n s r e er eo zero b ended = absurd (omega arith)
-      not-executed left at count n s r e er eo (suc more) b ended = simp (ne-eqb _ _ e, er, eo)
+      not-executed : (remaining at count n : ℕ) (s : S) (r : Fetched I) → ¬ (at ≡ length code) → read (drop at code) ≡ done r → exec (r .instruction) s ≡ refused n
+          → Stays (suc remaining) at count s (stopped n at count s)
+      not-executed remaining at count n s r e er eo zero b ended = absurd (omega arith)
+      not-executed remaining at count n s r e er eo (suc more) b ended = simp (ne-eqb _ _ e, er, eo)
 
-      further : (left at count : ℕ) (s t : S) (r : Fetched I) (a : Answer S) → ¬ (at ≡ length code) → read (drop at code) ≡ done r → exec (r .instruction) s ≡ done t
-          → Stays left (at + r .size) (suc count) t a → Stays (suc left) at count s a
-      further left at count s t r a e er eo rest zero b ended = absurd (omega arith)
-      further left at count s t r a e er eo rest (suc more) b ended = simp (ne-eqb _ _ e, er, eo) (rest more (omega arith) ended)
+      further : (remaining at count : ℕ) (s t : S) (r : Fetched I) (a : Answer S) → ¬ (at ≡ length code) → read (drop at code) ≡ done r → exec (r .instruction) s ≡ done t
+          → Stays remaining (at + r .size) (suc count) t a → Stays (suc remaining) at count s a
+      further remaining at count s t r a e er eo rest zero b ended = absurd (omega arith)
+      further remaining at count s t r a e er eo rest (suc more) b ended = simp (ne-eqb _ _ e, er, eo) (rest more (omega arith) ended)

@@ -48,16 +48,16 @@ module _ {S P K Z I : Type 0} (look : S → P → ℕ) (put : S → P → ℕ �
   abbrev footprint : I → S → Result (Footprint P K)
   footprint = footprintBy look via plan
 
-  abbrev left : Plan P K → S → List ℕ → S
-  left = leaves put marked
+  abbrev after : Plan P K → S → List ℕ → S
+  after = leaves put marked
 
   -- after another step that writes nothing it goes by, and nothing frozen, a step does what it did
   unmoved : (b : I) (pa pb : Plan P K) (s : S) (vs : List ℕ) → Apart (pa .target) (via b) → Apart (pa .target) (pb .source)
-      → (plan b (left pa s vs) ≡ plan b s) × (looks look (left pa s vs) (pb .source) ≡ looks look s (pb .source))
+      → (plan b (after pa s vs) ≡ plan b s) × (looks look (after pa s vs) (pb .source) ≡ looks look s (pb .source))
   unmoved b pa pb s vs d e = (
-    local b (left pa s vs) s (leaves-frozen look put marked frozen KindsMeet laws pa s vs)
+    local b (after pa s vs) s (leaves-frozen look put marked frozen KindsMeet laws pa s vs)
         (λ p m. leaves-look look put marked frozen KindsMeet laws pa s vs p (λ x. d p x m)),
-    looks-alike look (left pa s vs) s (pb .source) (λ p m. leaves-look look put marked frozen KindsMeet laws pa s vs p (λ x. e p x m)),
+    looks-alike look (after pa s vs) s (pb .source) (λ p m. leaves-look look put marked frozen KindsMeet laws pa s vs p (λ x. e p x m)),
   )
 
   abbrev Swapped : I → I → S → S → S → Type 0
@@ -67,9 +67,9 @@ module _ {S P K Z I : Type 0} (look : S → P → ℕ) (put : S → P → ℕ �
   -- two plans that don't meet
   swapped : (a b : I) (s s₂ : S) (pa pb : Plan P K) (vs ws : List ℕ)
       → plan a s ≡ done pa → pa .make (looks look s (pa .source)) ≡ done vs
-      → plan b (left pa s vs) ≡ done pb → pb .make (looks look (left pa s vs) (pb .source)) ≡ done ws → s₂ ≡ left pb (left pa s vs) ws
+      → plan b (after pa s vs) ≡ done pb → pb .make (looks look (after pa s vs) (pb .source)) ≡ done ws → s₂ ≡ after pb (after pa s vs) ws
       → ¬ (KindsMeet (pa .kind) (pb .kind) ⊎ Share (footprintOf (via a) pa) (footprintOf (via b) pb))
-      → Swapped a b s (left pa s vs) s₂
+      → Swapped a b s (after pa s vs) s₂
   swapped a b s s₂ pa pb vs ws epa ema epb emb e₂ n =
       let ub = unmoved b pa pb s vs
       (λ p m x. n (inr (inl (p, m, inl (Memᴰ·append-left (pb .source) x)))))
@@ -78,20 +78,20 @@ module _ {S P K Z I : Type 0} (look : S → P → ℕ) (put : S → P → ℕ �
       (λ p m x. n (inr (inr (p, m, inl (Memᴰ·append-left (pa .source) x)))))
       (λ p m x. n (inr (inr (p, m, inl (Memᴰ·append-right (via a) x))))) in
       let fb = completes look put marked via plan b s pb ws (sym (ub .0) ∙ epb) (ap (pb .make) (sym (ub .1)) ∙ emb) in
-      let fa = completes look put marked via plan a (left pb s ws) pa vs (ua .0 ∙ epa) (ap (pa .make) (ua .1) ∙ ema) in (
-        left pb s ws,
+      let fa = completes look put marked via plan a (after pb s ws) pa vs (ua .0 ∙ epa) (ap (pa .make) (ua .1) ∙ ema) in (
+        after pb s ws,
         fb .0,
         fa .0 ∙ ap done (sym (leaves-comm look put marked frozen KindsMeet laws pa pb s vs ws (λ p m x. n (inr (inl (p, m, inr x)))) (λ k. n (inl k))) ∙ sym e₂),
-        fb .1 ∙ sym (completes look put marked via plan b (left pa s vs) pb ws epb emb .1),
+        fb .1 ∙ sym (completes look put marked via plan b (after pa s vs) pb ws epb emb .1),
         fa .1 ∙ sym (completes look put marked via plan a s pa vs epa ema .1),
       )
 
   pub swap : Swap S I (Result (Footprint P K)) exec footprint (Meets KindsMeet)
   swap a b s s₁ s₂ ea eb n =
       let (pa, vs, epa, ema, e₁) = completed look put marked via plan a s s₁ ea in
-      let eb′ : exec b (left pa s vs) ≡ done s₂ = subst (λ (t : S). exec b t ≡ done s₂) e₁ eb in
-      let (pb, ws, epb, emb, e₂) = completed look put marked via plan b (left pa s vs) s₂ eb′ in
+      let eb′ : exec b (after pa s vs) ≡ done s₂ = subst (λ (t : S). exec b t ≡ done s₂) e₁ eb in
+      let (pb, ws, epb, emb, e₂) = completed look put marked via plan b (after pa s vs) s₂ eb′ in
       subst (λ (t : S). Swapped a b s t s₂) (sym e₁)
       (swapped a b s s₂ pa pb vs ws epa ema epb emb e₂
       (λ m. n (subst (λ (t : S). Meets KindsMeet (footprint a s) (footprint b t)) (sym e₁)
-      (rw (completes look put marked via plan a s pa vs epa ema .1, completes look put marked via plan b (left pa s vs) pb ws epb emb .1) m))))
+      (rw (completes look put marked via plan a s pa vs epa ema .1, completes look put marked via plan b (after pa s vs) pb ws epb emb .1) m))))

@@ -34,11 +34,11 @@ module _ {S I : Type 0} (read : List ℕ → Result (Fetched I)) (exec : I → S
   abbrev pub runFrom : ℕ → List ℕ → ℕ → ℕ → S → Answer S
   runFrom zero code position count s =
       cond (eqb position (length code)) (finished position count s) (spent position count s)
-  runFrom (suc left) code position count s =
+  runFrom (suc remaining) code position count s =
       cond (eqb position (length code)) (finished position count s)
       (caseOf (read (drop position code)) (λ n. stopped n position count s)
       (λ found. caseOf (exec (found .instruction) s) (λ n. stopped n position count s)
-      (λ t. runFrom left code (position + found .size) (suc count) t)))
+      (λ t. runFrom remaining code (position + found .size) (suc count) t)))
 
   -- a run starts at position 0
   abbrev pub run : ℕ → List ℕ → S → Answer S

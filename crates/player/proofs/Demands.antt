@@ -1,0 +1,37 @@
+-- The customer's three demands in the letter's words, each sentence with the theorems that keep it.
+
+-- 1. "Every code block, register setting, lent memory and file gets an answer, and every call ends." No public function asks for anything, and a
+-- function that is proved ends; each contract allows one answer; and no text is cut.
+pub use Rattle.codec.proofs.Allowed.{table-one, read-from-one, read-one, write-one}
+pub use Rattle.machine.proofs.Allowed.{from-page-one, step-one, run-one, footprint-one, meets-one}
+pub use Rattle.pagefile.proofs.Allowed.{read-one as page-one, code-one, memory-one, mmx-registers-one, integer-registers-one}
+pub use Rattle.printout.proofs.Allowed.{buffer-one, report-one, refusal-one}
+pub use Rattle.player.proofs.Allowed.{play-one}
+pub use Rattle.player.proofs.Whole.{whole}
+-- "Bad input is refused by the numbers in document 01": 2 to 6 of reading, 11 and 12 of writing, 1 to 10 of a step, 13 of a file, each given exactly when
+-- document 01 says; and whichever function is asked, the number is the same.
+pub use Rattle.codec.proofs.Exactly.{reading-exactly, twelve-exactly}
+pub use Rattle.codec.proofs.Sixes.{six-in-words}
+pub use Rattle.codec.proofs.Theorems.{eleven-exactly}
+pub use Rattle.manual.proofs.Exactly.{step-exactly}
+pub use Rattle.machine.proofs.Agreeing.{reading-as-step, footprint-as-step, run-as-step}
+pub use Rattle.pagefile.proofs.Meaning.{thirteen-exactly}
+-- "A refused instruction changes no register, mark or memory byte; a refused run keeps what earlier instructions did."
+pub use Rattle.manual.proofs.Refusals.{refused-step, refused-run}
+-- 2. "Reading, writing and running agree with AMD's multimedia manual for all 47 of its instructions." The definitions are computed from the list of its
+-- headings, which is complete and says what document 01's table says.
+pub use Rattle.codec.proofs.Headings.{complete}
+pub use Rattle.codec.proofs.OpcodeBytes.{first-bytes, second-bytes}
+pub use Rattle.manual.proofs.OpcodeTable.{agrees}
+-- "Each instruction form has exactly the bytes the manual gives it, and those bytes give that form back."
+pub use Rattle.codec.proofs.Theorems.{read-writes-back, written-reads-back, reading-in-range}
+-- "Each completed step leaves exactly the registers, memory and tag mark the manual states": the contract of `Machine::step` is an equation with the
+-- definition; what the definition says of tags; and that a step goes by what its footprint reads and changes what it writes.
+pub use Rattle.manual.proofs.Uses.{tag-after, emms-leaves, goes-by-reads, changes-writes, footprint-exactly}
+-- 3. "Put its instructions in any other order that keeps, for each pair whose footprints meet in that run, the earlier one earlier. .. the new block also
+-- runs to its end, in as many instructions, and leaves exactly the registers, tag mark and memory." Over the definitions, and over calls of the
+-- program's own functions; such calls can be had; and which instructions meet.
+pub use Rattle.manual.proofs.Demand3.{demand-3, rearranged-parts}
+pub use Rattle.manual.proofs.Meeting.{meets-exactly, meeting-symmetric}
+pub use Rattle.machine.proofs.Positions.{meet-at}
+pub use Rattle.machine.proofs.Program.{demand-3-run, recorded}
