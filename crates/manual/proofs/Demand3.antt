@@ -33,7 +33,7 @@ use Rattle.manual.proofs.Laws.{laws, local}
 use Rattle.manual.proofs.Locality.{local-reader}
 use Rattle.manual.proofs.Turns.{instruction-here}
 use Rattle.manual.proofs.Bounds.{Bounds, Bounded, run-bounded}
-use Rattle.manual.proofs.Uses.{completes-printed}
+use Rattle.manual.proofs.Uses.{completes-footprint}
 
 -- two instructions that don't meet change places
 execute-swap : Swap State Instruction (Result (Footprint Place Kind)) execute footprint Meets
@@ -79,24 +79,24 @@ module _ (code : List ℕ) (budget end total : ℕ) (start final : State) (h : r
   ran-to k b = let (memory-fits, code-fits, ran) = fitting in simp (memory-fits, code-fits) (comes k b .ran)
 
   -- its footprint is that of piece k of the code
-  print-along : (k : ℕ) → k < total → footprintInRun code start k ≡ footprintInCode read execute footprint code start k
+  footprint-along : (k : ℕ) → k < total → footprintInRun code start k ≡ footprintInCode read execute footprint code start k
   unfolding footprintAt
-  print-along k b =
+  footprint-along k b =
       let (memory-fits, code-fits, ran) = fitting in
       let c = comes k b in
       let bounds : Bounds code k start (c .at) k (c .state) = subst (Bounded code k start) (ran-to k b) (run-bounded code k start) in
       let still-fits : isTooLong (c .state .memory) ≡ false = ap (λ (f : Frozen). ltb longestMemory (f .memory)) (bounds .kept) ∙ memory-fits in
       ap (λ a. footprintAt code (positionReached a) (stateReached a)) (ran-to k b)
       ∙ ap (λ o. andThen o (λ r. footprint (r .instruction) (c .state))) (instruction-here code (c .at) (c .state) still-fits code-fits ∙ c .stands)
-      ∙ sym (c .print)
+      ∙ sym (c .footprint-same)
 
   -- and it has one, since the step there completes
-  pub print-there : (k : ℕ) → k < total → (f : Footprint Place Kind) × (footprintInRun code start k ≡ done f)
-  print-there k b =
+  pub has-footprint : (k : ℕ) → k < total → (f : Footprint Place Kind) × (footprintInRun code start k ≡ done f)
+  has-footprint k b =
       let c = comes k b in
       let (t, does) = c .completes in
-      let (f, e) = completes-printed (c .found .instruction) (c .state) t does in
-      (f, print-along k b ∙ c .print ∙ e)
+      let (f, e) = completes-footprint (c .found .instruction) (c .state) t does in
+      (f, footprint-along k b ∙ c .footprint-same ∙ e)
 
   -- instruction k has the bytes from where a run of k instructions comes to, to where the next one does
   part-along : (k : ℕ) → k < total → getD (piecesOf read code) k [] ≡ part code (positionInRun code start k) (positionInRun code start (suc k))
@@ -125,10 +125,10 @@ pub demand-3 : (code order : List ℕ) (budget end total : ℕ) (start final : S
 unfolding runOf
 demand-3 code order budget end total start final h new keeps =
     let (memory-fits, code-fits, ran) = fitting code budget end total start final h in
-    let print = print-along code budget end total start final h in
+    let along = footprint-along code budget end total start final h in
     let kept : Keeps total order (λ i j. Meets (footprintInCode read execute footprint code start i) (footprintInCode read execute footprint code start j)) =
     λ i j p q earlier j-in p-in q-in at-p at-q meets.
-    keeps i j p q earlier j-in p-in q-in at-p at-q (subst₂ Meets (sym (print i (omega arith))) (sym (print j j-in)) meets) in
+    keeps i j p q earlier j-in p-in q-in at-p at-q (subst₂ Meets (sym (along i (omega arith))) (sym (along j j-in)) meets) in
     let (as-long, runs) = reordered-block read local-reader execute footprint Meets execute-swap code order budget end total start final ran new kept in
     let new-fits : ltb longestCode (length (rearranged read code order)) ≡ false = ap (ltb longestCode) as-long ∙ code-fits in
     rw (memory-fits, new-fits) runs

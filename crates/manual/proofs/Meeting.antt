@@ -17,7 +17,7 @@ use Rattle.manual.specs.Places.{Place, mmx, integer, byte}
 use Rattle.manual.specs.Kinds.{KindsMeet}
 use Rattle.manual.specs.Instructions.{footprint}
 use Rattle.manual.specs.Footprints.{Meets}
-use Rattle.manual.proofs.Uses.{tagOf, printed-kind}
+use Rattle.manual.proofs.Uses.{tagOf, footprint-kind}
 
 kinds-turn : (a b : Kind) → KindsMeet a b → KindsMeet b a
 kinds-turn Ordinary Ordinary e = e
@@ -46,7 +46,7 @@ kinds-exactly a b = (from a b, to a b)
 -- which the footprint of an instruction does exactly where it is EMMS
 emms-exactly : (i : Instruction) (s : State) (f : places.Footprint Place Kind) → footprint i s ≡ done f → (tagOf (f .kind) ≡ false) ↔ (i .second ≡ 0x77)
 emms-exactly i s f e =
-    let tag = printed-kind i s f e in
+    let tag = footprint-kind i s f e in
     (λ h. eqb-true (i .second) 0x77 (not-false (eqb (i .second) 0x77) (sym tag ∙ h)), λ h. tag ∙ ap not (eq-eqb (i .second) 0x77 h))
 
 -- statements that say the same, put in an alternative

@@ -68,9 +68,9 @@ unfolding execute footprint
 changes-writes i s t f e h = untouched look put marked frozen KindsMeet laws via plan (effectOf i) s t f e h
 
 -- where a step completes, there is a footprint
-pub completes-printed : (i : Instruction) (s t : State) → execute i s ≡ done t → (f : Footprint Place Kind) × (footprint i s ≡ done f)
+pub completes-footprint : (i : Instruction) (s t : State) → execute i s ≡ done t → (f : Footprint Place Kind) × (footprint i s ≡ done f)
 unfolding execute footprint
-completes-printed i s t e =
+completes-footprint i s t e =
     let (pl, vs, ep, em, et) = planned look put marked via plan (effectOf i) s t e in
     (ofPlan (via (effectOf i)) pl, simp (ep, em))
 
@@ -117,9 +117,9 @@ unfolding effectOf
 kind-tag i = byte-tag (i .second)
 
 -- and its footprint has its kind
-pub printed-kind : (i : Instruction) (s : State) (f : Footprint Place Kind) → footprint i s ≡ done f → tagOf (f .kind) ≡ not (eqb (i .second) 0x77)
+pub footprint-kind : (i : Instruction) (s : State) (f : Footprint Place Kind) → footprint i s ≡ done f → tagOf (f .kind) ≡ not (eqb (i .second) 0x77)
 unfolding footprint
-printed-kind i s f h = planning (plan (effectOf i) s) refl h
+footprint-kind i s f h = planning (plan (effectOf i) s) refl h
   where
     making : (pl : Plan Place Kind) → plan (effectOf i) s ≡ done pl → (o : Result (List ℕ))
         → mapResult (λ values. ofPlan (via (effectOf i)) pl) o ≡ done f → tagOf (f .kind) ≡ not (eqb (i .second) 0x77)
@@ -158,10 +158,10 @@ pub footprint-exactly : (code : List ℕ) (at : ℕ) (s : State) → Together (s
 unfolding stepAt footprintAt execute footprint
 footprint-exactly code at s = reading (instructionAt code at s)
   where
-    making : (size : ℕ) (o : Result (List ℕ)) (leave : List ℕ → State) (print : List ℕ → Footprint Place Kind)
-        → Together (concluded at (at + size) s (mapResult leave o)) (mapResult print o)
-    making size (done values) leave print = tt
-    making size (refused n) leave print = refl
+    making : (size : ℕ) (o : Result (List ℕ)) (leave : List ℕ → State) (touch : List ℕ → Footprint Place Kind)
+        → Together (concluded at (at + size) s (mapResult leave o)) (mapResult touch o)
+    making size (done values) leave touch = tt
+    making size (refused n) leave touch = refl
 
     planning : (r : Fetched Instruction) (o : Result (Plan Place Kind)) → plan (effectOf (r .instruction)) s ≡ o
         → Together (concluded at (at + r .size) s (execute (r .instruction) s)) (footprint (r .instruction) s)

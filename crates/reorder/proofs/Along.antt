@@ -42,7 +42,7 @@ module _ {S I F : Type 0} (read : List ℕ → Result (Fetched I)) (exec : I →
     pub ran : run read exec k code s ≡ spent at k state
     pub stands : read (drop at code) ≡ done found
     pub completes : (t : S) × (exec (found .instruction) state ≡ done t)
-    pub print : footprintInCode read exec footprint code s k ≡ footprint (found .instruction) state
+    pub footprint-same : footprintInCode read exec footprint code s k ≡ footprint (found .instruction) state
     pub piece : getD (piecesOf read code) k [] ≡ take (found .size) (drop at code)
     pub next : positionAfter code s (suc k) ≡ at + found .size
 
@@ -78,7 +78,7 @@ module _ {S I F : Type 0} (read : List ℕ → Result (Fetched I)) (exec : I →
                 ran = runs ∙ ap₂ (λ n m. spent n m (before (onBytes read exec) pieces k s)) (zero-add at) (zero-add k);
                 stands = ap read here ∙ read-front read reader (getD pieces k []) (flatten (drop (suc k) pieces)) r er z;
                 completes = (u, sym (ap (λ (o : Result (Fetched I)). andThen o (λ q. exec (q .instruction) (before (onBytes read exec) pieces k s))) er) ∙ does);
-                print = ap (λ (ps : List (List ℕ)). footprintAt (onBytes read exec) (onBytes read footprint) ps s [] k) cuts
+                footprint-same = ap (λ (ps : List (List ℕ)). footprintAt (onBytes read exec) (onBytes read footprint) ps s [] k) cuts
                     ∙ ap (λ (o : Result (Fetched I)). andThen o (λ q. footprint (q .instruction) (before (onBytes read exec) pieces k s))) er;
                 piece = ap (λ (ps : List (List ℕ)). getD ps k []) cuts
                     ∙ sym (ap (take (r .size)) here ∙ take-at (getD pieces k []) (flatten (drop (suc k) pieces)) (r .size) (sym z));

@@ -87,8 +87,8 @@ module _ {I : Type 0} (read : List ℕ → Result (Fetched I)) where
     module _ {S F : Type 0} (exec : I → S → Result S) (footprint : I → S → Result F) (Meets : Result F → Result F → Type 0)
         (swap : Swap S I (Result F) exec footprint Meets) where
       -- the footprint of a piece, in the state before it
-      abbrev print : List (List ℕ) → S → ℕ → Result F
-      print pieces s k = footprintAt (onBytes read exec) (onBytes read footprint) pieces s [] k
+      abbrev touched : List (List ℕ) → S → ℕ → Result F
+      touched pieces s k = footprintAt (onBytes read exec) (onBytes read footprint) pieces s [] k
 
       -- the swap law, for what reads as an instruction or doesn't
       swap-read : Swap S (Result (Fetched I)) (Result F) (λ o s. andThen o (λ r. exec (r .instruction) s)) (λ o s. andThen o (λ r. footprint (r .instruction) s)) Meets
@@ -98,7 +98,7 @@ module _ {I : Type 0} (read : List ℕ → Result (Fetched I)) where
 
       pieces-reordered : (pieces : List (List ℕ)) (order : List ℕ) (budget : ℕ) (s t : S) → AllWhole read pieces
           → execAll (onBytes read exec) pieces s ≡ done t → length pieces ≤ budget → NewOrder (length pieces) order
-          → Keeps (length pieces) order (λ i j. Meets (print pieces s i) (print pieces s j))
+          → Keeps (length pieces) order (λ i j. Meets (touched pieces s i) (touched pieces s j))
           → (length (inOrder pieces order) ≡ length (flatten pieces))
           × (run read exec budget (inOrder pieces order) s ≡ finished (length (flatten pieces)) (length pieces) t)
       pieces-reordered pieces order budget s t w x b new keeps =
@@ -129,6 +129,6 @@ module _ {I : Type 0} (read : List ℕ → Result (Fetched I)) where
           let count : total ≡ length pieces = c ∙ zero-add (length pieces) in
           let size : length (flatten pieces) ≡ length code = ap length (sym e) in
           let r = pieces-reordered pieces order budget s t w x b (subst (λ (n : ℕ). NewOrder n order) count new)
-          (subst₂ (λ (n : ℕ) (qs : List (List ℕ)). Keeps n order (λ i j. Meets (print qs s i) (print qs s j))) count cuts keeps) in
+          (subst₂ (λ (n : ℕ) (qs : List (List ℕ)). Keeps n order (λ i j. Meets (touched qs s i) (touched qs s j))) count cuts keeps) in
           subst (λ (qs : List (List ℕ)). (length (inOrder qs order) ≡ length code) × (run read exec budget (inOrder qs order) s ≡ finished end total t))
           (sym cuts) (r .0 ∙ size, r .1 ∙ ap₂ (λ n m. finished n m t) (size ∙ sym p) (sym count))
