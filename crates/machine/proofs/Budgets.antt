@@ -10,7 +10,7 @@ use borrow.Author.Needs.{needs}
 use borrow.Author.Tests.{eq-eqb, ne-eqb, le-ltb, lt-ltb}
 use lib.Dec.{eqb}
 use lib.ListN.{length}
-use Rattle.reorder.specs.Run.{Answer, finished, spent, stopped, runFrom}
+use Rattle.reorder.specs.Run.{Answer, finished, runFrom}
 use Rattle.codec.specs.Reads.{longestCode}
 use Rattle.codec.specs.Refusals.{codeTooLong}
 use Rattle.manual.specs.declared.Marks.{Marks}
