@@ -12,7 +12,6 @@ use Rattle.words.specs.inner.Bytewise.{gets}
 use Rattle.words.proofs.Laws.{length-gets}
 use Rattle.reorder.specs.Result.{Result, done, refused, andThen, mapResult}
 use Rattle.reorder.specs.Plan.{looks, puts, perform}
-use Rattle.codec.specs.declared.Kind.{Kind}
 use Rattle.codec.specs.declared.Kind.the-variants.{Ordinary}
 use Rattle.manual.specs.Refusals.{outsideMemory}
 use Rattle.manual.specs.State.{State, withMemory}
@@ -22,30 +21,7 @@ use Rattle.manual.specs.Addresses.{Address, address}
 use Rattle.manual.specs.Locations.{Location, mmxRegister, integerRegister, memory, bytesFrom, fits, placesOf}
 use Rattle.manual.specs.Effects.{Effect, width, valueIn, contentsOf, unlessMarked, planOn, placed, directly, perform as performs}
 use Rattle.manual.proofs.Marking.{past-marks}
-
--- the destination becomes a number made from the destination and the source
-abbrev pub both : (ℕ → ℕ → ℕ) → Location → Location → Effect
-both f destination source =
-    record {
-      takes = destination ∷ source ∷ [];
-      gives = destination ∷ [];
-      value = λ values. done (f (getD values 0 0) (getD values 1 0) ∷ []);
-      kind = Ordinary;
-    }
-
--- the destination becomes a number made from the source alone
-abbrev pub move : (ℕ → ℕ) → Location → Location → Effect
-move f destination source =
-    record {
-      takes = source ∷ [];
-      gives = destination ∷ [];
-      value = λ values. done (f (getD values 0 0) ∷ []);
-      kind = Ordinary;
-    }
-
--- no operand
-abbrev pub bare : Kind → Effect
-bare kind = record { takes = []; gives = []; value = λ values. done []; kind = kind }
+use Rattle.manual.proofs.Shapes.{both, move}
 
 -- the places of a list of one operand
 abbrev pub one : Result (List Place) → Result (List Place)

@@ -2,6 +2,7 @@
 -- what a footprint says, and which meet; the manual's headings; examples that the definitions compute.
 pub mod Lists
 pub mod Marking
+pub mod Shapes
 pub mod Laws
 pub mod Locality
 pub mod Turns

@@ -20,7 +20,7 @@ use Rattle.manual.specs.Addresses.{addressOf}
 use Rattle.manual.specs.Locations.{Location, mmxRegister, integerRegister, memory, rmOf}
 use Rattle.manual.specs.Effects.{Effect}
 use Rattle.manual.specs.Instructions.{effectOf}
-use Rattle.manual.proofs.Direct.{both, move, bare}
+use Rattle.manual.proofs.Shapes.{both, move, bare}
 
 -- "the reg field names the MMX register and r/m the other operand": at mod 11 a register, else bytes in memory
 

@@ -2,10 +2,10 @@
 -- from one plan.
 use mathlib.Core.Path.{_≡_, refl, sym, ap, _∙_, subst, subst₂}
 use mathlib.Core.Bool.{Bool, true, false, not, _||_, false≢true}
-use mathlib.Core.List.{List, List·Memᴰ as In}
+use mathlib.Core.List.{List, [], List·Memᴰ as In}
 use Prim.Native.Nat.{ℕ, _+_}
 use Rattle.reorder.specs.Result.{Result, done, refused, caseOf, andThen, mapResult}
-use Rattle.reorder.specs.Plan.{Plan, looks}
+use Rattle.reorder.specs.Plan.{Plan, looks, perform as performed}
 use Rattle.reorder.specs.Footprint.{Footprint, footprintOf as ofPlan, footprintIn, asked}
 use Rattle.reorder.specs.Run.{Fetched}
 use Rattle.reorder.proofs.Swapping.{completed as planned}
@@ -27,8 +27,8 @@ use Rattle.manual.specs.Instructions.{effectBy, effectOf, execute, footp
 use Rattle.manual.specs.Steps.{Outcome, completed, refusedWith, concluded, instructionAt, stepAt}
 use Rattle.manual.specs.Footprints.{footprintAt}
 use Rattle.manual.proofs.Laws.{laws, local}
-use Rattle.manual.proofs.Marking.{by-marks}
-use Rattle.manual.proofs.Direct.{bare, marks-first}
+use Rattle.manual.proofs.Marking.{by-marks, past-marks}
+use Rattle.manual.proofs.Shapes.{bare}
 
 -- the places whose contents an instruction goes by in a state, whether it is refused or not
 abbrev pub askedBy : Instruction → State → List Place
@@ -144,7 +144,8 @@ tag-after i s t e =
 pub emms-leaves : (i : Instruction) (s : State) → i .second ≡ 0x77 → execute i s ≡ unlessMarked (s .marks) (done (withTag s false))
 unfolding execute effectOf formAt
 emms-leaves i s e =
-    ap (λ (second : ℕ). perform (effectBy (formAt second) (operationAt second (i .operand .reg)) i) s) e ∙ marks-first s (bare Emms)
+    ap (λ (second : ℕ). perform (effectBy (formAt second) (operationAt second (i .operand .reg)) i) s) e
+    ∙ past-marks (performed look put marked s) (λ n. refl) (s .marks) (done (planOn (bare Emms) [] []))
 
 -- an outcome and a footprint go together: both there, or both refused by one number
 abbrev pub Together : Outcome → Result (Footprint Place Kind) → Type 0

@@ -1,0 +1,33 @@
+-- The shapes of effects that the instructions have.
+use mathlib.Core.List.{[], _∷_}
+use Prim.Native.Nat.{ℕ}
+use lib.ListN.{getD}
+use Rattle.reorder.specs.Result.{done}
+use Rattle.codec.specs.declared.Kind.{Kind}
+use Rattle.codec.specs.declared.Kind.the-variants.{Ordinary}
+use Rattle.manual.specs.Locations.{Location}
+use Rattle.manual.specs.Effects.{Effect}
+
+-- the destination becomes a number made from the destination and the source
+abbrev pub both : (ℕ → ℕ → ℕ) → Location → Location → Effect
+both f destination source =
+    record {
+      takes = destination ∷ source ∷ [];
+      gives = destination ∷ [];
+      value = λ values. done (f (getD values 0 0) (getD values 1 0) ∷ []);
+      kind = Ordinary;
+    }
+
+-- the destination becomes a number made from the source alone
+abbrev pub move : (ℕ → ℕ) → Location → Location → Effect
+move f destination source =
+    record {
+      takes = source ∷ [];
+      gives = destination ∷ [];
+      value = λ values. done (f (getD values 0 0) ∷ []);
+      kind = Ordinary;
+    }
+
+-- no operand
+abbrev pub bare : Kind → Effect
+bare kind = record { takes = []; gives = []; value = λ values. done []; kind = kind }
