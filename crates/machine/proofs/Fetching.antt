@@ -51,6 +51,17 @@ module _ (table code : List ℕ) (at : ℕ) (x : Found) (ours : table ≡ opcode
           let f : x .refusal ≡ n = ap (λ (y : Found). y .refusal) (found-is (refused n) r) in
           absurd (omega (arith, g .0))
 
+  -- the number that was found has the instruction's effect
+  pub effect-found : x .refusal ≡ 0 → effectIn (x .entry) (x .instruction) ≡ effectOf (x .instruction)
+  effect-found h = by (readPart (drop at code)) refl (reads-known formAt 0 (drop at code))
+    where
+      by : (z : Decoded) → readPart (drop at code) ≡ z → Holds (Known formAt) Refusal z → effectIn (x .entry) (x .instruction) ≡ effectOf (x .instruction)
+      by (good i n) r g =
+          subst (λ (y : Found). effectIn (y .entry) (y .instruction) ≡ effectOf (y .instruction)) (sym (found-is (good i n) r)) (effect-is i (g .registers))
+      by (refused n) r g =
+          let f : x .refusal ≡ n = ap (λ (y : Found). y .refusal) (found-is (refused n) r) in
+          absurd (omega (arith, g .0))
+
   -- within the limits
   module _ (registers integers m : List ℕ) (marks : Marks) (code-fits : length code ≤ longestCode) (memory-fits : length m ≤ longestMemory) where
     abbrev s : State

@@ -1,12 +1,12 @@
 -- What is read has a number of the table: its form is present, as an absent one is refused, and each number keeps what `Listed` says. Rules for what
 -- the code looks up.
 use mathlib.Core.Path.{_≡_, refl, sym, ap, ap₂, subst, _∙_}
-use mathlib.Core.Bool.{Bool, true, false, not, cond, _&&_, _||_, false≢true}
+use mathlib.Core.Bool.{Bool, true, false, not, cond, _&&_, _||_, or-false, false≢true}
 use mathlib.Core.List.{List}
 use Prim.Native.Nat.{ℕ, _/_, _%_, _^_}
-use borrow.Author.Needs.{needs}
-use borrow.Author.Tests.{ltb-true, ltb-false, le-ltb, eqb-true}
-use lib.Dec.{eqb, ltb}
+use native.Mathlib.Omega.{arith}
+use borrow.Author.Tests.{ltb-true, ltb-false, le-ltb, le-leb, lt-leb, eqb-true}
+use lib.Dec.{eqb, ltb, leb}
 use lib.ListN.{length, getD, drop}
 use Rattle.lanes.specs.Operations.{Operation, operationOf, numbered, MOVE}
 use Rattle.codec.specs.Answers.{Decoded, good, refused, paperOfReading}
@@ -30,7 +30,7 @@ use Rattle.machine.specs.Works.{effectIn, isMove, Listed}
 -- the numbers are tested by a computation
 abbrev isListed : ℕ → Bool
 isListed number =
-    (ltb (number / 2 ^ 24) 4 || eqb (number / 2 ^ 16 % 256) (memorySize (formOf (number / 2 ^ 24))))
+    (ltb (number / 2 ^ 24) 4 || (leb 16 (number / 2 ^ 24) && eqb (number / 2 ^ 16 % 256) (memorySize (formOf (number / 2 ^ 24)))))
     && (not (isMove (formOf (number / 2 ^ 24))) || eqb (number % 256) (numbered MOVE .0))
 
 all-listed : listed (λ k. isListed (entryAt k)) 0 256 ≡ listed (λ k. true) 0 256
@@ -39,10 +39,11 @@ all-listed = refl
 
 number-listed : (number : ℕ) → isListed number ≡ true → (number / 2 ^ 24 ≡ 0 → ⊥) → Listed number
 number-listed number h p =
-    let (a, b) = and-both (ltb (number / 2 ^ 24) 4 || eqb (number / 2 ^ 16 % 256) (memorySize (formOf (number / 2 ^ 24)))) _ h in
+    let (a, b) = and-both (ltb (number / 2 ^ 24) 4 || (leb 16 (number / 2 ^ 24) && eqb (number / 2 ^ 16 % 256) (memorySize (formOf (number / 2 ^ 24))))) _ h in
     record {
       present = p;
-      sized = λ four. eqb-true _ _ (simp (le-ltb (number / 2 ^ 24) 4 four) at a);
+      known = λ below. ltb-true _ _ (simp (lt-leb 16 (number / 2 ^ 24) below, or-false) at a);
+      sized = λ two. eqb-true _ _ (simp (le-ltb (number / 2 ^ 24) 4 (omega arith), le-leb 16 (number / 2 ^ 24) two) at a);
       moves = λ m. ap operationOf (eqb-true (number % 256) (numbered MOVE .0) (simp m at b));
     }
 
@@ -69,25 +70,3 @@ effect-is i r = by (ltb (i .second) 256) refl
         let none = form-beyond (i .second) (ltb-false (i .second) 256 h) in
         ap (λ (f : Form). effectBy f (operationIn (getD opcodeTable (i .second) 0) (i .operand .reg)) i) (form-is (i .second) ∙ none)
         ∙ ap (λ (f : Form). effectBy f (operationAt (i .second) (i .operand .reg)) i) (sym none)
-
--- the same at a position of a code
-module _ (code : List ℕ) (at : ℕ) (x : Reading) (e : paperOfReading x ≡ readAt code at) (i : Instruction) (n : ℕ) (r : x ≡ Read i n) where
-  read-known : Known formAt i
-  unfolding readAt
-  read-known = by (ltb longestCode (length code)) (readPart (drop at code)) (reads-known formAt 0 (drop at code)) (sym e ∙ ap paperOfReading r)
-    where
-      by : (t : Bool) (z : Decoded) → Holds (Known formAt) Refusal z → cond t (refused codeTooLong) z ≡ good i n → Known formAt i
-      by true z h e = absurd (false≢true (cc))
-      by false z h e = subst (Holds (Known formAt) Refusal) e h
-
-  pub read-registers : Registers (i .operand)
-  read-registers = read-known .registers
-
-  pub read-listed : Listed (getD opcodeTable (i .second) 0)
-  read-listed = row-listed (i .second) (read-known .present)
-
--- the table that is lent has it
-pub looked-up : (table : List ℕ) (second : ℕ) → table ≡ opcodeTable → getD table second 0 ≡ getD opcodeTable second 0
-looked-up table second e = ap (λ (t : List ℕ). getD t second 0) e
-
-pub ruleset looking-up = (needs, looked-up)

@@ -1,116 +1,133 @@
--- The forms by their numbers in the table, in the groups that the code tests for: by one list of the forms with two operands.
-use mathlib.Core.Path.{_≡_, refl, ap, subst}
-use Prim.Native.Nat.{ℕ, zero, suc, _-_, _≤_, _<_}
+-- The forms by their numbers in the table: those of a destination and a source by their operands, whatever register file and size r/m has.
+use mathlib.Core.Path.{_≡_, refl, sym, subst}
+use mathlib.Core.Logic.{_⊎_, inl, inr}
+use mathlib.Core.List.{[], _∷_}
+use Prim.Native.Nat.{ℕ, zero, suc, _+_, _-_, _/_, _%_, _^_, _≤_, _<_}
 use native.Mathlib.Omega.{arith}
-use mathlib.Core.Bool.{Bool, true, _&&_}
-use borrow.Author.Tests.{ltb-true, leb-true}
-use lib.Dec.{ltb, leb}
-use lib.ListN.{drop}
-use Rattle.words.proofs.Laws.{and-both}
-use Rattle.codec.proofs.FormNumbers.{allPass, form-passes-in}
-use Rattle.codec.specs.Forms.{File, mmxFile, integerFile, Form, mmreg2·imm8/642, mmreg2·imm8/62, reg32/mem32←mmreg1, mmreg1←reg32/mem32, mmreg2/mem64←mmreg1, mmreg1·mmreg2/mem32, mmreg1·mmreg2/mem64, mmreg1←mmreg2/mem64, forms, memorySize}
+use borrow.Author.Tests.{eqb-true, ltb-true}
+use lib.Dec.{eqb, ltb}
+use Rattle.words.specs.Number.{bytes}
+use Rattle.codec.specs.Forms.{Use, read, written, updated, File, mmxFile, integerFile, Slot, rm/mem, mmreg1, Form, mmreg2·imm8/642, mmreg2·imm8/62, mmreg1·mmreg2/mem64, forms, memorySize}
 use Rattle.codec.specs.Table.{formOf}
-use Rattle.machine.specs.Works.{fileIn}
+use Rattle.codec.proofs.Bytes.{found-has}
+use Rattle.codec.specs.declared.Kind.the-variants.{Ordinary}
+use Rattle.manual.specs.Instructions.{heldBy}
+use Rattle.machine.specs.Spots.{fileIn}
 
--- the forms with two operands
-pub data TwoOperands (n : ℕ) : Type 0 where
-  is-storeD : n ≡ 4 → formOf n ≡ reg32/mem32←mmreg1 → TwoOperands n
-  is-loadD : n ≡ 5 → formOf n ≡ mmreg1←reg32/mem32 → TwoOperands n
-  is-storeQ : n ≡ 6 → formOf n ≡ mmreg2/mem64←mmreg1 → TwoOperands n
-  is-usualD : n ≡ 7 → formOf n ≡ mmreg1·mmreg2/mem32 → TwoOperands n
-  is-loadQ : n ≡ 9 → formOf n ≡ mmreg1←mmreg2/mem64 → TwoOperands n
-  is-usual : 7 < n → formOf n ≡ mmreg1·mmreg2/mem64 → TwoOperands n
+-- the register file and the size of r/m: MOVD's is an integer register
+pub data Other (n : ℕ) : File → ℕ → Type 0 where
+  integer-4 : n ≤ 17 → Other n integerFile 4
+  mmx-4 : 17 < n → Other n mmxFile 4
+  mmx-8 : 17 < n → Other n mmxFile 8
 
-from-four : (more : ℕ) → TwoOperands (suc (suc (suc (suc more))))
-from-four zero = is-storeD refl refl
-from-four (suc zero) = is-loadD refl refl
-from-four (suc (suc zero)) = is-storeQ refl refl
-from-four (suc (suc (suc zero))) = is-usualD refl refl
-from-four (suc (suc (suc (suc zero)))) = is-usual (omega arith) refl
-from-four (suc (suc (suc (suc (suc zero))))) = is-loadQ refl refl
-from-four (suc (suc (suc (suc (suc (suc more)))))) = is-usual (omega arith) refl
+-- some bytes and at most eight, which a number keeps that it takes
+module _ (n : ℕ) where
+  pub integer-file : (file : File) (size : ℕ) → Other n file size → n ≤ 17 → file ≡ integerFile
+  integer-file file size (integer-4 h) below = refl
+  integer-file file size (mmx-4 h) below = absurd (omega arith)
+  integer-file file size (mmx-8 h) below = absurd (omega arith)
 
-pub two-operands : (n : ℕ) → 4 ≤ n → TwoOperands n
-two-operands n h =
-    let e : suc (suc (suc (suc (n - 4)))) ≡ n = omega arith in
-    subst TwoOperands e (from-four (n - 4))
+  pub mmx-file : (file : File) (size : ℕ) → Other n file size → 17 < n → file ≡ mmxFile
+  mmx-file file size (integer-4 h) past = absurd (omega arith)
+  mmx-file file size (mmx-4 h) past = refl
+  mmx-file file size (mmx-8 h) past = refl
 
--- a test that all of them pass
-from-number : (test : Form → Bool) (n : ℕ) → 4 ≤ n → allPass test (drop 4 forms) ≡ true → test (formOf n) ≡ true
-from-number test n h e =
-    subst (λ (k : ℕ). test (formOf k) ≡ true) (let z : suc (suc (suc (suc (n - 4)))) ≡ n = omega arith in z) (form-passes-in test (drop 4 forms) (n - 4) e)
+  pub some : (file : File) (size : ℕ) → Other n file size → 0 < size
+  some file size (integer-4 h) = omega arith
+  some file size (mmx-4 h) = omega arith
+  some file size (mmx-8 h) = omega arith
 
--- of these, the forms that leave a number made from their source in a register
-pub data Computing (form : Form) : Type 0 where
-  computes-loadD : form ≡ mmreg1←reg32/mem32 → Computing form
-  computes-loadQ : form ≡ mmreg1←mmreg2/mem64 → Computing form
-  computes-usualD : form ≡ mmreg1·mmreg2/mem32 → Computing form
-  computes-usual : form ≡ mmreg1·mmreg2/mem64 → Computing form
+  pub most : (file : File) (size : ℕ) → Other n file size → size ≤ 8
+  most file size (integer-4 h) = omega arith
+  most file size (mmx-4 h) = omega arith
+  most file size (mmx-8 h) = omega arith
 
-pub computing : (n : ℕ) → 4 ≤ n → (n ≡ 4 → ⊥) → (n ≡ 6 → ⊥) → Computing (formOf n)
-computing n h p q = by (two-operands n h)
+  pub kept : (file : File) (size : ℕ) → Other n file size → (v : ℕ) → bytes size (heldBy (rm/mem file size) v) ≡ bytes size v
+  kept file size (integer-4 h) v = λ i. first i ∷ second i ∷ third i ∷ fourth i ∷ []
+    where
+      first : v % 2 ^ 32 % 256 ≡ v % 256
+      first = omega arith
+
+      second : v % 2 ^ 32 / 256 % 256 ≡ v / 256 % 256
+      second = omega arith
+
+      third : v % 2 ^ 32 / 256 / 256 % 256 ≡ v / 256 / 256 % 256
+      third = omega arith
+
+      fourth : v % 2 ^ 32 / 256 / 256 / 256 % 256 ≡ v / 256 / 256 / 256 % 256
+      fourth = omega arith
+  kept file size (mmx-4 h) v = refl
+  kept file size (mmx-8 h) v = refl
+
+-- the numbers that the code tests for
+abbrev pub Stores : ℕ → Type 0
+Stores n = (n ≡ 16) ⊎ (n ≡ 18)
+
+abbrev pub Loads : ℕ → Type 0
+Loads n = (n ≡ 17) ⊎ (n ≡ 19)
+
+-- an ordinary form of a destination and a source
+abbrev pub pair : ℕ → Use × Slot → Slot → Form
+pair number destination source =
+    record { number = number; digits = []; operands = destination ∷ (read, source) ∷ []; immediate = 0; kind = Ordinary }
+
+-- a register is stored in the operand of r/m, is loaded from it, or computed with it
+pub data Shape (n : ℕ) : Form → Type 0 where
+  is-stored : Stores n → (number : ℕ) (file : File) (size : ℕ) → Other n file size → Shape n (pair number (written, rm/mem file size) mmreg1)
+  is-loaded : Loads n → (number : ℕ) (file : File) (size : ℕ) → Other n file size → Shape n (pair number (written, mmreg1) (rm/mem file size))
+  is-computed : 19 < n → (number : ℕ) (file : File) (size : ℕ) → Other n file size → Shape n (pair number (updated, mmreg1) (rm/mem file size))
+
+-- past those in the list, the usual form
+beyond : (n : ℕ) → 21 < n → formOf n ≡ mmreg1·mmreg2/mem64
+beyond n h =
+    found-has (λ f. f) mmreg1·mmreg2/mem64 (λ f. f ≡ mmreg1·mmreg2/mem64) (λ f. eqb n (f .number)) (λ f. ltb (f .number) 22) refl
+    (λ f e g. absurd (omega (arith, eqb-true n (f .number) e, ltb-true (f .number) 22 g))) forms refl
+
+from-sixteen : (more : ℕ) → Shape (16 + more) (formOf (16 + more))
+from-sixteen zero = is-stored (inl refl) 16 integerFile 4 (integer-4 (omega arith))
+from-sixteen (suc zero) = is-loaded (inl refl) 17 integerFile 4 (integer-4 (omega arith))
+from-sixteen (suc (suc zero)) = is-stored (inr refl) 18 mmxFile 8 (mmx-8 (omega arith))
+from-sixteen (suc (suc (suc zero))) = is-loaded (inr refl) 19 mmxFile 8 (mmx-8 (omega arith))
+from-sixteen (suc (suc (suc (suc zero)))) = is-computed (omega arith) 20 mmxFile 4 (mmx-4 (omega arith))
+from-sixteen (suc (suc (suc (suc (suc zero))))) = is-computed (omega arith) 21 mmxFile 8 (mmx-8 (omega arith))
+from-sixteen (suc (suc (suc (suc (suc (suc more)))))) =
+    let n = 16 + suc (suc (suc (suc (suc (suc more))))) in
+    subst (Shape n) (sym (beyond n (omega arith))) (is-computed (omega arith) 21 mmxFile 8 (mmx-8 (omega arith)))
+
+pub shape : (n : ℕ) → 16 ≤ n → Shape n (formOf n)
+shape n h = let e : 16 + (n - 16) ≡ n = omega arith in subst (λ (k : ℕ). Shape k (formOf k)) e (from-sixteen (n - 16))
+
+-- its operand of r/m
+pub other : (n : ℕ) → 16 ≤ n → Other n (fileIn (formOf n .operands)) (memorySize (formOf n))
+other n h = by (formOf n) (shape n h)
   where
-    by : TwoOperands n → Computing (formOf n)
-    by (is-storeD e f) = absurd (p e)
-    by (is-loadD e f) = computes-loadD f
-    by (is-storeQ e f) = absurd (q e)
-    by (is-usualD e f) = computes-usualD f
-    by (is-loadQ e f) = computes-loadQ f
-    by (is-usual g f) = computes-usual f
+    by : (f : Form) → Shape n f → Other n (fileIn (f .operands)) (memorySize f)
+    by f (is-stored p number file size x) = x
+    by f (is-loaded p number file size x) = x
+    by f (is-computed p number file size x) = x
 
--- the operand that r/m names has one to 8 bytes in memory
-pub record Small (k : ℕ) : Type 0 where
-  pub some : 0 < k
-  pub most : k ≤ 8
+-- the numbers of one shape are none of another
+module _ (n : ℕ) where
+  pub no-load : Stores n → Loads n → ⊥
+  no-load (inl a) (inl b) = omega arith
+  no-load (inl a) (inr b) = omega arith
+  no-load (inr a) (inl b) = omega arith
+  no-load (inr a) (inr b) = omega arith
 
-pub small : (n : ℕ) → 4 ≤ n → Small (memorySize (formOf n))
-small n h =
-    let (a, b) = and-both _ _ (from-number isSmall n h refl) in
-    record { some = ltb-true _ _ a; most = leb-true _ _ b }
-  where
-    isSmall : Form → Bool
-    isSmall form = ltb 0 (memorySize form) && leb (memorySize form) 8
-
--- at mod 11 the operand of MOVD is an integer register, that of the others an MMX register
-
-abbrev fileOf : Form → File
-fileOf form = fileIn (form .operands)
-
-pub integer-form : (n : ℕ) → 4 ≤ n → n ≤ 5 → fileIn (formOf n .operands) ≡ integerFile
-integer-form n h l = by (two-operands n h)
-  where
-    by : TwoOperands n → fileOf (formOf n) ≡ integerFile
-    by (is-storeD e f) = ap fileOf f
-    by (is-loadD e f) = ap fileOf f
-    by (is-storeQ e f) = absurd (omega arith)
-    by (is-usualD e f) = absurd (omega arith)
-    by (is-loadQ e f) = absurd (omega arith)
-    by (is-usual g f) = absurd (omega arith)
-
-pub mmx-form : (n : ℕ) → 5 < n → fileIn (formOf n .operands) ≡ mmxFile
-mmx-form n h = by (two-operands n (omega arith))
-  where
-    by : TwoOperands n → fileOf (formOf n) ≡ mmxFile
-    by (is-storeD e f) = absurd (omega arith)
-    by (is-loadD e f) = absurd (omega arith)
-    by (is-storeQ e f) = ap fileOf f
-    by (is-usualD e f) = ap fileOf f
-    by (is-loadQ e f) = ap fileOf f
-    by (is-usual g f) = ap fileOf f
+  pub no-compute : Stores n ⊎ Loads n → 19 < n → ⊥
+  no-compute (inl (inl a)) h = omega arith
+  no-compute (inl (inr a)) h = omega arith
+  no-compute (inr (inl a)) h = omega arith
+  no-compute (inr (inr a)) h = omega arith
 
 -- the forms of the shifts by an immediate
-pub data Shifting (form : Form) : Type 0 where
-  shifts-WD : form ≡ mmreg2·imm8/642 → Shifting form
-  shifts-Q : form ≡ mmreg2·imm8/62 → Shifting form
-
-pub shift-past : (n : ℕ) → (n ≡ 1 → ⊥) → (n ≡ 0 → ⊥) → 1 < n
-shift-past zero p q = absurd (q refl)
-shift-past (suc zero) p q = absurd (p refl)
-shift-past (suc (suc n)) p q = omega arith
+pub data Shifting : Form → Type 0 where
+  shifts-WD : Shifting mmreg2·imm8/642
+  shifts-Q : Shifting mmreg2·imm8/62
 
 pub shifting-form : (n : ℕ) → n < 4 → (n ≡ 1 → ⊥) → (n ≡ 0 → ⊥) → Shifting (formOf n)
 shifting-form zero h p q = absurd (q refl)
 shifting-form (suc zero) h p q = absurd (p refl)
-shifting-form (suc (suc zero)) h p q = shifts-WD refl
-shifting-form (suc (suc (suc zero))) h p q = shifts-Q refl
+shifting-form (suc (suc zero)) h p q = shifts-WD
+shifting-form (suc (suc (suc zero))) h p q = shifts-Q
 shifting-form (suc (suc (suc (suc n)))) h p q = absurd (omega arith)

@@ -37,18 +37,18 @@ module _ (s : State) (k : ℕ) (x : Location) where
   printed e sources targets =
       mapResult print (footprintIn look (via e) s (andThen sources (λ source. mapResult (planOn e source) targets)))
 
-  pub stores : (f : ℕ → ℕ) (o : Result (List Place)) → printed (move f x (mmxRegister k)) (done (mmx k ∷ [])) (one o) ≡ shaped (storing k) (reachOf x o)
-  stores f (done ps) = simp (append-nil, set-through)
-  stores f (refused n) = refl
+  pub store-prints : (f : ℕ → ℕ) (o : Result (List Place)) → printed (move f x (mmxRegister k)) (done (mmx k ∷ [])) (one o) ≡ shaped (storing k) (reachOf x o)
+  store-prints f (done ps) = simp (append-nil, set-through)
+  store-prints f (refused n) = refl
 
-  pub loads : (f : ℕ → ℕ) (o : Result (List Place)) → printed (move f (mmxRegister k) x) (one o) (done (mmx k ∷ [])) ≡ shaped (loading k) (reachOf x o)
-  loads f (done ps) = simp (append-nil, set-through)
-  loads f (refused n) = refl
+  pub load-prints : (f : ℕ → ℕ) (o : Result (List Place)) → printed (move f (mmxRegister k) x) (one o) (done (mmx k ∷ [])) ≡ shaped (loading k) (reachOf x o)
+  load-prints f (done ps) = simp (append-nil, set-through)
+  load-prints f (refused n) = refl
 
-  pub computes : (f : ℕ → ℕ → ℕ) (o : Result (List Place))
+  pub compute-prints : (f : ℕ → ℕ → ℕ) (o : Result (List Place))
       → printed (both f (mmxRegister k) x) (mapResult (λ qs. mmx k ∷ qs) (one o)) (done (mmx k ∷ [])) ≡ shaped (computing k) (reachOf x o)
-  computes f (done ps) = simp (append-nil, set-through)
-  computes f (refused n) = refl
+  compute-prints f (done ps) = simp (append-nil, set-through)
+  compute-prints f (refused n) = refl
 
 -- the shapes as the code makes them
 module _ (k m : ℕ) (p own x : Places) where

@@ -11,6 +11,9 @@ use Rattle.manual.specs.Locations.{Location, registersBehind}
 use Rattle.manual.specs.Effects.{Effect, placed, via}
 use Rattle.machine.specs.declared.Places.{Places}
 use Rattle.machine.specs.declared.Footprint.{Footprint}
+use Rattle.machine.specs.declared.operands.Spot.{Spot}
+use Rattle.machine.specs.declared.operands.Spot.the-variants.{Mmx, Integer, Bytes}
+use Rattle.machine.specs.declared.operands.Spot.the-variants as spot
 use Rattle.machine.specs.declared.reaches.Reach.{Reach}
 use Rattle.machine.specs.declared.reaches.Reach.the-variants.{Inside, Refused}
 use Rattle.machine.specs.Prints.{mask, setOf, print}
@@ -32,6 +35,13 @@ through registers p =
 abbrev pub reachOf : Location → Result (List Place) → Reach
 reachOf x (done places) = Inside (mask (registersBehind x)) (setOf places)
 reachOf x (refused n) = Refused n
+
+-- the same of where the code finds it, with the mask of its address registers
+abbrev pub reachAt : ℕ → ℕ → Spot → Reach
+reachAt registers size (Mmx k) = Inside registers (beside k nowhere)
+reachAt registers size (Integer k) = Inside registers (through (2 ^ k) nowhere)
+reachAt registers size (Bytes a) = Inside registers (record { mmx = 0; integers = 0; start = a; length = size })
+reachAt registers size (spot.Refused n) = Refused n
 
 -- an MMX register and the operand of r/m, whose address registers and places are given: the register is stored there, loaded from there, or
 -- computed with it

@@ -10,22 +10,20 @@ use crate::reaches;
 use crate::reaches::Reach;
 use codec::Instruction;
 use codec::Kind;
-use codec::Reading;
 use codec::forms::EMMS;
 use codec::forms::FORM;
 use codec::forms::LOAD_D;
 use codec::forms::LOAD_Q;
 use codec::forms::STORE_D;
 use codec::forms::STORE_Q;
+use codec::forms::TWO_OPERANDS;
+use codec::refusals::CODE_TOO_LONG;
+use codec::refusals::LONGEST_CODE;
 ghost use mathlib.Core.Path.{_≡_};
 ghost use Prim.Native.Nat.{_/_, _^_, _≤_, _<_};
-ghost use lib.ListN.{getD};
-ghost use Rattle.reorder.specs.Result.{mapResult};
 ghost use Rattle.codec.specs.Operands.{Registers};
-ghost use Rattle.codec.specs.Table.{opcodeTable};
-ghost use Rattle.manual.specs.Instructions.{footprint};
 ghost use Rattle.machine.specs.State.{stateOf};
-ghost use Rattle.machine.specs.Prints.{print, printAt, paperOfFootprint};
+ghost use Rattle.machine.specs.Prints.{printAt, paperOfFootprint};
 ghost use Rattle.machine.specs.PrintShapes.{storing, loading, computing, unmarkedPrint};
 ghost use Rattle.machine.specs.Works.{effectIn, Listed};
 
@@ -74,7 +72,7 @@ fn computed(register: u8, registers: u8, places: Places) -> Footprint
 
 // An instruction with two operands.
 fn two_operands(machine: Machine, entry: u32, instruction: Instruction, memory: &[u8]) -> Printed
-    requires { ⌜ Registers (instruction .operand) × (Listed entry × (4 ≤ entry / 2 ^ 24)) ⌝ }
+    requires { ⌜ Registers (instruction .operand) × (Listed entry × (16 ≤ entry / 2 ^ 24)) ⌝ }
     ensures { λ r. ⌜ paperOfFootprint r ≡ unmarkedPrint (effectIn entry instruction) (stateOf machine (now (memory .entry))) ⌝ }
 {
     let operand = instruction.operand;
@@ -98,7 +96,7 @@ fn unmarked(machine: Machine, entry: u32, instruction: Instruction, memory: &[u8
     ensures { λ r. ⌜ paperOfFootprint r ≡ unmarkedPrint (effectIn entry instruction) (stateOf machine (now (memory .entry))) ⌝ }
 {
     let form = entry / FORM;
-    if STORE_D <= form {
+    if TWO_OPERANDS <= form {
         return two_operands(machine, entry, instruction, memory);
     }
     if form == EMMS {
@@ -116,27 +114,6 @@ fn unmarked(machine: Machine, entry: u32, instruction: Instruction, memory: &[u8
     })
 }
 
-// What the table says of a second byte.
-fn entry_for(second: u8) -> u32
-    ensures { λ r. ⌜ r ≡ getD opcodeTable second 0 ⌝ }
-{
-    let table = codec::table();
-    table[second as usize]
-}
-
-// An instruction that is read: the control marks first.
-fn of_instruction(machine: Machine, instruction: Instruction, memory: &[u8]) -> Printed
-    requires { ⌜ Registers (instruction .operand) × Listed (getD opcodeTable (instruction .second) 0) ⌝ }
-    ensures { λ r. ⌜ paperOfFootprint r ≡ mapResult print (footprint instruction (stateOf machine (now (memory .entry)))) ⌝ }
-{
-    let bar = gathering::barred(machine.em, machine.ts, machine.pending);
-    if bar != 0 {
-        return Printed::Refused(bar);
-    }
-    let entry = entry_for(instruction.second);
-    unmarked(machine, entry, instruction, memory)
-}
-
 impl Machine {
     // What the step at a position reads and writes.
     pub fn footprint(self, code: &[u8], at: usize, memory: &[u8]) -> Printed
@@ -145,10 +122,20 @@ impl Machine {
         if LONGEST_MEMORY < memory.len() {
             return Printed::Refused(MEMORY_TOO_LONG);
         }
-        let reading = codec::read(code, at);
-        match reading {
-            Reading::Read(instruction, _) => of_instruction(self, instruction, memory),
-            Reading::Refused(refusal) => Printed::Refused(refusal),
+        if LONGEST_CODE < code.len() {
+            return Printed::Refused(CODE_TOO_LONG);
         }
+        let table = codec::table();
+        let found = codec::read_from(&table, code, at);
+        let refusal = found.refusal;
+        if refusal != 0 {
+            return Printed::Refused(refusal);
+        }
+        let bar = gathering::barred(self.em, self.ts, self.pending);
+        if bar != 0 {
+            return Printed::Refused(bar);
+        }
+        let instruction = found.instruction;
+        unmarked(self, found.entry, instruction, memory)
     }
 }

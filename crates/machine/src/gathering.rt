@@ -1,9 +1,9 @@
 // The instruction at a position is read and its operands are gathered; what is left to do is then plain numbers. Nothing is written here.
-use crate::addresses;
 use crate::numbers::INVALID_OPCODE;
 use crate::numbers::IS_PENDING;
 use crate::numbers::NOT_AVAILABLE;
-use crate::numbers::OUTSIDE_MEMORY;
+use crate::operands;
+use crate::operands::Spot;
 use crate::shifts;
 use codec::Instruction;
 use codec::forms::EMMS;
@@ -12,17 +12,17 @@ use codec::forms::PART;
 use codec::forms::SIZE;
 use codec::forms::STORE_D;
 use codec::forms::STORE_Q;
-use codec::modes::REGISTER;
+use codec::forms::TWO_OPERANDS;
 use lanes::MOVE;
 ghost use mathlib.Core.Path.{_≡_};
-ghost use Prim.Native.Nat.{_+_, _/_, _^_, _≤_};
-ghost use lib.Dec.{leb};
+ghost use Prim.Native.Nat.{_/_, _%_, _^_, _≤_};
 ghost use lib.ListN.{length};
 ghost use Rattle.codec.specs.Operands.{Registers};
 ghost use Rattle.codec.specs.Table.{opcodeTable};
 ghost use Rattle.codec.specs.Reads.{longestCode};
 ghost use Rattle.manual.specs.State.{longestMemory};
-ghost use Rattle.machine.specs.Works.{barredBy, effectIn, Listed, Does, Gathered, refusedWork};
+ghost use Rattle.machine.specs.Spots.{Named};
+ghost use Rattle.machine.specs.Works.{barredBy, effectIn, Listed, operationWork, Does, Gathered, refusedWork, putWork, takeWork};
 
 // How many values a doubleword has.
 pub(crate) const DOUBLEWORD_RANGE: u64 = 0x100000000;
@@ -88,60 +88,40 @@ pub(crate) fn barred(em: bool, ts: bool, pending: bool) -> u8
     0
 }
 
-// Whether all bytes of an operand are below the memory's length.
-pub(crate) fn lies_inside(room: usize, address: usize, size: usize) -> bool
-    ensures { λ r. ⌜ r ≡ leb (address + size) room ⌝ }
+// An operation on an MMX register.
+fn operation(number: u8, register: u8, value: u64, next: usize) -> Work
+    ensures { λ r. ⌜ r ≡ operationWork number register value next ⌝ }
 {
-    if room < size {
-        return false;
-    }
-    address <= room - size
-}
-
-// An instruction whose second operand is in memory.
-fn in_memory(
-    mmx: &[u64; 8],
-    integers: &[u32; 8],
-    entry: u32,
-    instruction: Instruction,
-    next: usize,
-    memory: &[u8],
-) -> Work
-    requires { ⌜ Registers (instruction .operand) × (Listed entry × ((instruction .operand .mode ≡ 3 → ⊥) × (4 ≤ entry / 2 ^ 24))) ⌝ }
-    ensures { λ r. ⌜ Does r (now (mmx .entry)) (now (integers .entry)) (now (memory .entry)) (effectIn entry instruction) next ⌝ }
-{
-    let operand = instruction.operand;
-    let address = addresses::address_of(integers, operand) as usize;
-    let size = (entry / SIZE % PART) as u8;
-    if !lies_inside(memory.len(), address, size as usize) {
-        return refused(OUTSIDE_MEMORY);
-    }
-    let register = operand.reg as usize;
-    let form = entry / FORM;
-    if form == STORE_D {
-        return Work {
-            what: STORE,
-            number: size,
-            place: address,
-            value: mmx[register] % DOUBLEWORD_RANGE,
-            next: next,
-        };
-    }
-    if form == STORE_Q {
-        return Work {
-            what: STORE,
-            number: size,
-            place: address,
-            value: mmx[register],
-            next: next,
-        };
-    }
     Work {
         what: OPERATE,
-        number: (entry % PART) as u8,
-        place: register,
-        value: words::load(memory, address, size as usize),
+        number: number,
+        place: register as usize,
+        value: value,
         next: next,
+    }
+}
+
+// A value is put where the operand is: in memory so many bytes of it.
+fn put(spot: Spot, size: u8, value: u64, next: usize) -> Work
+    ensures { λ r. ⌜ r ≡ putWork spot size value next ⌝ }
+{
+    match spot {
+        Spot::Mmx(register) => operation(MOVE, register, value, next),
+        Spot::Integer(register) => Work {
+            what: TO_INTEGER,
+            number: 0,
+            place: register as usize,
+            value: value,
+            next: next,
+        },
+        Spot::Bytes(address) => Work {
+            what: STORE,
+            number: size,
+            place: address,
+            value: value,
+            next: next,
+        },
+        Spot::Refused(refusal) => refused(refusal),
     }
 }
 
@@ -149,6 +129,38 @@ fn widened(doubleword: u32) -> u64
     ensures { λ r. ⌜ r ≡ doubleword ⌝ }
 {
     doubleword as u64
+}
+
+// An operation on an MMX register, with the number that the operand has.
+fn computed(
+    mmx: &[u64; 8],
+    integers: &[u32; 8],
+    entry: u32,
+    register: u8,
+    spot: Spot,
+    next: usize,
+    memory: &[u8],
+) -> Work
+    requires { ⌜ Named spot ⌝ }
+    ensures { λ r. ⌜ r ≡ takeWork (now (mmx .entry)) (now (integers .entry)) (now (memory .entry)) (entry % 256) register (entry / 2 ^ 16 % 256) spot next ⌝ }
+{
+    let number = (entry % PART) as u8;
+    match spot {
+        Spot::Mmx(other) => operation(number, register, mmx[other as usize], next),
+        Spot::Integer(other) => operation(
+            number,
+            register,
+            widened(integers[other as usize]),
+            next,
+        ),
+        Spot::Bytes(address) => operation(
+            number,
+            register,
+            words::load(memory, address, (entry / SIZE % PART) as usize),
+            next,
+        ),
+        Spot::Refused(refusal) => refused(refusal),
+    }
 }
 
 // An instruction that the control marks let pass.
@@ -165,63 +177,38 @@ fn sorted(
 {
     let operand = instruction.operand;
     let form = entry / FORM;
-    let register = operand.reg as usize;
-    let other = operand.rm as usize;
-    if form < STORE_D {
-        if form == EMMS {
-            return Work {
-                what: EMPTY,
-                number: 0,
-                place: 0,
-                value: 0,
-                next: next,
-            };
+    let register = operand.reg;
+    if TWO_OPERANDS <= form {
+        let spot = operands::located(integers, entry, operand, memory.len());
+        match form {
+            STORE_D | STORE_Q => {
+                return put(
+                    spot,
+                    (entry / SIZE % PART) as u8,
+                    mmx[register as usize],
+                    next,
+                );
+            }
+            _ => {
+                return computed(mmx, integers, entry, register, spot, next, memory);
+            }
         }
-        return Work {
-            what: OPERATE,
-            number: shifts::shift_number(entry, operand.reg),
-            place: other,
-            value: instruction.immediate as u64,
-            next: next,
-        };
     }
-    if operand.mode != REGISTER {
-        return in_memory(mmx, integers, entry, instruction, next, memory);
-    }
-    if STORE_Q < form {
+    if form == EMMS {
         return Work {
-            what: OPERATE,
-            number: (entry % PART) as u8,
-            place: register,
-            value: mmx[other],
-            next: next,
-        };
-    }
-    if form == STORE_D {
-        return Work {
-            what: TO_INTEGER,
+            what: EMPTY,
             number: 0,
-            place: other,
-            value: mmx[register],
+            place: 0,
+            value: 0,
             next: next,
         };
     }
-    if form == STORE_Q {
-        return Work {
-            what: OPERATE,
-            number: MOVE,
-            place: other,
-            value: mmx[register],
-            next: next,
-        };
-    }
-    Work {
-        what: OPERATE,
-        number: (entry % PART) as u8,
-        place: register,
-        value: widened(integers[other]),
-        next: next,
-    }
+    operation(
+        shifts::shift_number(entry, register),
+        operand.rm,
+        instruction.immediate as u64,
+        next,
+    )
 }
 
 // The instruction at a position: the reader's refusals, then those of the control marks, then that of its operand.
