@@ -18,7 +18,7 @@ use Rattle.machine.specs.declared.operands.Spot.{Spot}
 use Rattle.machine.specs.declared.operands.Spot.the-variants.{Mmx, Integer, Bytes, Refused}
 use Rattle.machine.specs.Spots.{fileIn, otherOf, spotOf, Named}
 use Rattle.machine.specs.Works.{Listed}
-use Rattle.machine.proofs.Numbering.{integer-file, mmx-file, other}
+use Rattle.machine.proofs.Numbering.{other}
 
 -- what holds of a register of either file, and of so many bytes in memory, holds of the operand that r/m names
 pub by-place : (P : File → Location → Type 0) (file : File) (size : ℕ) (w : Operand) → P mmxFile (mmxRegister (w .rm)) → P integerFile (integerRegister (w .rm))
@@ -59,10 +59,10 @@ module _ (integers : List ℕ) (room : ℕ) where
         in-register file e = simp (eq-eqb (w .mode) 3 register, e)
 
         pub spot-mmx : 17 < form → Mmx (w .rm) ≡ here
-        spot-mmx h = in-register mmxFile (mmx-file form _ _ (other form two) h)
+        spot-mmx h = in-register mmxFile (other form two .past h)
 
         pub spot-integer : form ≤ 17 → Integer (w .rm) ≡ here
-        spot-integer h = in-register integerFile (integer-file form _ _ (other form two) h)
+        spot-integer h = in-register integerFile (other form two .low h)
 
       module _ (l : Listed entry) (elsewhere : w .mode ≡ 3 → ⊥) (a : ℕ) (there : a ≡ address integers (addressOf w))
           (t : Bool) (test : t ≡ leb (a + entry / 2 ^ 16 % 256) room) where

@@ -1,6 +1,5 @@
 -- The footprint that no control mark stops, by the form's shape. Rules for what the code makes of a form.
-use mathlib.Core.Path.{_≡_, refl, sym, ap, _∙_}
-use mathlib.Core.Logic.{inl, inr}
+use mathlib.Core.Path.{_≡_, refl}
 use Prim.Native.Nat.{ℕ, _/_, _%_, _^_, _≤_, _<_}
 use borrow.Author.Needs.{needs}
 use Rattle.lanes.specs.Operations.{Operation, operate}
@@ -16,33 +15,11 @@ use Rattle.machine.specs.declared.Places.{Places}
 use Rattle.machine.specs.declared.Footprint.{Footprint}
 use Rattle.machine.specs.declared.reaches.Reach.{Reach}
 use Rattle.machine.specs.declared.reaches.Reach.the-variants.{Inside, Refused}
-use Rattle.machine.specs.PrintShapes.{nowhere, beside, reachOf, storing, loading, computing, unmarkedPrint}
+use Rattle.machine.specs.PrintShapes.{nowhere, beside, reachOf, Way, wayOf, shapedAs, unmarkedPrint}
 use Rattle.machine.specs.Spots.{fileIn, otherOf}
 use Rattle.machine.specs.Works.{effectIn, Listed}
-use Rattle.machine.proofs.Numbering.{Stores, Loads, Shape, is-stored, is-loaded, is-computed, shape, no-load, no-compute, Shifting, shifts-WD, shifts-Q, shifting-form}
+use Rattle.machine.proofs.Numbering.{Shape, stores, loads, computes, shape, Shifting, shifts-WD, shifts-Q, shifting-form}
 use Rattle.machine.proofs.PrintShaping.{shaped, store-prints, load-prints, compute-prints}
-
--- what a shape reads and writes
-module _ (n : ℕ) where
-  abbrev placesIn : (f : Form) → Shape n f → ℕ → ℕ → Places → Footprint
-  placesIn f (is-stored p number file size x) = storing
-  placesIn f (is-loaded p number file size x) = loading
-  placesIn f (is-computed p number file size x) = computing
-
-  as-stored : (f : Form) (v : Shape n f) → Stores n → placesIn f v ≡ storing
-  as-stored f (is-stored p number file size x) g = refl
-  as-stored f (is-loaded p number file size x) g = absurd (no-load n g p)
-  as-stored f (is-computed p number file size x) g = absurd (no-compute n (inl g) p)
-
-  as-loaded : (f : Form) (v : Shape n f) → Loads n → placesIn f v ≡ loading
-  as-loaded f (is-stored p number file size x) g = absurd (no-load n p g)
-  as-loaded f (is-loaded p number file size x) g = refl
-  as-loaded f (is-computed p number file size x) g = absurd (no-compute n (inr g) p)
-
-  as-computed : (f : Form) (v : Shape n f) → (Stores n → ⊥) → (Loads n → ⊥) → placesIn f v ≡ computing
-  as-computed f (is-stored p number file size x) g h = absurd (g p)
-  as-computed f (is-loaded p number file size x) g h = absurd (h p)
-  as-computed f (is-computed p number file size x) g h = refl
 
 module _ (s : State) (entry : ℕ) (i : Instruction) where
   abbrev form : ℕ
@@ -61,36 +38,18 @@ module _ (s : State) (entry : ℕ) (i : Instruction) where
   abbrev copied : ℕ → ℕ
   copied v = operate named v v
 
-  prints : (f : Form) (v : Shape form f) → unmarkedPrint (effectBy f named i) s ≡ shaped (placesIn form f v register) (reachOf (other f) (placesOf s (other f)))
+  prints : (y : Way) (f : Form) → Shape form y f → unmarkedPrint (effectBy f named i) s ≡ shaped (shapedAs y register) (reachOf (other f) (placesOf s (other f)))
   unfolding unmarkedPrint
-  prints f (is-stored p number file size x) = store-prints s register (other f) (λ v. heldBy (rm/mem file size) (copied v)) (placesOf s (other f))
-  prints f (is-loaded p number file size x) = load-prints s register (other f) copied (placesOf s (other f))
-  prints f (is-computed p number file size x) = compute-prints s register (other f) (operate named) (placesOf s (other f))
+  prints y f (stores number file size x) = store-prints s register (other f) (λ v. heldBy (rm/mem file size) (copied v)) (placesOf s (other f))
+  prints y f (loads number file size x) = load-prints s register (other f) copied (placesOf s (other f))
+  prints y f (computes number file size x) = compute-prints s register (other f) (operate named) (placesOf s (other f))
 
-  abbrev there : Location
-  there = otherOf form (i .operand)
-
-  module _ (two : 16 ≤ form) (r : Reach) (reached : r ≡ reachOf there (placesOf s there)) where
-    module _ (f : Footprint) (m : ℕ) (p : Places) (inside : r ≡ Inside m p) where
-      print-as : (shape′ : ℕ → ℕ → Places → Footprint) → placesIn form (formOf form) (shape form two) ≡ shape′ → f ≡ shape′ register m p
-          → done f ≡ unmarkedPrint (effectIn entry i) s
-      print-as shape′ g e =
-          ap done e
-          ∙ sym (prints (formOf form) (shape form two)
-          ∙ ap (λ (y : ℕ → ℕ → Places → Footprint). shaped (y register) (reachOf there (placesOf s there))) g
-          ∙ ap (shaped (shape′ register)) (sym reached ∙ inside))
-
-      pub print-store : Stores form → f ≡ storing register m p → done f ≡ unmarkedPrint (effectIn entry i) s
-      print-store g e = print-as storing (as-stored form (formOf form) (shape form two) g) e
-
-      pub print-load : Loads form → f ≡ loading register m p → done f ≡ unmarkedPrint (effectIn entry i) s
-      print-load g e = print-as loading (as-loaded form (formOf form) (shape form two) g) e
-
-      pub print-compute : (Stores form → ⊥) → (Loads form → ⊥) → f ≡ computing register m p → done f ≡ unmarkedPrint (effectIn entry i) s
-      print-compute g h e = print-as computing (as-computed form (formOf form) (shape form two) g h) e
+  module _ (two : 16 ≤ form) (r : Reach) (reached : r ≡ reachOf (otherOf form (i .operand)) (placesOf s (otherOf form (i .operand)))) where
+    pub print-inside : (f : Footprint) (m : ℕ) (p : Places) → r ≡ Inside m p → f ≡ shapedAs (wayOf form) register m p → done f ≡ unmarkedPrint (effectIn entry i) s
+    print-inside f m p inside e = simp (prints (wayOf form) (formOf form) (shape form two), ← reached, inside, e)
 
     pub print-outside : (n : ℕ) → r ≡ Refused n → refused n ≡ unmarkedPrint (effectIn entry i) s
-    print-outside n e = simp (prints (formOf form) (shape form two), ← reached, e)
+    print-outside n e = simp (prints (wayOf form) (formOf form) (shape form two), ← reached, e)
 
   -- one operand, and none
   shifted : (f : Form) → Shifting f
@@ -107,4 +66,4 @@ module _ (s : State) (entry : ℕ) (i : Instruction) where
   unfolding unmarkedPrint
   print-emms e = simp e
 
-pub ruleset print-forms = (needs, print-store, print-load, print-compute, print-outside, print-shift, print-emms)
+pub ruleset print-forms = (needs, print-inside, print-outside, print-shift, print-emms)

@@ -25,7 +25,7 @@ use Rattle.machine.specs.PrintShapes.{nowhere, through, reachOf, reachAt
 use Rattle.machine.specs.Spots.{fileIn, otherOf, spotOf}
 use Rattle.machine.specs.Works.{Listed}
 use Rattle.machine.proofs.Ranges.{count-bytes}
-use Rattle.machine.proofs.Numbering.{some, other}
+use Rattle.machine.proofs.Numbering.{other}
 use Rattle.machine.proofs.Locating.{by-place, spot-named, register-mmx, register-integer}
 
 no-mmx : (size a : ℕ) → numbersOf mmxNumber (bytesFrom a size) ≡ []
@@ -71,7 +71,7 @@ module _ (s : State) (entry : ℕ) (w : Operand) (l : Listed entry) (two : 16 �
   reach-there r x m e b h =
       let form = formOf (entry / 2 ^ 24) in
       h ∙ rw (e, b (fileIn (form .operands)) (memorySize form), l .sized two)
-      (reaches-all s (memorySize form) w (some (entry / 2 ^ 24) _ _ (other (entry / 2 ^ 24) two)) (fileIn (form .operands)))
+      (reaches-all s (memorySize form) w (other (entry / 2 ^ 24) two .some) (fileIn (form .operands)))
 
 pub made-reach : (x y : Spot) (m size : ℕ) (r : Reach) → x ≡ y → r ≡ reachAt m size y → r ≡ reachAt m size x
 made-reach x y m size r e h = h ∙ ap (reachAt m size) (sym e)

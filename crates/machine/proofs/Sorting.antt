@@ -1,33 +1,27 @@
 -- The work that the code makes of an instruction does what its effect does: one rule for each shape of a form, whatever operand r/m names.
 use mathlib.Core.Path.{_≡_, refl, sym, ap, subst, _∙_}
-use mathlib.Core.Logic.{inl}
-use mathlib.Core.Bool.{Bool, true, false, not, cond}
+use mathlib.Core.Bool.{Bool, true, false, not}
 use mathlib.Core.List.{List}
 use Prim.Native.Nat.{ℕ, _/_, _%_, _^_, _≤_, _<_}
 use native.Mathlib.Omega.{arith}
 use borrow.Author.Needs.{needs}
 use borrow.Author.Tests.{le-leb, not-true}
-use lib.Dec.{eqb}
 use lib.ListN.{length, getD}
-use lib.Seq.{sets}
 use Rattle.lanes.specs.Operations.{Operation, operationOf, operate, MOVE}
 use Rattle.words.specs.Number.{bytes}
-use Rattle.words.specs.Number as little
-use Rattle.words.specs.Bytewise.{gets}
 use Rattle.words.proofs.Laws.{loaded-bytewise, stored-bytewise}
-use Rattle.reorder.specs.Result.{Result, done, refused, andThen}
+use Rattle.reorder.specs.Result.{Result, done, andThen}
 use Rattle.codec.specs.Forms.{File, rm/mem, Form, hasDigits, memorySize}
 use Rattle.codec.specs.Operands.{Registers}
 use Rattle.codec.specs.Table.{formOf, shiftIn, operationIn}
 use Rattle.codec.specs.declared.Operand.{Operand}
 use Rattle.codec.specs.declared.Instruction.{Instruction}
-use Rattle.codec.specs.declared.Kind.the-variants.{Ordinary, Emms}
+use Rattle.codec.specs.declared.Kind.the-variants.{Emms}
 use Rattle.codec.proofs.Bytes.{number-passes}
-use Rattle.manual.specs.Refusals.{outsideMemory}
-use Rattle.manual.specs.State.{State, withMemory}
+use Rattle.manual.specs.State.{State}
 use Rattle.manual.specs.Kinds.{marked}
 use Rattle.manual.specs.Addresses.{address, addressOf}
-use Rattle.manual.specs.Locations.{Location, mmxRegister, rmOf, fits}
+use Rattle.manual.specs.Locations.{Location, mmxRegister, memory, rmOf, fits}
 use Rattle.manual.specs.Effects.{directly}
 use Rattle.manual.specs.Instructions.{heldBy, effectBy}
 use Rattle.manual.specs.Steps.{concluded}
@@ -35,13 +29,13 @@ use Rattle.manual.proofs.Direct.{valueAt, putAt, move-direct, both-direct}
 use Rattle.machine.specs.declared.gathering.Marks.{Marks}
 use Rattle.machine.specs.declared.gathering.Work.{Work}
 use Rattle.machine.specs.declared.operands.Spot.{Spot}
-use Rattle.machine.specs.declared.operands.Spot.the-variants.{Bytes, Refused}
 use Rattle.machine.specs.State.{stateOf}
 use Rattle.machine.specs.Spots.{fileIn, otherOf, spotOf, Named}
-use Rattle.machine.specs.Works.{machineOf, effectIn, isMove, Listed, operationWork, emptyWork, putWork, takeWork, performed, Sound, Does}
+use Rattle.machine.specs.PrintShapes.{Way, storing, wayOf}
+use Rattle.machine.specs.Works.{machineOf, effectIn, isMove, Listed, toOperate, toEmpty, workOf, putWork, takeWork, performed, Sound, Does}
 use Rattle.machine.proofs.Soundness.{sound-operation, sound-empties, sound-put, sound-take}
 use Rattle.machine.proofs.Locating.{by-place, spot-named, register-mmx, register-integer}
-use Rattle.machine.proofs.Numbering.{most, kept, Stores, Shape, is-stored, is-loaded, is-computed, shape, other, no-load, no-compute, Shifting, shifts-WD, shifts-Q, shifting-form}
+use Rattle.machine.proofs.Numbering.{Shape, stores, loads, computes, Stores, way-storing, way-taking, shape, other, Shifting, shifts-WD, shifts-Q, shifting-form}
 
 -- what a form's effect leaves, by its shape
 module _ (s : State) (o : Operation) (i : Instruction) where
@@ -61,26 +55,24 @@ module _ (s : State) (o : Operation) (i : Instruction) where
 
   module _ (n : ℕ) where
     -- a store, which moves, gives what the operand takes of the register's number
-    stores : (form : Form) → Shape n form → Stores n → (isMove form ≡ true → o ≡ MOVE)
+    stored-by : (form : Form) → Shape n storing form → (isMove form ≡ true → o ≡ MOVE)
         → leftBy form ≡ putAt s (there form) (heldBy (rm/mem (fileIn (form .operands)) (memorySize form)) (getD (s .mmx) (own .reg) 0))
     unfolding operate
-    stores form (is-stored p number file size x) g m =
+    stored-by form (stores number file size x) m =
         ap (λ (q : Operation). directly (effectBy form q i) s) (m refl) ∙ move-direct s (heldBy (rm/mem file size)) (rmOf file size own) (mmxRegister (own .reg))
-    stores form (is-loaded p number file size x) g m = absurd (no-load n g p)
-    stores form (is-computed p number file size x) g m = absurd (no-compute n (inl g) p)
 
     -- the others give the operation's, as a load moves
     abbrev computedAs : Operation → Form → Result State
     computedAs p form = andThen (valueAt s (there form)) (λ v. putAt s (mmxRegister (own .reg)) (operate p (getD (s .mmx) (own .reg) 0) v))
 
-    computes : (form : Form) → Shape n form → (Stores n → ⊥) → (isMove form ≡ true → o ≡ MOVE) → leftBy form ≡ computedAs o form
+    computed-by : (y : Way) (form : Form) → Shape n y form → (y ≡ storing → ⊥) → (isMove form ≡ true → o ≡ MOVE) → leftBy form ≡ computedAs o form
     unfolding operate
-    computes form (is-stored p number file size x) g m = absurd (g p)
-    computes form (is-loaded p number file size x) g m =
+    computed-by y form (stores number file size x) g m = absurd (g refl)
+    computed-by y form (loads number file size x) g m =
         ap (λ (q : Operation). directly (effectBy form q i) s) (m refl)
         ∙ move-direct s (λ v. v) (mmxRegister (own .reg)) (rmOf file size own)
         ∙ ap (λ (q : Operation). computedAs q form) (sym (m refl))
-    computes form (is-computed p number file size x) g m = both-direct s (operate o) (own .reg) (rmOf file size own)
+    computed-by y form (computes number file size x) g m = both-direct s (operate o) (own .reg) (rmOf file size own)
 
 shift-digits : (form : Form) → Shifting form → hasDigits form ≡ true
 shift-digits form shifts-WD = refl
@@ -100,42 +92,34 @@ module _ (registers integers m : List ℕ) (next : ℕ) where
     abbrev spot : Location → Spot
     spot x = spotOf integers (length m) x
 
-    abbrev bytesAt : ℕ
-    bytesAt = address integers (addressOf w)
+    abbrev room : Bool
+    room = fits (length m) size (address integers (addressOf w))
 
-    puts : (file : File) (v : ℕ) → bytes size (heldBy (rm/mem file size) v) ≡ bytes size v
-        → Leaves (putWork (spot (rmOf file size w)) size v next) (λ s. putAt s (rmOf file size w) (heldBy (rm/mem file size) v))
+    -- a value that is put there
+    abbrev Puts : ℕ → File → Location → Type 0
+    Puts v f x = bytes size (heldBy (rm/mem f size) v) ≡ bytes size v → Leaves (putWork (spot x) size v next) (λ s. putAt s x (heldBy (rm/mem f size) v))
+
+    puts : (file : File) (v : ℕ) → Puts v file (rmOf file size w)
     unfolding performed operate
-    puts file v keeps marks at =
-        by-place
-        (λ f x. bytes size (heldBy (rm/mem f size) v) ≡ bytes size v
-        → performed (putWork (spot x) size v next) at (state marks) ≡ concluded at next (state marks) (putAt (state marks) x (heldBy (rm/mem f size) v)))
-        file size w (λ e. refl) (λ e. refl) (λ f e. inside (heldBy (rm/mem f size) v) e (fits (length m) size bytesAt) refl) keeps
+    puts file v = by-place (Puts v) file size w (λ e marks at. refl) (λ e marks at. refl) (λ f. inside f room refl)
       where
-        inside : (k : ℕ) → bytes size k ≡ bytes size v → (u : Bool) → fits (length m) size bytesAt ≡ u
-            → performed (putWork (cond u (Bytes bytesAt) (Refused outsideMemory)) size v next) at (state marks)
-            ≡ concluded at next (state marks) (cond u (done (marked Ordinary (withMemory (state marks) (sets m bytesAt (bytes size k))))) (refused outsideMemory))
-        inside k e true h = simp (stored-bytewise, le-leb size 8 few, h, e)
-        inside k e false h = refl
+        inside : (f : File) (u : Bool) → room ≡ u → Puts v f (memory (addressOf w) size)
+        inside f true h e marks at = simp (h, stored-bytewise, le-leb size 8 few, e)
+        inside f false h e marks at = simp h
 
-    takes : (file : File) (number place : ℕ)
-        → Leaves (takeWork registers integers m number place size (spot (rmOf file size w)) next)
-        (λ s. andThen (valueAt s (rmOf file size w)) (λ v. putAt s (mmxRegister place) (operate (operationOf number) (getD registers place 0) v)))
+    -- an operation with the number that is there
+    abbrev Takes : ℕ → ℕ → Location → Type 0
+    Takes number place x =
+        Leaves (takeWork registers integers m number place size (spot x) next)
+        (λ s. andThen (valueAt s x) (λ v. putAt s (mmxRegister place) (operate (operationOf number) (getD registers place 0) v)))
+
+    takes : (file : File) (number place : ℕ) → Takes number place (rmOf file size w)
     unfolding performed
-    takes file number place marks at =
-        by-place
-        (λ f x. performed (takeWork registers integers m number place size (spot x) next) at (state marks)
-        ≡ concluded at next (state marks) (andThen (valueAt (state marks) x) left))
-        file size w refl refl (λ f. inside (fits (length m) size bytesAt) refl)
+    takes file number place = by-place (λ f x. Takes number place x) file size w (λ marks at. refl) (λ marks at. refl) (λ f. inside room refl)
       where
-        left : ℕ → Result State
-        left v = putAt (state marks) (mmxRegister place) (operate (operationOf number) (getD registers place 0) v)
-
-        inside : (u : Bool) → fits (length m) size bytesAt ≡ u
-            → performed (takeWork registers integers m number place size (cond u (Bytes bytesAt) (Refused outsideMemory)) next) at (state marks)
-            ≡ concluded at next (state marks) (andThen (cond u (done (little.number (gets size m bytesAt))) (refused outsideMemory)) left)
-        inside true h = simp (loaded-bytewise, le-leb size 8 few, h)
-        inside false h = refl
+        inside : (u : Bool) → room ≡ u → Takes number place (memory (addressOf w) size)
+        inside true h marks at = simp (h, loaded-bytewise, le-leb size 8 few)
+        inside false h marks at = simp h
 
 -- an instruction by the table's number for it
 module _ (registers integers m : List ℕ) (entry : ℕ) (i : Instruction) (next : ℕ) where
@@ -157,22 +141,23 @@ module _ (registers integers m : List ℕ) (entry : ℕ) (i : Instruction) (next
   of-work work left sound leaves performs =
       record { sound = sound; does = λ marks at. let s = state registers integers m next marks in performs marks at ∙ sym (ap (concluded at next s) (leaves s)) }
 
-  pub does-emms : formIn ≡ 1 → Does (emptyWork next) registers integers m (effectIn entry i) next
+  pub does-emms : (work : Work) → formIn ≡ 1 → work ≡ workOf toEmpty 0 0 0 next → Does work registers integers m (effectIn entry i) next
   unfolding performed
-  does-emms e =
-      of-work (emptyWork next) (λ s. done (marked Emms s)) (sound-empties next)
-      (λ s. ap (λ (n : ℕ). directly (effectBy (formOf n) named i) s) e) (λ marks at. refl)
+  does-emms work e made =
+      rw made
+      (of-work (workOf toEmpty 0 0 0 next) (λ s. done (marked Emms s)) (sound-empties next)
+      (λ s. ap (λ (n : ℕ). directly (effectBy (formOf n) named i) s) e) (λ marks at. refl))
 
   module _ (r : Registers w) (l : Listed entry) where
     -- the shifts by an immediate
     pub does-shift : (number : ℕ) (work : Work) → formIn < 16 → (formIn ≡ 1 → ⊥) → operationOf number ≡ shiftIn entry (w .reg)
-        → work ≡ operationWork number (w .rm) (i .immediate) next → Does work registers integers m (effectIn entry i) next
+        → work ≡ workOf toOperate number (w .rm) (i .immediate) next → Does work registers integers m (effectIn entry i) next
     unfolding performed operationIn
     does-shift number work h other e made =
         let is : Shifting form = shifting-form formIn (l .known h) other (l .present) in
         let same : named ≡ operationOf number = simp (shift-digits form is) (sym e) in
         rw made
-        (of-work (operationWork number (w .rm) (i .immediate) next)
+        (of-work (workOf toOperate number (w .rm) (i .immediate) next)
         (λ s. putAt s (mmxRegister (w .rm)) (operate (operationOf number) (getD (s .mmx) (w .rm) 0) (i .immediate)))
         (sound-operation number (w .rm) (i .immediate) next (r .rm))
         (λ s.
@@ -195,9 +180,6 @@ module _ (registers integers m : List ℕ) (entry : ℕ) (i : Instruction) (next
       abbrev size : ℕ
       size = memorySize form
 
-      few : size ≤ 8
-      few = most formIn file size (other formIn two)
-
       there-named : Named (spotOf integers (length m) (otherOf formIn w))
       there-named = spot-named integers (length m) entry w (spotOf integers (length m) (otherOf formIn w)) refl r
 
@@ -208,8 +190,8 @@ module _ (registers integers m : List ℕ) (entry : ℕ) (i : Instruction) (next
           rw (e, found, l .sized two)
           (of-work (putWork y size v next) (λ s. putAt s (otherOf formIn w) (heldBy (rm/mem file size) (getD (s .mmx) (w .reg) 0)))
           (sound-put y size v next there-named)
-          (λ s. stores s named i formIn form (shape formIn two) g moves)
-          (puts registers integers m next size w few file v (kept formIn file size (other formIn two) v)))
+          (λ s. stored-by s named i formIn form (subst (λ (y : Way). Shape formIn y form) (way-storing formIn g) (shape formIn two)) moves)
+          (puts registers integers m next size w (other formIn two .most) file v (other formIn two .kept v)))
 
       pub does-take : (Stores formIn → ⊥) → work ≡ takeWork registers integers m (entry % 256) (w .reg) (entry / 2 ^ 16 % 256) x next
           → Does work registers integers m (effectIn entry i) next
@@ -218,8 +200,8 @@ module _ (registers integers m : List ℕ) (entry : ℕ) (i : Instruction) (next
           rw (e, found, l .sized two)
           (of-work (takeWork registers integers m (entry % 256) (w .reg) size y next) (λ s. computedAs s named i formIn (operationOf (entry % 256)) form)
           (sound-take registers integers m (entry % 256) (w .reg) size y next (r .reg) there-named)
-          (λ s. computes s named i formIn form (shape formIn two) g moves ∙ ap (λ (o : Operation). computedAs s named i formIn o form) plain)
-          (takes registers integers m next size w few file (entry % 256) (w .reg)))
+          (λ s. computed-by s named i formIn (wayOf formIn) form (shape formIn two) (way-taking formIn g) moves ∙ ap (λ (o : Operation). computedAs s named i formIn o form) plain)
+          (takes registers integers m next size w (other formIn two .most) file (entry % 256) (w .reg)))
 
 -- what the code makes where the operand is
 module _ (x y : Spot) (size next : ℕ) (work : Work) (e : x ≡ y) where
@@ -230,9 +212,9 @@ module _ (x y : Spot) (size next : ℕ) (work : Work) (e : x ≡ y) where
     pub made-take : work ≡ takeWork registers integers m number place size y next → work ≡ takeWork registers integers m number place size x next
     made-take h = h ∙ ap (λ (z : Spot). takeWork registers integers m number place size z next) (sym e)
 
-    pub made-taken : (v u : ℕ) → work ≡ operationWork number place v next → operationWork number place u next ≡ takeWork registers integers m number place size y next
+    pub made-taken : (v u : ℕ) → work ≡ workOf toOperate number place v next → workOf toOperate number place u next ≡ takeWork registers integers m number place size y next
         → v ≡ u → work ≡ takeWork registers integers m number place size x next
-    made-taken v u h g same = made-take (h ∙ ap (λ (z : ℕ). operationWork number place z next) same ∙ g)
+    made-taken v u h g same = made-take (h ∙ ap (λ (z : ℕ). workOf toOperate number place z next) same ∙ g)
 
 pub ruleset sorting = (needs, spot-named, does-emms, does-shift, does-put, does-take)
 

@@ -1,4 +1,4 @@
--- The works that the code makes are sound: each kind by its number.
+-- The works that the code makes are sound, by what is to be done.
 use mathlib.Core.Path.{_≡_, refl}
 use mathlib.Core.List.{List}
 use Prim.Native.Nat.{ℕ, _<_}
@@ -9,21 +9,13 @@ use Rattle.words.specs.Buffer.{loaded}
 use Rattle.machine.specs.declared.operands.Spot.{Spot}
 use Rattle.machine.specs.declared.operands.Spot.the-variants.{Mmx, Integer, Bytes, Refused}
 use Rattle.machine.specs.Spots.{Named}
-use Rattle.machine.specs.Works.{operationWork, storeWork, integerWork, emptyWork, refusedWork, putWork, takeWork, Sound}
+use Rattle.machine.specs.Works.{toOperate, toEmpty, workOf, refusedWork, putWork, takeWork, Sound}
 
-pub sound-operation : (number place value next : ℕ) → place < 8 → Sound (operationWork number place value next)
+pub sound-operation : (number place value next : ℕ) → place < 8 → Sound (workOf toOperate number place value next)
 sound-operation number place value next h =
     record { operates = λ e. h; moves = λ e. absurd (omega arith); refuses = λ a b c d. absurd (a refl) }
 
-pub sound-store : (number place value next : ℕ) → Sound (storeWork number place value next)
-sound-store number place value next =
-    record { operates = λ e. absurd (omega arith); moves = λ e. absurd (omega arith); refuses = λ a b c d. absurd (b refl) }
-
-pub sound-integer : (place value next : ℕ) → place < 8 → Sound (integerWork place value next)
-sound-integer place value next h =
-    record { operates = λ e. absurd (omega arith); moves = λ e. h; refuses = λ a b c d. absurd (c refl) }
-
-pub sound-empties : (next : ℕ) → Sound (emptyWork next)
+pub sound-empties : (next : ℕ) → Sound (workOf toEmpty 0 0 0 next)
 sound-empties next =
     record { operates = λ e. absurd (omega arith); moves = λ e. absurd (omega arith); refuses = λ a b c d. absurd (d refl) }
 
@@ -31,11 +23,12 @@ pub sound-refusal : (refusal : ℕ) → (refusal ≡ 0 → ⊥) → Sound (refus
 sound-refusal refusal h =
     record { operates = λ e. absurd (omega arith); moves = λ e. absurd (omega arith); refuses = λ a b c d. h }
 
--- and so those for wherever an operand is
 pub sound-put : (x : Spot) (size value next : ℕ) → Named x → Sound (putWork x size value next)
 sound-put (Mmx k) size value next h = sound-operation (numbered MOVE .0) k value next h
-sound-put (Integer k) size value next h = sound-integer k value next h
-sound-put (Bytes a) size value next h = sound-store size a value next
+sound-put (Integer k) size value next h =
+    record { operates = λ e. absurd (omega arith); moves = λ e. h; refuses = λ a b c d. absurd (c refl) }
+sound-put (Bytes a) size value next h =
+    record { operates = λ e. absurd (omega arith); moves = λ e. absurd (omega arith); refuses = λ a b c d. absurd (b refl) }
 sound-put (Refused n) size value next h = sound-refusal n h
 
 pub sound-take : (registers integers memory : List ℕ) (number place size : ℕ) (x : Spot) (next : ℕ) → place < 8 → Named x

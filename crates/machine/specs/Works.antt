@@ -76,33 +76,24 @@ toRefuse = 4
 
 -- the works that the code makes
 
-abbrev pub operationWork : ℕ → ℕ → ℕ → ℕ → Work
-operationWork number place value next = record { what = toOperate; number = number; place = place; value = value; next = next }
-
-abbrev pub storeWork : ℕ → ℕ → ℕ → ℕ → Work
-storeWork number place value next = record { what = toStore; number = number; place = place; value = value; next = next }
-
-abbrev pub integerWork : ℕ → ℕ → ℕ → Work
-integerWork place value next = record { what = toInteger; number = 0; place = place; value = value; next = next }
-
-abbrev pub emptyWork : ℕ → Work
-emptyWork next = record { what = toEmpty; number = 0; place = 0; value = 0; next = next }
+abbrev pub workOf : ℕ → ℕ → ℕ → ℕ → ℕ → Work
+workOf what number place value next = record { what = what; number = number; place = place; value = value; next = next }
 
 abbrev pub refusedWork : ℕ → Work
-refusedWork refusal = record { what = toRefuse; number = refusal; place = 0; value = 0; next = 0 }
+refusedWork refusal = workOf toRefuse refusal 0 0 0
 
 -- a value is put where an operand of that size is
 abbrev pub putWork : Spot → ℕ → ℕ → ℕ → Work
-putWork (Mmx k) size value next = operationWork (numbered MOVE .0) k value next
-putWork (Integer k) size value next = integerWork k value next
-putWork (Bytes a) size value next = storeWork size a value next
+putWork (Mmx k) size value next = workOf toOperate (numbered MOVE .0) k value next
+putWork (Integer k) size value next = workOf toInteger 0 k value next
+putWork (Bytes a) size value next = workOf toStore size a value next
 putWork (Refused n) size value next = refusedWork n
 
 -- an operation on a register, with the number that an operand of that size has
 abbrev pub takeWork : List ℕ → List ℕ → List ℕ → ℕ → ℕ → ℕ → Spot → ℕ → Work
-takeWork registers integers memory number place size (Mmx k) next = operationWork number place (getD registers k 0) next
-takeWork registers integers memory number place size (Integer k) next = operationWork number place (getD integers k 0) next
-takeWork registers integers memory number place size (Bytes a) next = operationWork number place (loaded memory a size) next
+takeWork registers integers memory number place size (Mmx k) next = workOf toOperate number place (getD registers k 0) next
+takeWork registers integers memory number place size (Integer k) next = workOf toOperate number place (getD integers k 0) next
+takeWork registers integers memory number place size (Bytes a) next = workOf toOperate number place (loaded memory a size) next
 takeWork registers integers memory number place size (Refused n) next = refusedWork n
 
 -- what a work comes to at a position, in a state: an operation on an MMX register, a store, a move to an integer register, the tag mark set

@@ -1,4 +1,4 @@
-// The footprint of the step at a position: what each shape reads and writes, by the form, after the tests of the step.
+// The footprint of the step at a position: what each form reads and writes, after the tests of the step.
 use crate::Footprint;
 use crate::Machine;
 use crate::Places;
@@ -24,49 +24,30 @@ ghost use Prim.Native.Nat.{_/_, _^_, _≤_, _<_};
 ghost use Rattle.codec.specs.Operands.{Registers};
 ghost use Rattle.machine.specs.State.{stateOf};
 ghost use Rattle.machine.specs.Prints.{printAt, paperOfFootprint};
-ghost use Rattle.machine.specs.PrintShapes.{storing, loading, computing, unmarkedPrint};
+ghost use Rattle.machine.specs.PrintShapes.{ordinaryPrint, wayOf, shapedAs, unmarkedPrint};
 ghost use Rattle.machine.specs.Works.{effectIn, Listed};
 
-// An MMX register is stored in the operand of r/m: what is there is not read.
-fn stored(register: u8, registers: u8, places: Places) -> Footprint
+// What is read, with the address registers, and what is written.
+fn ordinary(registers: u8, reads: Places, writes: Places) -> Footprint
+    ensures { λ r. ⌜ r ≡ ordinaryPrint registers reads writes ⌝ }
+{
+    Footprint {
+        reads: reaches::with_integers(registers, reads),
+        writes: writes,
+        kind: Kind::Ordinary,
+    }
+}
+
+// An MMX register is stored in the operand of r/m, or loaded from it, or computed with it: then both are read.
+fn shaped(form: u32, register: u8, registers: u8, places: Places) -> Footprint
     requires { ⌜ register < 8 ⌝ }
-    ensures { λ r. ⌜ r ≡ storing register registers places ⌝ }
+    ensures { λ r. ⌜ r ≡ shapedAs (wayOf form) register registers places ⌝ }
 {
     let own = reaches::with_register(register, reaches::NOWHERE);
-    let reads = reaches::with_integers(registers, own);
-    Footprint {
-        reads: reads,
-        writes: places,
-        kind: Kind::Ordinary,
-    }
-}
-
-// An MMX register is loaded from the operand of r/m: it is not read.
-fn loaded(register: u8, registers: u8, places: Places) -> Footprint
-    requires { ⌜ register < 8 ⌝ }
-    ensures { λ r. ⌜ r ≡ loading register registers places ⌝ }
-{
-    let reads = reaches::with_integers(registers, places);
-    let writes = reaches::with_register(register, reaches::NOWHERE);
-    Footprint {
-        reads: reads,
-        writes: writes,
-        kind: Kind::Ordinary,
-    }
-}
-
-// An MMX register is computed with the operand of r/m: both are read.
-fn computed(register: u8, registers: u8, places: Places) -> Footprint
-    requires { ⌜ register < 8 ⌝ }
-    ensures { λ r. ⌜ r ≡ computing register registers places ⌝ }
-{
-    let both = reaches::with_register(register, places);
-    let reads = reaches::with_integers(registers, both);
-    let writes = reaches::with_register(register, reaches::NOWHERE);
-    Footprint {
-        reads: reads,
-        writes: writes,
-        kind: Kind::Ordinary,
+    match form {
+        STORE_D | STORE_Q => ordinary(registers, own, places),
+        LOAD_D | LOAD_Q => ordinary(registers, places, own),
+        _ => ordinary(registers, reaches::with_register(register, places), own),
     }
 }
 
@@ -76,16 +57,14 @@ fn two_operands(machine: Machine, entry: u32, instruction: Instruction, memory: 
     ensures { λ r. ⌜ paperOfFootprint r ≡ unmarkedPrint (effectIn entry instruction) (stateOf machine (now (memory .entry))) ⌝ }
 {
     let operand = instruction.operand;
-    let form = entry / FORM;
     let reached = reaches::reach_operand(machine, entry, operand, memory);
     match reached {
-        Reach::Inside(registers, places) => {
-            match form {
-                STORE_D | STORE_Q => Printed::Of(stored(operand.reg, registers, places)),
-                LOAD_D | LOAD_Q => Printed::Of(loaded(operand.reg, registers, places)),
-                _ => Printed::Of(computed(operand.reg, registers, places)),
-            }
-        }
+        Reach::Inside(registers, places) => Printed::Of(shaped(
+            entry / FORM,
+            operand.reg,
+            registers,
+            places,
+        )),
         Reach::Refused(refusal) => Printed::Refused(refusal),
     }
 }

@@ -22,7 +22,7 @@ ghost use Rattle.codec.specs.Table.{opcodeTable};
 ghost use Rattle.codec.specs.Reads.{longestCode};
 ghost use Rattle.manual.specs.State.{longestMemory};
 ghost use Rattle.machine.specs.Spots.{Named};
-ghost use Rattle.machine.specs.Works.{barredBy, effectIn, Listed, operationWork, Does, Gathered, refusedWork, putWork, takeWork};
+ghost use Rattle.machine.specs.Works.{barredBy, effectIn, Listed, workOf, refusedWork, putWork, takeWork, Does, Gathered};
 
 // How many values a doubleword has.
 pub(crate) const DOUBLEWORD_RANGE: u64 = 0x100000000;
@@ -60,16 +60,22 @@ pub(crate) const EMPTY: u8 = 3;
 // Nothing: the refusal of that number.
 const REFUSE: u8 = 4;
 
+fn work_of(what: u8, number: u8, place: usize, value: u64, next: usize) -> Work
+    ensures { λ r. ⌜ r ≡ workOf what number place value next ⌝ }
+{
+    Work {
+        what: what,
+        number: number,
+        place: place,
+        value: value,
+        next: next,
+    }
+}
+
 fn refused(refusal: u8) -> Work
     ensures { λ r. ⌜ r ≡ refusedWork refusal ⌝ }
 {
-    Work {
-        what: REFUSE,
-        number: refusal,
-        place: 0,
-        value: 0,
-        next: 0,
-    }
+    work_of(REFUSE, refusal, 0, 0, 0)
 }
 
 // The refusal of the control marks, EM before TS before pending, or 0.
@@ -88,39 +94,14 @@ pub(crate) fn barred(em: bool, ts: bool, pending: bool) -> u8
     0
 }
 
-// An operation on an MMX register.
-fn operation(number: u8, register: u8, value: u64, next: usize) -> Work
-    ensures { λ r. ⌜ r ≡ operationWork number register value next ⌝ }
-{
-    Work {
-        what: OPERATE,
-        number: number,
-        place: register as usize,
-        value: value,
-        next: next,
-    }
-}
-
 // A value is put where the operand is: in memory so many bytes of it.
 fn put(spot: Spot, size: u8, value: u64, next: usize) -> Work
     ensures { λ r. ⌜ r ≡ putWork spot size value next ⌝ }
 {
     match spot {
-        Spot::Mmx(register) => operation(MOVE, register, value, next),
-        Spot::Integer(register) => Work {
-            what: TO_INTEGER,
-            number: 0,
-            place: register as usize,
-            value: value,
-            next: next,
-        },
-        Spot::Bytes(address) => Work {
-            what: STORE,
-            number: size,
-            place: address,
-            value: value,
-            next: next,
-        },
+        Spot::Mmx(register) => work_of(OPERATE, MOVE, register as usize, value, next),
+        Spot::Integer(register) => work_of(TO_INTEGER, 0, register as usize, value, next),
+        Spot::Bytes(address) => work_of(STORE, size, address, value, next),
         Spot::Refused(refusal) => refused(refusal),
     }
 }
@@ -136,7 +117,7 @@ fn computed(
     mmx: &[u64; 8],
     integers: &[u32; 8],
     entry: u32,
-    register: u8,
+    register: usize,
     spot: Spot,
     next: usize,
     memory: &[u8],
@@ -145,18 +126,21 @@ fn computed(
     ensures { λ r. ⌜ r ≡ takeWork (now (mmx .entry)) (now (integers .entry)) (now (memory .entry)) (entry % 256) register (entry / 2 ^ 16 % 256) spot next ⌝ }
 {
     let number = (entry % PART) as u8;
+    let size = (entry / SIZE % PART) as usize;
     match spot {
-        Spot::Mmx(other) => operation(number, register, mmx[other as usize], next),
-        Spot::Integer(other) => operation(
+        Spot::Mmx(other) => work_of(OPERATE, number, register, mmx[other as usize], next),
+        Spot::Integer(other) => work_of(
+            OPERATE,
             number,
             register,
             widened(integers[other as usize]),
             next,
         ),
-        Spot::Bytes(address) => operation(
+        Spot::Bytes(address) => work_of(
+            OPERATE,
             number,
             register,
-            words::load(memory, address, (entry / SIZE % PART) as usize),
+            words::load(memory, address, size),
             next,
         ),
         Spot::Refused(refusal) => refused(refusal),
@@ -177,35 +161,22 @@ fn sorted(
 {
     let operand = instruction.operand;
     let form = entry / FORM;
-    let register = operand.reg;
+    let register = operand.reg as usize;
     if TWO_OPERANDS <= form {
         let spot = operands::located(integers, entry, operand, memory.len());
-        match form {
-            STORE_D | STORE_Q => {
-                return put(
-                    spot,
-                    (entry / SIZE % PART) as u8,
-                    mmx[register as usize],
-                    next,
-                );
-            }
-            _ => {
-                return computed(mmx, integers, entry, register, spot, next, memory);
-            }
-        }
-    }
-    if form == EMMS {
-        return Work {
-            what: EMPTY,
-            number: 0,
-            place: 0,
-            value: 0,
-            next: next,
+        return match form {
+            STORE_D | STORE_Q => put(spot, (entry / SIZE % PART) as u8, mmx[register], next),
+            _ => computed(mmx, integers, entry, register, spot, next, memory),
         };
     }
-    operation(
-        shifts::shift_number(entry, register),
-        operand.rm,
+    if form == EMMS {
+        return work_of(EMPTY, 0, 0, 0, next);
+    }
+    let number = shifts::shift_number(entry, operand.reg);
+    work_of(
+        OPERATE,
+        number,
+        operand.rm as usize,
         instruction.immediate as u64,
         next,
     )

@@ -8,10 +8,13 @@ put-spec =
     tie.close
     (tie.spec
     (λ c. search putting)
+    (λ c. search putting)
     (λ c κs. search putting)
     (λ c. search putting)
     (λ c. search putting)
+    (λ c κs. search putting)
     (λ c. search putting)
+    (λ c κs. search putting)
     (λ c. search putting)
     (λ c κs. search putting)
     (λ c. search putting)
