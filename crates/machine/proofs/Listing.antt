@@ -1,12 +1,11 @@
 -- What is read has a number of the table: its form is present, as an absent one is refused, and each number keeps what `Listed` says. Rules for what
 -- the code looks up.
 use mathlib.Core.Path.{_≡_, refl, sym, ap, ap₂, subst, _∙_}
-use mathlib.Core.Bool.{Bool, true, false, not, cond, _&&_, _||_, or-false, false≢true}
+use mathlib.Core.Bool.{Bool, true, false, not, cond, _&&_, _||_, false≢true}
 use mathlib.Core.List.{List}
 use Prim.Native.Nat.{ℕ, _/_, _%_, _^_}
-use native.Mathlib.Omega.{arith}
-use borrow.Author.Tests.{ltb-true, ltb-false, le-ltb, le-leb, lt-leb, eqb-true}
-use lib.Dec.{eqb, ltb, leb}
+use borrow.Author.Tests.{ltb-true, ltb-false, le-ltb, eqb-true}
+use lib.Dec.{eqb, ltb}
 use lib.ListN.{length, getD, drop}
 use Rattle.lanes.specs.Operations.{Operation, operationOf, numbered, MOVE}
 use Rattle.codec.specs.Answers.{Decoded, good, refused, paperOfReading}
@@ -25,26 +24,28 @@ use Rattle.codec.proofs.Given.{Known, Refusal, reads-known}
 use Rattle.codec.proofs.Entries.{agree, table-entry, form-is, operation-is}
 use Rattle.codec.proofs.Bytes.{form-beyond}
 use Rattle.manual.specs.Instructions.{effectBy, effectOf}
-use Rattle.machine.specs.Works.{effectIn, isMove, Listed}
+use Rattle.machine.specs.Works.{effectIn, isMove, isListed, Listed}
 
 -- the numbers are tested by a computation
-abbrev isListed : ℕ → Bool
-isListed number =
-    (ltb (number / 2 ^ 24) 4 || (leb 16 (number / 2 ^ 24) && eqb (number / 2 ^ 16 % 256) (memorySize (formOf (number / 2 ^ 24)))))
-    && (not (isMove (formOf (number / 2 ^ 24))) || eqb (number % 256) (numbered MOVE .0))
+abbrev passes : ℕ → Bool
+passes number =
+    isListed (number / 2 ^ 24)
+    && ((ltb (number / 2 ^ 24) 16 || eqb (number / 2 ^ 16 % 256) (memorySize (formOf (number / 2 ^ 24))))
+    && (not (isMove (formOf (number / 2 ^ 24))) || eqb (number % 256) (numbered MOVE .0)))
 
-all-listed : listed (λ k. isListed (entryAt k)) 0 256 ≡ listed (λ k. true) 0 256
+all-pass : listed (λ k. passes (entryAt k)) 0 256 ≡ listed (λ k. true) 0 256
 unfolding formAt operationAt
-all-listed = refl
+all-pass = refl
 
-number-listed : (number : ℕ) → isListed number ≡ true → (number / 2 ^ 24 ≡ 0 → ⊥) → Listed number
+number-listed : (number : ℕ) → passes number ≡ true → (number / 2 ^ 24 ≡ 0 → ⊥) → Listed number
 number-listed number h p =
-    let (a, b) = and-both (ltb (number / 2 ^ 24) 4 || (leb 16 (number / 2 ^ 24) && eqb (number / 2 ^ 16 % 256) (memorySize (formOf (number / 2 ^ 24))))) _ h in
+    let (a, rest) = and-both (isListed (number / 2 ^ 24)) _ h in
+    let (b, c) = and-both (ltb (number / 2 ^ 24) 16 || eqb (number / 2 ^ 16 % 256) (memorySize (formOf (number / 2 ^ 24)))) _ rest in
     record {
+      listed = a;
       present = p;
-      known = λ below. ltb-true _ _ (simp (lt-leb 16 (number / 2 ^ 24) below, or-false) at a);
-      sized = λ two. eqb-true _ _ (simp (le-ltb (number / 2 ^ 24) 4 (omega arith), le-leb 16 (number / 2 ^ 24) two) at a);
-      moves = λ m. ap operationOf (eqb-true (number % 256) (numbered MOVE .0) (simp m at b));
+      sized = λ two. eqb-true _ _ (simp (le-ltb (number / 2 ^ 24) 16 two) at b);
+      moves = λ m. ap operationOf (eqb-true (number % 256) (numbered MOVE .0) (simp m at c));
     }
 
 -- a second byte whose form is there has a number that is listed
@@ -55,7 +56,7 @@ row-listed second e = by (ltb second 256) refl
     by true h =
         let fits = ltb-true second 256 h in
         number-listed (getD opcodeTable second 0)
-        (ap isListed (table-entry second fits) ∙ agree (λ k. isListed (entryAt k)) (λ k. true) true 256 second all-listed fits)
+        (ap passes (table-entry second fits) ∙ agree (λ k. passes (entryAt k)) (λ k. true) true 256 second all-pass fits)
         (λ z. false≢true (sym e ∙ ap isAbsent (sym (form-is second)) ∙ ap (λ (n : ℕ). isAbsent (formOf n)) z))
     by false h = absurd (false≢true (sym e ∙ ap isAbsent (form-beyond second (ltb-false second 256 h))))
 

@@ -52,19 +52,19 @@ module _ (integers : List ℕ) (room : ℕ) where
     pub spot-named : (x : Spot) → x ≡ here → Registers w → Named x
     spot-named x e r = subst Named (sym e) (named (fileIn (formOf form .operands)) (memorySize (formOf form)) w (r .rm))
 
-    module _ (two : 16 ≤ form) where
+    module _ (l : Listed entry) (two : 16 ≤ form) where
       module _ (register : w .mode ≡ 3) where
         in-register : (file : File) → fileIn (formOf form .operands) ≡ file → spotOf integers room (registerIn file (w .rm)) ≡ here
         unfolding rmOf
         in-register file e = simp (eq-eqb (w .mode) 3 register, e)
 
         pub spot-mmx : 17 < form → Mmx (w .rm) ≡ here
-        spot-mmx h = in-register mmxFile (other form two .past h)
+        spot-mmx h = in-register mmxFile (other form (l .listed) two .past h)
 
         pub spot-integer : form ≤ 17 → Integer (w .rm) ≡ here
-        spot-integer h = in-register integerFile (other form two .low h)
+        spot-integer h = in-register integerFile (other form (l .listed) two .low h)
 
-      module _ (l : Listed entry) (elsewhere : w .mode ≡ 3 → ⊥) (a : ℕ) (there : a ≡ address integers (addressOf w))
+      module _ (elsewhere : w .mode ≡ 3 → ⊥) (a : ℕ) (there : a ≡ address integers (addressOf w))
           (t : Bool) (test : t ≡ leb (a + entry / 2 ^ 16 % 256) room) where
         tested : cond t (Bytes a) (Refused outsideMemory) ≡ here
         unfolding rmOf

@@ -1,20 +1,20 @@
 -- The forms by their numbers in the table: those of a destination and a source by their operands, whatever register file and size r/m has.
 use mathlib.Core.Path.{_≡_, refl, sym, subst}
 use mathlib.Core.Logic.{_⊎_, inl, inr}
-use mathlib.Core.Bool.{Bool, true, false, cond, _||_}
-use mathlib.Core.List.{[], _∷_}
-use Prim.Native.Nat.{ℕ, zero, suc, _+_, _-_, _/_, _%_, _^_, _≤_, _<_}
+use mathlib.Core.Bool.{Bool, true, false, cond, _||_, false≢true}
+use mathlib.Core.List.{List, [], _∷_}
+use Prim.Native.Nat.{ℕ, _/_, _%_, _^_, _≤_, _<_}
 use native.Mathlib.Omega.{arith}
-use borrow.Author.Tests.{ne-eqb, eqb-true, ltb-true}
-use lib.Dec.{eqb, ltb}
+use borrow.Author.Tests.{ne-eqb, eqb-true}
+use lib.Dec.{eqb}
 use Rattle.words.specs.Number.{bytes}
-use Rattle.codec.specs.Forms.{Use, read, written, updated, File, mmxFile, integerFile, Slot, rm/mem, mmreg1, Form, mmreg2·imm8/642, mmreg2·imm8/62, mmreg1·mmreg2/mem64, forms, memorySize}
+use Rattle.codec.specs.Forms.{Use, read, written, updated, File, mmxFile, integerFile, Slot, rm/mem, mmreg1, Form, mmreg2·imm8/642, mmreg2·imm8/62, isAmong, memorySize}
 use Rattle.codec.specs.Table.{formOf}
-use Rattle.codec.proofs.Bytes.{found-has}
 use Rattle.codec.specs.declared.Kind.the-variants.{Ordinary}
 use Rattle.manual.specs.Instructions.{heldBy}
 use Rattle.machine.specs.Spots.{fileIn}
 use Rattle.machine.specs.PrintShapes.{Way, storing, loading, computing, wayOf}
+use Rattle.machine.specs.Works.{numbers, isListed}
 
 -- the register file and the size of r/m: MOVD's register is an integer register; of some bytes and at most eight, which a number that it takes keeps
 pub record Other (n : ℕ) (file : File) (size : ℕ) : Type 0 where
@@ -49,9 +49,9 @@ pair number destination source =
 
 -- the forms of each way, by their operands
 pub data Shape (n : ℕ) : Way → Form → Type 0 where
-  stores : (number : ℕ) (file : File) (size : ℕ) → Other n file size → Shape n storing (pair number (written, rm/mem file size) mmreg1)
-  loads : (number : ℕ) (file : File) (size : ℕ) → Other n file size → Shape n loading (pair number (written, mmreg1) (rm/mem file size))
-  computes : (number : ℕ) (file : File) (size : ℕ) → Other n file size → Shape n computing (pair number (updated, mmreg1) (rm/mem file size))
+  stores : (file : File) (size : ℕ) → Other n file size → Shape n storing (pair n (written, rm/mem file size) mmreg1)
+  loads : (file : File) (size : ℕ) → Other n file size → Shape n loading (pair n (written, mmreg1) (rm/mem file size))
+  computes : (file : File) (size : ℕ) → Other n file size → Shape n computing (pair n (updated, mmreg1) (rm/mem file size))
 
 -- the numbers that the code tests for
 abbrev pub Stores : ℕ → Type 0
@@ -83,52 +83,85 @@ module _ (n : ℕ) where
       by true e = let z : _≡_ {A = ℕ} 0 1 = cc in omega arith
       by false e = let z : _≡_ {A = ℕ} 0 1 = cc in omega arith
 
-  -- past those in the list, the usual form
-  beyond : 21 < n → Shape n (wayOf n) (formOf n)
-  beyond h =
-      subst (Shape n (wayOf n)) (sym form) (subst (λ (y : Way). Shape n y mmreg1·mmreg2/mem64) (sym way) (computes 21 mmxFile 8 (multimedia n 8 (omega arith) (omega arith) (omega arith))))
-    where
-      neither : (a b : ℕ) → a < 21 → b < 21 → (n ≡ a) ⊎ (n ≡ b) → ⊥
-      neither a b p q (inl e) = omega arith
-      neither a b p q (inr e) = omega arith
+-- what holds of each number of a list holds of one that is among them
+abbrev AllOf : (ℕ → Type 0) → List ℕ → Type 0
+AllOf P [] = Unit {0}
+AllOf P (x ∷ xs) = P x × AllOf P xs
 
-      way : wayOf n ≡ computing
-      way = way-computing (neither 16 18 (omega arith) (omega arith)) (neither 17 19 (omega arith) (omega arith))
+among : (P : ℕ → Type 0) (n : ℕ) (xs : List ℕ) → isAmong n xs ≡ true → AllOf P xs → P n
+among P n [] e h = absurd (false≢true e)
+among P n (x ∷ xs) e h = by (eqb n x) refl e (λ later. among P n xs later (h .1))
+  where
+    by : (t : Bool) → eqb n x ≡ t → (t || isAmong n xs) ≡ true → (isAmong n xs ≡ true → P n) → P n
+    by true q e rest = subst P (sym (eqb-true n x q)) (h .0)
+    by false q e rest = rest e
 
-      form : formOf n ≡ mmreg1·mmreg2/mem64
-      form =
-          found-has (λ f. f) mmreg1·mmreg2/mem64 (λ f. f ≡ mmreg1·mmreg2/mem64) (λ f. eqb n (f .number)) (λ f. ltb (f .number) 22) refl
-          (λ f e g. absurd (omega (arith, eqb-true n (f .number) e, ltb-true (f .number) 22 g))) forms refl
-
-from-sixteen : (more : ℕ) → Shape (16 + more) (wayOf (16 + more)) (formOf (16 + more))
+pub shape : (n : ℕ) → isListed n ≡ true → 16 ≤ n → Shape n (wayOf n) (formOf n)
 unfolding wayOf
-from-sixteen zero = stores 16 integerFile 4 (doubleword 16 (omega arith))
-from-sixteen (suc zero) = loads 17 integerFile 4 (doubleword 17 (omega arith))
-from-sixteen (suc (suc zero)) = stores 18 mmxFile 8 (multimedia 18 8 (omega arith) (omega arith) (omega arith))
-from-sixteen (suc (suc (suc zero))) = loads 19 mmxFile 8 (multimedia 19 8 (omega arith) (omega arith) (omega arith))
-from-sixteen (suc (suc (suc (suc zero)))) = computes 20 mmxFile 4 (multimedia 20 4 (omega arith) (omega arith) (omega arith))
-from-sixteen (suc (suc (suc (suc (suc zero))))) = computes 21 mmxFile 8 (multimedia 21 8 (omega arith) (omega arith) (omega arith))
-from-sixteen (suc (suc (suc (suc (suc (suc more)))))) = beyond (16 + suc (suc (suc (suc (suc (suc more)))))) (omega arith)
+shape n h two =
+    among (λ k. 16 ≤ k → Shape k (wayOf k) (formOf k)) n numbers h (
+      λ g. absurd (omega arith),
+      (
+        λ g. absurd (omega arith),
+        (
+          λ g. absurd (omega arith),
+          (
+            λ g. absurd (omega arith),
+            (
+              λ g. stores integerFile 4 (doubleword 16 (omega arith)),
+              (
+                λ g. loads integerFile 4 (doubleword 17 (omega arith)),
+                (
+                  λ g. stores mmxFile 8 (multimedia 18 8 (omega arith) (omega arith) (omega arith)),
+                  (
+                    λ g. loads mmxFile 8 (multimedia 19 8 (omega arith) (omega arith) (omega arith)),
+                    (
+                      λ g. computes mmxFile 4 (multimedia 20 4 (omega arith) (omega arith) (omega arith)),
+                      (λ g. computes mmxFile 8 (multimedia 21 8 (omega arith) (omega arith) (omega arith)), tt),
+                    ),
+                  ),
+                ),
+              ),
+            ),
+          ),
+        ),
+      ),
+    ) two
 
-pub shape : (n : ℕ) → 16 ≤ n → Shape n (wayOf n) (formOf n)
-shape n h = let e : 16 + (n - 16) ≡ n = omega arith in subst (λ (k : ℕ). Shape k (wayOf k) (formOf k)) e (from-sixteen (n - 16))
-
-pub other : (n : ℕ) → 16 ≤ n → Other n (fileIn (formOf n .operands)) (memorySize (formOf n))
-other n h = by (wayOf n) (formOf n) (shape n h)
+pub other : (n : ℕ) → isListed n ≡ true → 16 ≤ n → Other n (fileIn (formOf n .operands)) (memorySize (formOf n))
+other n h two = by (wayOf n) (formOf n) (shape n h two)
   where
     by : (y : Way) (f : Form) → Shape n y f → Other n (fileIn (f .operands)) (memorySize f)
-    by y f (stores number file size x) = x
-    by y f (loads number file size x) = x
-    by y f (computes number file size x) = x
+    by y f (stores file size x) = x
+    by y f (loads file size x) = x
+    by y f (computes file size x) = x
 
 -- the forms of the shifts by an immediate
 pub data Shifting : Form → Type 0 where
   shifts-WD : Shifting mmreg2·imm8/642
   shifts-Q : Shifting mmreg2·imm8/62
 
-pub shifting-form : (n : ℕ) → n < 4 → (n ≡ 1 → ⊥) → (n ≡ 0 → ⊥) → Shifting (formOf n)
-shifting-form zero h p q = absurd (q refl)
-shifting-form (suc zero) h p q = absurd (p refl)
-shifting-form (suc (suc zero)) h p q = shifts-WD
-shifting-form (suc (suc (suc zero))) h p q = shifts-Q
-shifting-form (suc (suc (suc (suc n)))) h p q = absurd (omega arith)
+pub shifting : (n : ℕ) → isListed n ≡ true → n < 16 → (n ≡ 1 → ⊥) → (n ≡ 0 → ⊥) → Shifting (formOf n)
+shifting n h =
+    among (λ k. k < 16 → (k ≡ 1 → ⊥) → (k ≡ 0 → ⊥) → Shifting (formOf k)) n numbers h (
+      λ l p q. absurd (q refl),
+      (
+        λ l p q. absurd (p refl),
+        (
+          λ l p q. shifts-WD,
+          (
+            λ l p q. shifts-Q,
+            (
+              λ l p q. absurd (omega arith),
+              (
+                λ l p q. absurd (omega arith),
+                (
+                  λ l p q. absurd (omega arith),
+                  (λ l p q. absurd (omega arith), (λ l p q. absurd (omega arith), (λ l p q. absurd (omega arith), tt))),
+                ),
+              ),
+            ),
+          ),
+        ),
+      ),
+    )

@@ -18,7 +18,7 @@ use Rattle.machine.specs.declared.reaches.Reach.the-variants.{Inside, Re
 use Rattle.machine.specs.PrintShapes.{nowhere, beside, reachOf, Way, wayOf, shapedAs, unmarkedPrint}
 use Rattle.machine.specs.Spots.{fileIn, otherOf}
 use Rattle.machine.specs.Works.{effectIn, Listed}
-use Rattle.machine.proofs.Numbering.{Shape, stores, loads, computes, shape, Shifting, shifts-WD, shifts-Q, shifting-form}
+use Rattle.machine.proofs.Numbering.{Shape, stores, loads, computes, shape, Shifting, shifts-WD, shifts-Q, shifting}
 use Rattle.machine.proofs.PrintShaping.{shaped, store-prints, load-prints, compute-prints}
 
 module _ (s : State) (entry : ℕ) (i : Instruction) where
@@ -40,16 +40,16 @@ module _ (s : State) (entry : ℕ) (i : Instruction) where
 
   prints : (y : Way) (f : Form) → Shape form y f → unmarkedPrint (effectBy f named i) s ≡ shaped (shapedAs y register) (reachOf (other f) (placesOf s (other f)))
   unfolding unmarkedPrint
-  prints y f (stores number file size x) = store-prints s register (other f) (λ v. heldBy (rm/mem file size) (copied v)) (placesOf s (other f))
-  prints y f (loads number file size x) = load-prints s register (other f) copied (placesOf s (other f))
-  prints y f (computes number file size x) = compute-prints s register (other f) (operate named) (placesOf s (other f))
+  prints y f (stores file size x) = store-prints s register (other f) (λ v. heldBy (rm/mem file size) (copied v)) (placesOf s (other f))
+  prints y f (loads file size x) = load-prints s register (other f) copied (placesOf s (other f))
+  prints y f (computes file size x) = compute-prints s register (other f) (operate named) (placesOf s (other f))
 
-  module _ (two : 16 ≤ form) (r : Reach) (reached : r ≡ reachOf (otherOf form (i .operand)) (placesOf s (otherOf form (i .operand)))) where
+  module _ (l : Listed entry) (two : 16 ≤ form) (r : Reach) (reached : r ≡ reachOf (otherOf form (i .operand)) (placesOf s (otherOf form (i .operand)))) where
     pub print-inside : (f : Footprint) (m : ℕ) (p : Places) → r ≡ Inside m p → f ≡ shapedAs (wayOf form) register m p → done f ≡ unmarkedPrint (effectIn entry i) s
-    print-inside f m p inside e = simp (prints (wayOf form) (formOf form) (shape form two), ← reached, inside, e)
+    print-inside f m p inside e = simp (prints (wayOf form) (formOf form) (shape form (l .listed) two), ← reached, inside, e)
 
     pub print-outside : (n : ℕ) → r ≡ Refused n → refused n ≡ unmarkedPrint (effectIn entry i) s
-    print-outside n e = simp (prints (wayOf form) (formOf form) (shape form two), ← reached, e)
+    print-outside n e = simp (prints (wayOf form) (formOf form) (shape form (l .listed) two), ← reached, e)
 
   -- one operand, and none
   shifted : (f : Form) → Shifting f
@@ -60,7 +60,7 @@ module _ (s : State) (entry : ℕ) (i : Instruction) where
 
   pub print-shift : (p : Places) → Listed entry → form < 16 → (form ≡ 1 → ⊥) → p ≡ beside (i .operand .rm) nowhere
       → done (record { reads = p; writes = p; kind = Ordinary }) ≡ unmarkedPrint (effectIn entry i) s
-  print-shift p l h o e = rw e (shifted (formOf form) (shifting-form form (l .known h) o (l .present)))
+  print-shift p l h o e = rw e (shifted (formOf form) (shifting form (l .listed) h o (l .present)))
 
   pub print-emms : form ≡ 1 → done (record { reads = nowhere; writes = nowhere; kind = Emms }) ≡ unmarkedPrint (effectIn entry i) s
   unfolding unmarkedPrint

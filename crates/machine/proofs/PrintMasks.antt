@@ -8,14 +8,12 @@ use borrow.Author.Needs.{needs}
 use borrow.Author.Tests.{eq-eqb, ne-eqb}
 use lib.Bits.{bitOr, or-zero-r}
 use lib.Pow.{pow-lt}
-use Rattle.codec.specs.Forms.{File, mmxFile, integerFile}
 use Rattle.codec.specs.Operands.{hasSib}
 use Rattle.codec.specs.declared.Operand.{Operand}
 use Rattle.manual.specs.Addresses.{baseOf, indexOf, addressOf, registersOf}
-use Rattle.manual.specs.Locations.{rmOf, registersBehind}
 use Rattle.machine.specs.declared.Places.{Places}
 use Rattle.machine.specs.Prints.{mask}
-use Rattle.machine.specs.PrintShapes.{beside}
+use Rattle.machine.specs.PrintShapes.{beside, behind}
 use Rattle.machine.proofs.Addressing.{base-is, base-is-five, no-base, index-is, no-index}
 use Rattle.machine.proofs.Masks.{mask-append}
 
@@ -32,26 +30,18 @@ module _ (maybe : Option ℕ) where
   mask-none unnamed = rw unnamed
 
 -- the mask of the address registers of the operand of r/m
-module _ (w : Operand) (file : File) (size : ℕ) where
-  abbrev behind : ℕ
-  behind = mask (registersBehind (rmOf file size w))
-
-  pub address-none : w .mode ≡ 3 → 0 ≡ behind
-  unfolding rmOf
-  address-none e = by-none file
-    where
-      by-none : (f : File) → 0 ≡ mask (registersBehind (rmOf f size w))
-      by-none mmxFile = simp (eq-eqb (w .mode) 3 e)
-      by-none integerFile = simp (eq-eqb (w .mode) 3 e)
+module _ (w : Operand) where
+  pub address-none : w .mode ≡ 3 → 0 ≡ behind w
+  address-none e = simp (eq-eqb (w .mode) 3 e)
 
   module _ (r : ℕ) (other : w .mode ≡ 3 → ⊥) where
-    pub address-plain : r ≡ mask (registersOf (baseOf (w .mode) (w .rm))) → (w .rm ≡ 4 → ⊥) → r ≡ behind
-    unfolding addressOf hasSib rmOf
+    pub address-plain : r ≡ mask (registersOf (baseOf (w .mode) (w .rm))) → (w .rm ≡ 4 → ⊥) → r ≡ behind w
+    unfolding addressOf hasSib
     address-plain e plain = simp (ne-eqb (w .mode) 3 other, ne-eqb (w .rm) 4 plain, append-nil) e
 
     pub address-sib : (x : ℕ) → r ≡ mask (registersOf (baseOf (w .mode) (w .base))) → x ≡ mask (registersOf (indexOf (w .index)))
-        → w .rm ≡ 4 → bitOr r x ≡ behind
-    unfolding addressOf hasSib rmOf
+        → w .rm ≡ 4 → bitOr r x ≡ behind w
+    unfolding addressOf hasSib
     address-sib x e f sib = simp (eq-eqb (w .rm) 4 sib, ne-eqb (w .mode) 3 other, mask-append, ← e, ← f)
 
 -- a register beside other places

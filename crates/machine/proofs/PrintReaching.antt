@@ -1,32 +1,30 @@
 -- The operand of r/m as masks and a range: the bytes of an operand are one range, and no registers. Rules for where the code finds it.
-use mathlib.Core.Path.{_≡_, refl, sym, ap, _∙_}
+use mathlib.Core.Path.{_≡_, refl, _∙_}
 use mathlib.Core.Bool.{Bool, true, false, cond}
 use mathlib.Core.List.{[]}
 use Prim.Native.Nat.{ℕ, zero, suc, _+_, _/_, _%_, _^_, _≤_, _<_}
 use native.Mathlib.Omega.{arith}
 use borrow.Author.Needs.{needs}
+use lib.Dec.{eqb}
 use lib.ListN.{length}
-use Rattle.reorder.specs.Result.{done, refused}
-use Rattle.codec.specs.Forms.{File, memorySize}
+use Rattle.codec.specs.Forms.{File, mmxFile, integerFile, memorySize}
 use Rattle.codec.specs.Table.{formOf}
 use Rattle.codec.specs.declared.Operand.{Operand}
-use Rattle.manual.specs.Refusals.{outsideMemory}
 use Rattle.manual.specs.State.{State}
 use Rattle.manual.specs.Addresses.{addressOf, address, addressRegisters}
-use Rattle.manual.specs.Locations.{Location, memory, rmOf, bytesFrom, fits, placesOf, registersBehind}
+use Rattle.manual.specs.Locations.{Location, memory, registerIn, rmOf, bytesFrom, fits, placesOf}
 use Rattle.machine.specs.declared.Places.{Places}
 use Rattle.machine.specs.declared.operands.Spot.{Spot}
-use Rattle.machine.specs.declared.operands.Spot.the-variants.{Integer, Bytes}
-use Rattle.machine.specs.declared.operands.Spot.the-variants as spots
+use Rattle.machine.specs.declared.operands.Spot.the-variants.{Integer}
 use Rattle.machine.specs.declared.reaches.Reach.{Reach}
 use Rattle.machine.specs.declared.reaches.Reach.the-variants.{Inside}
 use Rattle.machine.specs.Prints.{mmxNumber, integerNumber, numbersOf, mask, setOf}
-use Rattle.machine.specs.PrintShapes.{nowhere, through, reachOf, reachAt}
+use Rattle.machine.specs.PrintShapes.{nowhere, through, reachOf, behind, reachAt}
 use Rattle.machine.specs.Spots.{fileIn, otherOf, spotOf}
 use Rattle.machine.specs.Works.{Listed}
 use Rattle.machine.proofs.Ranges.{count-bytes}
 use Rattle.machine.proofs.Numbering.{other}
-use Rattle.machine.proofs.Locating.{by-place, spot-named, register-mmx, register-integer}
+use Rattle.machine.proofs.Locating.{spot-named, register-mmx, register-integer}
 
 no-mmx : (size a : ℕ) → numbersOf mmxNumber (bytesFrom a size) ≡ []
 no-mmx zero a = refl
@@ -45,40 +43,39 @@ set-bytes (suc size) a h =
     λ i. record { mmx = mask (no-mmx (suc size) a i); integers = mask (no-integer (suc size) a i); start = a; length = count-bytes (suc size) a i }
 
 -- the operand of r/m, whatever it is
-module _ (s : State) (size : ℕ) (w : Operand) (some : 0 < size) where
+module _ (s : State) (w : Operand) where
   abbrev spot : Location → Spot
   spot x = spotOf (s .integers) (length (s .memory)) x
 
   abbrev start : ℕ
   start = address (s .integers) (addressOf w)
 
-  reaches-all : (file : File) → let x = rmOf file size w in reachAt (mask (registersBehind x)) size (spot x) ≡ reachOf x (placesOf s x)
-  reaches-all file =
-      by-place (λ f x. reachAt (mask (registersBehind x)) size (spot x) ≡ reachOf x (placesOf s x)) file size w refl refl
-      (λ f. inside (fits (length (s .memory)) size start))
+  reached : (file : File) (size : ℕ) → 0 < size → let x = rmOf file size w in reachAt (behind w) size (spot x) ≡ reachOf x (placesOf s x)
+  unfolding rmOf
+  reached file size some = by (eqb (w .mode) 3) file
     where
-      inside : (u : Bool) → reachAt (mask (addressRegisters (addressOf w))) size (cond u (Bytes start) (spots.Refused outsideMemory))
-          ≡ reachOf (memory (addressOf w) size) (cond u (done (bytesFrom start size)) (refused outsideMemory))
-      inside true = ap (Inside (mask (addressRegisters (addressOf w)))) (sym (set-bytes size start some))
-      inside false = refl
+      inside : (u : Bool) → fits (length (s .memory)) size start ≡ u → let x = memory (addressOf w) size in reachAt (mask (addressRegisters (addressOf w))) size (spot x) ≡ reachOf x (placesOf s x)
+      inside true h = simp (h, set-bytes size start some)
+      inside false h = simp h
 
-module _ (s : State) (entry : ℕ) (w : Operand) (l : Listed entry) (two : 16 ≤ entry / 2 ^ 24) where
-  abbrev there : Location
-  there = otherOf (entry / 2 ^ 24) w
+      by : (t : Bool) (f : File) → let x = cond t (registerIn f (w .rm)) (memory (addressOf w) size) in
+          reachAt (cond t 0 (mask (addressRegisters (addressOf w)))) size (spot x) ≡ reachOf x (placesOf s x)
+      by true mmxFile = refl
+      by true integerFile = refl
+      by false f = inside (fits (length (s .memory)) size start) refl
 
-  pub reach-there : (r : Reach) (x : Spot) (m : ℕ) → x ≡ spotOf (s .integers) (length (s .memory)) there → ((file : File) (size : ℕ) → m ≡ mask (registersBehind (rmOf file size w)))
-      → r ≡ reachAt m (entry / 2 ^ 16 % 256) x → r ≡ reachOf there (placesOf s there)
-  reach-there r x m e b h =
-      let form = formOf (entry / 2 ^ 24) in
-      h ∙ rw (e, b (fileIn (form .operands)) (memorySize form), l .sized two)
-      (reaches-all s (memorySize form) w (other (entry / 2 ^ 24) two .some) (fileIn (form .operands)))
+  module _ (entry : ℕ) (l : Listed entry) (two : 16 ≤ entry / 2 ^ 24) where
+    abbrev there : Location
+    there = otherOf (entry / 2 ^ 24) w
 
-pub made-reach : (x y : Spot) (m size : ℕ) (r : Reach) → x ≡ y → r ≡ reachAt m size y → r ≡ reachAt m size x
-made-reach x y m size r e h = h ∙ ap (reachAt m size) (sym e)
+    -- as the code finds it, by where it is
+    module _ (x y : Spot) (m : ℕ) (found : x ≡ spot there) (masked : m ≡ behind w) (e : x ≡ y) where
+      pub reach-there : (r : Reach) → r ≡ reachAt m (entry / 2 ^ 16 % 256) y → r ≡ reachOf there (placesOf s there)
+      reach-there r h =
+          let form = formOf (entry / 2 ^ 24) in
+          h ∙ rw (masked, ← e, found, l .sized two) (reached (fileIn (form .operands)) (memorySize form) (other (entry / 2 ^ 24) (l .listed) two .some))
 
-pub made-integer : (x : Spot) (m size k b : ℕ) (p : Places) → x ≡ Integer k → b ≡ 2 ^ k → p ≡ through b nowhere → Inside m p ≡ reachAt m size x
-made-integer x m size k b p e f g = simp (e, g, f)
+      pub reach-integer : (k b : ℕ) (p : Places) → y ≡ Integer k → b ≡ 2 ^ k → p ≡ through b nowhere → Inside m p ≡ reachOf there (placesOf s there)
+      reach-integer k b p i f g = reach-there (Inside m p) (simp (i, g, f))
 
-pub ruleset print-spots = (needs, register-mmx, register-integer, made-reach, made-integer)
-
-pub ruleset print-reaching = (needs, spot-named, reach-there)
+pub ruleset print-reaching = (needs, spot-named, register-mmx, register-integer, reach-there, reach-integer)

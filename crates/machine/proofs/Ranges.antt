@@ -73,19 +73,17 @@ abbrev Each : (List ℕ → Type 0) → Result (List Place) → Type 0
 Each Q (done ps) = Q (bytesOf ps)
 Each Q (refused n) = Unit {0}
 
--- operands of which none may be in memory, and of which at most one may be
+-- operands of which at most one may be in memory, or none
+abbrev atMost : Bool → List Slot → Bool
+atMost one [] = true
+atMost one (reg file ∷ xs) = atMost one xs
+atMost one (rm file ∷ xs) = atMost one xs
+atMost one (rm/mem file size ∷ xs) = one && atMost false xs
 
-abbrev noneInMemory : List Slot → Bool
-noneInMemory [] = true
-noneInMemory (reg file ∷ xs) = noneInMemory xs
-noneInMemory (rm file ∷ xs) = noneInMemory xs
-noneInMemory (rm/mem file size ∷ xs) = false
-
-abbrev oneInMemory : List Slot → Bool
-oneInMemory [] = true
-oneInMemory (reg file ∷ xs) = oneInMemory xs
-oneInMemory (rm file ∷ xs) = oneInMemory xs
-oneInMemory (rm/mem file size ∷ xs) = noneInMemory xs
+-- and so their bytes
+abbrev AtMost : Bool → List ℕ → Type 0
+AtMost true bs = Range bs
+AtMost false bs = bs ≡ []
 
 module _ (s : State) (i : Instruction) where
   abbrev places : List Slot → Result (List Place)
@@ -101,31 +99,29 @@ module _ (s : State) (i : Instruction) where
   register-before Q integerFile k (done qs) h = h
   register-before Q integerFile k (refused n) h = tt
 
-  bytes-before : (t : Bool) (size a : ℕ) (rest : Result (List Place)) → Each (λ bs. bs ≡ []) rest
+  bytes-before : (t : Bool) (size a : ℕ) (rest : Result (List Place)) → Each (AtMost false) rest
       → Each Range (before (cond t (done (bytesFrom a size)) (refused outsideMemory)) rest)
   bytes-before true size a (done qs) h = subst Range (sym (nothing-after (bytesFrom a size) qs h)) (range-bytes size a)
   bytes-before true size a (refused n) h = tt
   bytes-before false size a rest h = tt
 
-  no-range : (xs : List Slot) → noneInMemory xs ≡ true → Each (λ bs. bs ≡ []) (places xs)
-  no-range [] e = refl
-  no-range (reg file ∷ xs) e = register-before _ file (i .operand .reg) (places xs) (no-range xs e)
-  no-range (rm file ∷ xs) e = register-before _ file (i .operand .rm) (places xs) (no-range xs e)
-  no-range (rm/mem file size ∷ xs) e = absurd (false≢true e)
+  none-is-range : (o : Result (List Place)) → Each (AtMost false) o → Each Range o
+  none-is-range (done ps) e = subst Range (sym e) no-bytes
+  none-is-range (refused n) e = tt
 
-  no-range-is : (o : Result (List Place)) → Each (λ bs. bs ≡ []) o → Each Range o
-  no-range-is (done ps) e = subst Range (sym e) no-bytes
-  no-range-is (refused n) e = tt
-
-  one-range : (xs : List Slot) → oneInMemory xs ≡ true → Each Range (places xs)
-  one-range [] e = no-bytes
-  one-range (reg file ∷ xs) e = register-before Range file (i .operand .reg) (places xs) (one-range xs e)
-  one-range (rm file ∷ xs) e = register-before Range file (i .operand .rm) (places xs) (one-range xs e)
-  one-range (rm/mem file size ∷ xs) e =
-      let rest = no-range-is (places xs) (no-range xs e) in
+  at-most : (one : Bool) (xs : List Slot) → atMost one xs ≡ true → Each (AtMost one) (places xs)
+  at-most true [] e = no-bytes
+  at-most false [] e = refl
+  at-most one (reg file ∷ xs) e = register-before (AtMost one) file (i .operand .reg) (places xs) (at-most one xs e)
+  at-most one (rm file ∷ xs) e = register-before (AtMost one) file (i .operand .rm) (places xs) (at-most one xs e)
+  at-most false (rm/mem file size ∷ xs) e = absurd (false≢true e)
+  at-most true (rm/mem file size ∷ xs) e =
+      let none = at-most false xs e in
+      let rest = none-is-range (places xs) none in
+      let a = address (s .integers) (addressOf (i .operand)) in
       by-place (λ f x. Each Range (before (placesOf s x) (places xs))) file size (i .operand)
       (register-before Range mmxFile (i .operand .rm) (places xs) rest) (register-before Range integerFile (i .operand .rm) (places xs) rest)
-      (λ f. let a = address (s .integers) (addressOf (i .operand)) in bytes-before (fits (length (s .memory)) size a) size a (places xs) (no-range xs e))
+      (λ f. bytes-before (fits (length (s .memory)) size a) size a (places xs) none)
 
 -- a footprint whose reads and writes are each one range of bytes
 pub record OneRange (f : Footprint Place Kind) : Type 0 where
@@ -138,7 +134,7 @@ RangedPrint (refused n) = Unit {0}
 
 -- a form of which at most one operand that is read, and one that is written, may be in memory
 abbrev oneEach : Form → Bool
-oneEach form = oneInMemory (sources (form .operands)) && oneInMemory (targets (form .operands))
+oneEach form = atMost true (sources (form .operands)) && atMost true (targets (form .operands))
 
 module _ (s : State) (i : Instruction) where
   unmarked : (em ts pending : Bool) (vs : List Place) (o : Result (Plan Place Kind)) → RangedPrint (footprintIn look vs s o)
@@ -150,9 +146,9 @@ module _ (s : State) (i : Instruction) where
 
   ranged-form : (form : Form) (o : Operation) → oneEach form ≡ true → RangedPrint (footprintOf (effectBy form o i) s)
   ranged-form form o e =
-      let (a, b) = and-both (oneInMemory (sources (form .operands))) _ e in
+      let (a, b) = and-both (atMost true (sources (form .operands))) _ e in
       unmarked (s .em) (s .ts) (s .pending) (via (effectBy form o i)) _
-      (by (places s i (sources (form .operands))) (places s i (targets (form .operands))) (one-range s i (sources (form .operands)) a) (one-range s i (targets (form .operands)) b))
+      (by (places s i (sources (form .operands))) (places s i (targets (form .operands))) (at-most s i true (sources (form .operands)) a) (at-most s i true (targets (form .operands)) b))
     where
       by : (o′ p : Result (List Place)) → Each Range o′ → Each Range p
           → RangedPrint (footprintIn look (via (effectBy form o i)) s (andThen o′ (λ source. mapResult (planOn (effectBy form o i) source) p)))

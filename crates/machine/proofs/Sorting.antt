@@ -35,7 +35,7 @@ use Rattle.machine.specs.PrintShapes.{Way, storing, wayOf}
 use Rattle.machine.specs.Works.{machineOf, effectIn, isMove, Listed, toOperate, toEmpty, workOf, putWork, takeWork, performed, Sound, Does}
 use Rattle.machine.proofs.Soundness.{sound-operation, sound-empties, sound-put, sound-take}
 use Rattle.machine.proofs.Locating.{by-place, spot-named, register-mmx, register-integer}
-use Rattle.machine.proofs.Numbering.{Shape, stores, loads, computes, Stores, way-storing, way-taking, shape, other, Shifting, shifts-WD, shifts-Q, shifting-form}
+use Rattle.machine.proofs.Numbering.{Shape, stores, loads, computes, Stores, way-storing, way-taking, shape, other, Shifting, shifts-WD, shifts-Q, shifting}
 
 -- what a form's effect leaves, by its shape
 module _ (s : State) (o : Operation) (i : Instruction) where
@@ -58,7 +58,7 @@ module _ (s : State) (o : Operation) (i : Instruction) where
     stored-by : (form : Form) → Shape n storing form → (isMove form ≡ true → o ≡ MOVE)
         → leftBy form ≡ putAt s (there form) (heldBy (rm/mem (fileIn (form .operands)) (memorySize form)) (getD (s .mmx) (own .reg) 0))
     unfolding operate
-    stored-by form (stores number file size x) m =
+    stored-by form (stores file size x) m =
         ap (λ (q : Operation). directly (effectBy form q i) s) (m refl) ∙ move-direct s (heldBy (rm/mem file size)) (rmOf file size own) (mmxRegister (own .reg))
 
     -- the others give the operation's, as a load moves
@@ -67,12 +67,12 @@ module _ (s : State) (o : Operation) (i : Instruction) where
 
     computed-by : (y : Way) (form : Form) → Shape n y form → (y ≡ storing → ⊥) → (isMove form ≡ true → o ≡ MOVE) → leftBy form ≡ computedAs o form
     unfolding operate
-    computed-by y form (stores number file size x) g m = absurd (g refl)
-    computed-by y form (loads number file size x) g m =
+    computed-by y form (stores file size x) g m = absurd (g refl)
+    computed-by y form (loads file size x) g m =
         ap (λ (q : Operation). directly (effectBy form q i) s) (m refl)
         ∙ move-direct s (λ v. v) (mmxRegister (own .reg)) (rmOf file size own)
         ∙ ap (λ (q : Operation). computedAs q form) (sym (m refl))
-    computed-by y form (computes number file size x) g m = both-direct s (operate o) (own .reg) (rmOf file size own)
+    computed-by y form (computes file size x) g m = both-direct s (operate o) (own .reg) (rmOf file size own)
 
 shift-digits : (form : Form) → Shifting form → hasDigits form ≡ true
 shift-digits form shifts-WD = refl
@@ -154,7 +154,7 @@ module _ (registers integers m : List ℕ) (entry : ℕ) (i : Instruction) (next
         → work ≡ workOf toOperate number (w .rm) (i .immediate) next → Does work registers integers m (effectIn entry i) next
     unfolding performed operationIn
     does-shift number work h other e made =
-        let is : Shifting form = shifting-form formIn (l .known h) other (l .present) in
+        let is : Shifting form = shifting formIn (l .listed) h other (l .present) in
         let same : named ≡ operationOf number = simp (shift-digits form is) (sym e) in
         rw made
         (of-work (workOf toOperate number (w .rm) (i .immediate) next)
@@ -190,8 +190,8 @@ module _ (registers integers m : List ℕ) (entry : ℕ) (i : Instruction) (next
           rw (e, found, l .sized two)
           (of-work (putWork y size v next) (λ s. putAt s (otherOf formIn w) (heldBy (rm/mem file size) (getD (s .mmx) (w .reg) 0)))
           (sound-put y size v next there-named)
-          (λ s. stored-by s named i formIn form (subst (λ (y : Way). Shape formIn y form) (way-storing formIn g) (shape formIn two)) moves)
-          (puts registers integers m next size w (other formIn two .most) file v (other formIn two .kept v)))
+          (λ s. stored-by s named i formIn form (subst (λ (y : Way). Shape formIn y form) (way-storing formIn g) (shape formIn (l .listed) two)) moves)
+          (puts registers integers m next size w (other formIn (l .listed) two .most) file v (other formIn (l .listed) two .kept v)))
 
       pub does-take : (Stores formIn → ⊥) → work ≡ takeWork registers integers m (entry % 256) (w .reg) (entry / 2 ^ 16 % 256) x next
           → Does work registers integers m (effectIn entry i) next
@@ -200,8 +200,8 @@ module _ (registers integers m : List ℕ) (entry : ℕ) (i : Instruction) (next
           rw (e, found, l .sized two)
           (of-work (takeWork registers integers m (entry % 256) (w .reg) size y next) (λ s. computedAs s named i formIn (operationOf (entry % 256)) form)
           (sound-take registers integers m (entry % 256) (w .reg) size y next (r .reg) there-named)
-          (λ s. computed-by s named i formIn (wayOf formIn) form (shape formIn two) (way-taking formIn g) moves ∙ ap (λ (o : Operation). computedAs s named i formIn o form) plain)
-          (takes registers integers m next size w (other formIn two .most) file (entry % 256) (w .reg)))
+          (λ s. computed-by s named i formIn (wayOf formIn) form (shape formIn (l .listed) two) (way-taking formIn g) moves ∙ ap (λ (o : Operation). computedAs s named i formIn o form) plain)
+          (takes registers integers m next size w (other formIn (l .listed) two .most) file (entry % 256) (w .reg)))
 
 -- what the code makes where the operand is
 module _ (x y : Spot) (size next : ℕ) (work : Work) (e : x ≡ y) where

@@ -7,8 +7,10 @@ use lib.Dec.{eqb}
 use Rattle.reorder.specs.Result.{Result, done, refused, mapResult}
 use Rattle.reorder.specs.Footprint.{footprintIn}
 use Rattle.codec.specs.declared.Kind.the-variants.{Ordinary}
+use Rattle.codec.specs.declared.Operand.{Operand}
 use Rattle.manual.specs.State.{State}
 use Rattle.manual.specs.Places.{Place, look}
+use Rattle.manual.specs.Addresses.{addressOf, addressRegisters}
 use Rattle.manual.specs.Locations.{Location, registersBehind}
 use Rattle.manual.specs.Effects.{Effect, placed, via}
 use Rattle.machine.specs.declared.Places.{Places}
@@ -37,6 +39,10 @@ through registers p =
 abbrev pub reachOf : Location → Result (List Place) → Reach
 reachOf x (done places) = Inside (mask (registersBehind x)) (setOf places)
 reachOf x (refused n) = Refused n
+
+-- the mask of the address registers of the operand of r/m: none at mod 11
+abbrev pub behind : Operand → ℕ
+behind w = cond (eqb (w .mode) 3) 0 (mask (addressRegisters (addressOf w)))
 
 -- the same of where the code finds it, with the mask of its address registers
 abbrev pub reachAt : ℕ → ℕ → Spot → Reach

@@ -2,13 +2,13 @@
 -- how a step ended is an outcome. Only the contracts of the code's own functions use them.
 use mathlib.Core.Path.{_≡_}
 use mathlib.Core.Bool.{Bool, true, false, cond}
-use mathlib.Core.List.{List, [], _∷_}
+use mathlib.Core.List.{List, [], _∷_, map}
 use Prim.Native.Nat.{ℕ, _/_, _%_, _^_, _≤_, _<_}
 use lib.Dec.{eqb}
 use lib.ListN.{getD}
 use Rattle.lanes.specs.Operations.{operationOf, operate, numbered, MOVE}
 use Rattle.words.specs.Buffer.{loaded, stored}
-use Rattle.codec.specs.Forms.{Use, read, written, updated, Slot, Form, memorySize}
+use Rattle.codec.specs.Forms.{Use, read, written, updated, Slot, Form, forms, isAmong, memorySize}
 use Rattle.codec.specs.Table.{formOf, operationIn}
 use Rattle.codec.specs.declared.Instruction.{Instruction}
 use Rattle.codec.specs.declared.Kind.the-variants.{Ordinary, Emms}
@@ -50,11 +50,17 @@ isWritten ((updated, x) ∷ xs) = false
 abbrev pub isMove : Form → Bool
 isMove form = isWritten (form .operands)
 
--- what is said of every number that is read: its form is there, and one with fewer than two operands is EMMS or a shift; it has the operand's size,
--- and a move moves
+-- the numbers of the forms
+abbrev pub numbers : List ℕ
+numbers = map (λ form. form .number) forms
+
+abbrev pub isListed : ℕ → Bool
+isListed form = isAmong form numbers
+
+-- what is said of every number that is read: its form is one of the list, and there; it has the operand's size, and a move moves
 pub record Listed (number : ℕ) : Type 0 where
+  pub listed : isListed (number / 2 ^ 24) ≡ true
   pub present : number / 2 ^ 24 ≡ 0 → ⊥
-  pub known : number / 2 ^ 24 < 16 → number / 2 ^ 24 < 4
   pub sized : 16 ≤ number / 2 ^ 24 → number / 2 ^ 16 % 256 ≡ memorySize (formOf (number / 2 ^ 24))
   pub moves : isMove (formOf (number / 2 ^ 24)) ≡ true → operationOf (number % 256) ≡ MOVE
 

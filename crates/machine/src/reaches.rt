@@ -12,8 +12,8 @@ ghost use Prim.Native.Nat.{_/_, _^_, _≤_, _<_};
 ghost use Rattle.codec.specs.Operands.{Registers};
 ghost use Rattle.manual.specs.Locations.{placesOf};
 ghost use Rattle.machine.specs.State.{stateOf};
-ghost use Rattle.machine.specs.PrintShapes.{beside, through, reachOf, reachAt};
-ghost use Rattle.machine.specs.Spots.{otherOf, Named};
+ghost use Rattle.machine.specs.PrintShapes.{beside, through, reachOf};
+ghost use Rattle.machine.specs.Spots.{otherOf};
 ghost use Rattle.machine.specs.Works.{Listed};
 
 // No places.
@@ -55,11 +55,14 @@ pub(crate) fn with_integers(registers: u8, places: Places) -> Places
     }
 }
 
-// Where an operand is, with the mask of its address registers.
-fn reach_spot(spot: Spot, registers: u8, size: usize) -> Reach
-    requires { ⌜ Named spot ⌝ }
-    ensures { λ r. ⌜ r ≡ reachAt registers size spot ⌝ }
+// The operand that r/m names.
+pub(crate) fn reach_operand(machine: Machine, entry: u32, operand: Operand, memory: &[u8]) -> Reach
+    requires { ⌜ Registers operand × (Listed entry × (16 ≤ entry / 2 ^ 24)) ⌝ }
+    ensures { λ r. ⌜ r ≡ reachOf (otherOf (entry / 2 ^ 24) operand) (placesOf (stateOf machine (now (memory .entry))) (otherOf (entry / 2 ^ 24) operand)) ⌝ }
 {
+    let integers = machine.integers;
+    let spot = operands::located(&integers, entry, operand, memory.len());
+    let registers = register_masks::address_mask(operand);
     match spot {
         Spot::Mmx(register) => Reach::Inside(registers, with_register(register, NOWHERE)),
         Spot::Integer(register) => Reach::Inside(
@@ -72,20 +75,9 @@ fn reach_spot(spot: Spot, registers: u8, size: usize) -> Reach
                 mmx: 0,
                 integers: 0,
                 start: address,
-                length: size,
+                length: (entry / SIZE % PART) as usize,
             },
         ),
         Spot::Refused(refusal) => Reach::Refused(refusal),
     }
-}
-
-// The operand that r/m names.
-pub(crate) fn reach_operand(machine: Machine, entry: u32, operand: Operand, memory: &[u8]) -> Reach
-    requires { ⌜ Registers operand × (Listed entry × (16 ≤ entry / 2 ^ 24)) ⌝ }
-    ensures { λ r. ⌜ r ≡ reachOf (otherOf (entry / 2 ^ 24) operand) (placesOf (stateOf machine (now (memory .entry))) (otherOf (entry / 2 ^ 24) operand)) ⌝ }
-{
-    let integers = machine.integers;
-    let spot = operands::located(&integers, entry, operand, memory.len());
-    let registers = register_masks::address_mask(operand);
-    reach_spot(spot, registers, (entry / SIZE % PART) as usize)
 }

@@ -6,12 +6,11 @@ use codec::modes::NO_DISPLACEMENT;
 use codec::modes::REGISTER;
 use codec::modes::SIB;
 ghost use mathlib.Core.Path.{_≡_};
-ghost use Prim.Native.Nat.{ℕ, _^_, _<_};
-ghost use Rattle.codec.specs.Forms.{File};
+ghost use Prim.Native.Nat.{_^_, _<_};
 ghost use Rattle.codec.specs.Operands.{Registers};
 ghost use Rattle.manual.specs.Addresses.{baseOf, indexOf, registersOf};
-ghost use Rattle.manual.specs.Locations.{rmOf, registersBehind};
 ghost use Rattle.machine.specs.Prints.{mask};
+ghost use Rattle.machine.specs.PrintShapes.{behind};
 
 // The mask of one register.
 pub(crate) fn bit(register: u8) -> u8
@@ -49,7 +48,7 @@ fn index_mask(register: u8) -> u8
 // The mask of the registers that an operand's address is made of: none at mod 11.
 pub(crate) fn address_mask(operand: Operand) -> u8
     requires { ⌜ Registers operand ⌝ }
-    ensures { λ r. ⌜ ((file : File) (size : ℕ) → r ≡ mask (registersBehind (rmOf file size operand))) ⌝ }
+    ensures { λ r. ⌜ r ≡ behind operand ⌝ }
 {
     if operand.mode == REGISTER {
         return 0;

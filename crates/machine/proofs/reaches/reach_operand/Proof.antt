@@ -1,4 +1,4 @@
--- `reaches::reach_operand` meets its contract: where the operand is found, its places are.
+-- `reaches::reach_operand` meets its contract: a register is a mask, bytes are a range, and a refusal is one.
 use Rattle.machine.proofs.PrintReaching.{print-reaching}
 use Rattle.machine.proofs.reaches.reach_operand.Statement.{statement}
 use Rattle.machine.proofs.reaches.reach_operand.Tie as tie
@@ -11,4 +11,13 @@ reach-operand-spec =
     (λ c κs. search print-reaching)
     (λ c. search print-reaching)
     (λ c κs. search print-reaching)
+    (λ c. search print-reaching)
+    (λ c κs. search print-reaching)
+    (λ c κs. search print-reaching)
+    (λ c. search print-reaching)
+    (λ c. search print-reaching)
+    (λ c. search print-reaching)
+    (λ c. search print-reaching)
+    (λ c. search print-reaching)
+    (λ c. search print-reaching)
     (λ c. search print-reaching))
