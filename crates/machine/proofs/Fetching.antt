@@ -8,7 +8,7 @@ use borrow.Author.Tests.{le-ltb}
 use lib.ListN.{length, drop}
 use Rattle.reorder.specs.Result.{caseOf}
 use Rattle.codec.specs.Opcodes.{formAt}
-use Rattle.codec.specs.Operands.{Registers}
+use Rattle.codec.specs.inner.Fields.{Registers}
 use Rattle.codec.specs.Table.{opcodeTable}
 use Rattle.codec.specs.Reads.{longestCode, readPart}
 use Rattle.codec.specs.Finding.{foundIn, findWith}
@@ -51,6 +51,17 @@ module _ (table code : List ℕ) (at : ℕ) (x : Found) (ours : table ≡ opcode
           let f : x .refusal ≡ n = ap (λ (y : Found). y .refusal) (found-is (refused n) r) in
           absurd (omega (arith, g .0))
 
+  -- the number that was found has the instruction's effect
+  pub effect-found : x .refusal ≡ 0 → effectIn (x .entry) (x .instruction) ≡ effectOf (x .instruction)
+  effect-found h = by (readPart (drop at code)) refl (reads-known formAt 0 (drop at code))
+    where
+      by : (z : Decoded) → readPart (drop at code) ≡ z → Holds (Known formAt) Refusal z → effectIn (x .entry) (x .instruction) ≡ effectOf (x .instruction)
+      by (good i n) r g =
+          subst (λ (y : Found). effectIn (y .entry) (y .instruction) ≡ effectOf (y .instruction)) (sym (found-is (good i n) r)) (effect-is i (g .registers))
+      by (refused n) r g =
+          let f : x .refusal ≡ n = ap (λ (y : Found). y .refusal) (found-is (refused n) r) in
+          absurd (omega (arith, g .0))
+
   -- within the limits
   module _ (s : State) (code-fits : length code ≤ longestCode) (memory-fits : length (s .memory) ≤ longestMemory) where
     step-reads : (z : Decoded) → readPart (drop at code) ≡ z
@@ -87,7 +98,7 @@ module _ (table code : List ℕ) (at : ℕ) (x : Found) (ours : table ≡ opcode
     unfolding performed
     gathered-unread h w = subst (λ (y : Work). Gathered y registers integers bar code at m) (sym w) (by (readPart (drop at code)) refl)
       where
-        by : (z : Answer) → readPart (drop at code) ≡ z → Gathered (refusedWork (x .refusal)) registers integers bar code at m
+        by : (z : Decoded) → readPart (drop at code) ≡ z → Gathered (refusedWork (x .refusal)) registers integers bar code at m
         by (good i n) r =
             absurd (h (ap (λ (y : Found). y .refusal) (found-is (good i n) r)))
         by (refused n) r =

@@ -16,6 +16,7 @@ pub mod Shifting
 pub mod Testing
 pub mod Numbering
 pub mod Soundness
+pub mod Locating
 pub mod Listing
 pub mod Sorting
 pub mod Fetching

@@ -4,7 +4,6 @@ use mathlib.Core.Path.{_≡_, refl, sym, ap, ap₂, subst, _∙_}
 use mathlib.Core.Bool.{Bool, true, false, not, cond, _&&_, _||_, false≢true}
 use mathlib.Core.List.{List}
 use Prim.Native.Nat.{ℕ, _/_, _%_, _^_}
-use borrow.Author.Needs.{needs}
 use borrow.Author.Tests.{ltb-true, ltb-false, le-ltb, eqb-true}
 use lib.Dec.{eqb, ltb}
 use lib.ListN.{length, getD, drop}
@@ -12,8 +11,9 @@ use Rattle.lanes.specs.Operations.{Operation, operationOf, numbered, MOVE}
 use Rattle.codec.specs.Answers.{Decoded, good, refused, paperOfReading}
 use Rattle.codec.specs.Forms.{Form, isAbsent, memorySize}
 use Rattle.codec.specs.Opcodes.{formAt, operationAt}
-use Rattle.codec.specs.Operands.{Registers}
-use Rattle.codec.specs.Table.{formOf, entryAt, listed, opcodeTable, operationIn}
+use Rattle.codec.specs.inner.Fields.{Registers}
+use Rattle.codec.specs.Table.{formOf, entryAt, listed, opcodeTable}
+use Rattle.codec.specs.inner.Entries.{operationIn}
 use Rattle.codec.specs.Reads.{readPart, longestCode, readAt}
 use Rattle.codec.specs.Refusals.{codeTooLong}
 use Rattle.codec.specs.declared.Instruction.{Instruction}
@@ -25,25 +25,28 @@ use Rattle.codec.proofs.Given.{Known, Refusal, reads-known}
 use Rattle.codec.proofs.Entries.{agree, table-entry, form-is, operation-is}
 use Rattle.codec.proofs.Bytes.{form-beyond}
 use Rattle.manual.specs.Instructions.{effectBy, effectOf}
-use Rattle.machine.specs.Works.{effectIn, isMove, Listed}
+use Rattle.machine.specs.Works.{effectIn, isMove, isListed, Listed}
 
 -- the numbers are tested by a computation
-abbrev isListed : ℕ → Bool
-isListed number =
-    (ltb (number / 2 ^ 24) 4 || eqb (number / 2 ^ 16 % 256) (memorySize (formOf (number / 2 ^ 24))))
-    && (not (isMove (formOf (number / 2 ^ 24))) || eqb (number % 256) (numbered MOVE .0))
+abbrev passes : ℕ → Bool
+passes number =
+    isListed (number / 2 ^ 24)
+    && ((ltb (number / 2 ^ 24) 16 || eqb (number / 2 ^ 16 % 256) (memorySize (formOf (number / 2 ^ 24))))
+    && (not (isMove (formOf (number / 2 ^ 24))) || eqb (number % 256) (numbered MOVE .0)))
 
-all-listed : listed (λ k. isListed (entryAt k)) 0 256 ≡ listed (λ k. true) 0 256
+all-pass : listed (λ k. passes (entryAt k)) 0 256 ≡ listed (λ k. true) 0 256
 unfolding formAt operationAt
-all-listed = refl
+all-pass = refl
 
-number-listed : (number : ℕ) → isListed number ≡ true → (number / 2 ^ 24 ≡ 0 → ⊥) → Listed number
+number-listed : (number : ℕ) → passes number ≡ true → (number / 2 ^ 24 ≡ 0 → ⊥) → Listed number
 number-listed number h p =
-    let (a, b) = and-both (ltb (number / 2 ^ 24) 4 || eqb (number / 2 ^ 16 % 256) (memorySize (formOf (number / 2 ^ 24)))) _ h in
+    let (a, rest) = and-both (isListed (number / 2 ^ 24)) _ h in
+    let (b, c) = and-both (ltb (number / 2 ^ 24) 16 || eqb (number / 2 ^ 16 % 256) (memorySize (formOf (number / 2 ^ 24)))) _ rest in
     record {
+      listed = a;
       present = p;
-      sized = λ four. eqb-true _ _ (simp (le-ltb (number / 2 ^ 24) 4 four) at a);
-      moves = λ m. ap operationOf (eqb-true (number % 256) (numbered MOVE .0) (simp m at b));
+      sized = λ two. eqb-true _ _ (simp (le-ltb (number / 2 ^ 24) 16 two) at b);
+      moves = λ m. ap operationOf (eqb-true (number % 256) (numbered MOVE .0) (simp m at c));
     }
 
 -- a second byte whose form is there has a number that is listed
@@ -54,7 +57,7 @@ row-listed second e = by (ltb second 256) refl
     by true h =
         let fits = ltb-true second 256 h in
         number-listed (getD opcodeTable second 0)
-        (ap isListed (table-entry second fits) ∙ agree (λ k. isListed (entryAt k)) (λ k. true) true 256 second all-listed fits)
+        (ap passes (table-entry second fits) ∙ agree (λ k. passes (entryAt k)) (λ k. true) true 256 second all-pass fits)
         (λ z. false≢true (sym e ∙ ap isAbsent (sym (form-is second)) ∙ ap (λ (n : ℕ). isAbsent (formOf n)) z))
     by false h = absurd (false≢true (sym e ∙ ap isAbsent (form-beyond second (ltb-false second 256 h))))
 
@@ -69,25 +72,3 @@ effect-is i r = by (ltb (i .second) 256) refl
         let none = form-beyond (i .second) (ltb-false (i .second) 256 h) in
         ap (λ (f : Form). effectBy f (operationIn (getD opcodeTable (i .second) 0) (i .operand .reg)) i) (form-is (i .second) ∙ none)
         ∙ ap (λ (f : Form). effectBy f (operationAt (i .second) (i .operand .reg)) i) (sym none)
-
--- the same at a position of a code
-module _ (code : List ℕ) (at : ℕ) (x : Reading) (e : paperOfReading x ≡ readAt code at) (i : Instruction) (n : ℕ) (r : x ≡ Read i n) where
-  read-known : Known formAt i
-  unfolding readAt
-  read-known = by (ltb longestCode (length code)) (readPart (drop at code)) (reads-known formAt 0 (drop at code)) (sym e ∙ ap paperOfReading r)
-    where
-      by : (t : Bool) (z : Decoded) → Holds (Known formAt) Refusal z → cond t (refused codeTooLong) z ≡ good i n → Known formAt i
-      by true z h e = absurd (false≢true (cc))
-      by false z h e = subst (Holds (Known formAt) Refusal) e h
-
-  pub read-registers : Registers (i .operand)
-  read-registers = read-known .registers
-
-  pub read-listed : Listed (getD opcodeTable (i .second) 0)
-  read-listed = row-listed (i .second) (read-known .present)
-
--- the table that is lent has it
-pub looked-up : (table : List ℕ) (second : ℕ) → table ≡ opcodeTable → getD table second 0 ≡ getD opcodeTable second 0
-looked-up table second e = ap (λ (t : List ℕ). getD t second 0) e
-
-pub ruleset looking-up = (needs, looked-up)

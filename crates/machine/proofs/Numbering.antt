@@ -1,116 +1,167 @@
--- The forms by their numbers in the table, in the groups that the code tests for: by one list of the forms with two operands.
-use mathlib.Core.Path.{_≡_, refl, ap, subst}
-use Prim.Native.Nat.{ℕ, zero, suc, _-_, _≤_, _<_}
+-- The forms by their numbers in the table: those of a destination and a source by their operands, whatever register file and size r/m has.
+use mathlib.Core.Path.{_≡_, refl, sym, subst}
+use mathlib.Core.Logic.{_⊎_, inl, inr}
+use mathlib.Core.Bool.{Bool, true, false, cond, _||_, false≢true}
+use mathlib.Core.List.{List, [], _∷_}
+use Prim.Native.Nat.{ℕ, _/_, _%_, _^_, _≤_, _<_}
 use native.Mathlib.Omega.{arith}
-use mathlib.Core.Bool.{Bool, true, _&&_}
-use borrow.Author.Tests.{ltb-true, leb-true}
-use lib.Dec.{ltb, leb}
-use lib.ListN.{drop}
-use Rattle.words.proofs.Laws.{and-both}
-use Rattle.codec.proofs.FormNumbers.{allPass, form-passes-in}
-use Rattle.codec.specs.Forms.{File, mmxFile, integerFile, Form, mmreg2·imm8/642, mmreg2·imm8/62, reg32/mem32←mmreg1, mmreg1←reg32/mem32, mmreg2/mem64←mmreg1, mmreg1·mmreg2/mem32, mmreg1·mmreg2/mem64, mmreg1←mmreg2/mem64, forms, memorySize}
+use borrow.Author.Tests.{ne-eqb, eqb-true}
+use lib.Dec.{eqb}
+use Rattle.words.specs.Number.{bytes}
+use Rattle.codec.specs.Forms.{Use, read, written, updated, File, mmxFile, integerFile, Slot, rm/mem, mmreg1, Form, mmreg2·imm8/642, mmreg2·imm8/62, isAmong, memorySize}
 use Rattle.codec.specs.Table.{formOf}
-use Rattle.machine.specs.Works.{fileIn}
+use Rattle.codec.specs.declared.Kind.the-variants.{Ordinary}
+use Rattle.manual.specs.Instructions.{heldBy}
+use Rattle.machine.specs.Spots.{fileIn}
+use Rattle.machine.specs.PrintShapes.{Way, storing, loading, computing, wayOf}
+use Rattle.machine.specs.Works.{numbers, isListed}
 
--- the forms with two operands
-pub data TwoOperands (n : ℕ) : Type 0 where
-  is-storeD : n ≡ 4 → formOf n ≡ reg32/mem32←mmreg1 → TwoOperands n
-  is-loadD : n ≡ 5 → formOf n ≡ mmreg1←reg32/mem32 → TwoOperands n
-  is-storeQ : n ≡ 6 → formOf n ≡ mmreg2/mem64←mmreg1 → TwoOperands n
-  is-usualD : n ≡ 7 → formOf n ≡ mmreg1·mmreg2/mem32 → TwoOperands n
-  is-loadQ : n ≡ 9 → formOf n ≡ mmreg1←mmreg2/mem64 → TwoOperands n
-  is-usual : 7 < n → formOf n ≡ mmreg1·mmreg2/mem64 → TwoOperands n
+-- the register file and the size of r/m: MOVD's register is an integer register; of some bytes and at most eight, which a number that it takes keeps
+pub record Other (n : ℕ) (file : File) (size : ℕ) : Type 0 where
+  pub low : n ≤ 17 → file ≡ integerFile
+  pub past : 17 < n → file ≡ mmxFile
+  pub some : 0 < size
+  pub most : size ≤ 8
+  pub kept : (v : ℕ) → bytes size (heldBy (rm/mem file size) v) ≡ bytes size v
 
-from-four : (more : ℕ) → TwoOperands (suc (suc (suc (suc more))))
-from-four zero = is-storeD refl refl
-from-four (suc zero) = is-loadD refl refl
-from-four (suc (suc zero)) = is-storeQ refl refl
-from-four (suc (suc (suc zero))) = is-usualD refl refl
-from-four (suc (suc (suc (suc zero)))) = is-usual (omega arith) refl
-from-four (suc (suc (suc (suc (suc zero))))) = is-loadQ refl refl
-from-four (suc (suc (suc (suc (suc (suc more)))))) = is-usual (omega arith) refl
-
-pub two-operands : (n : ℕ) → 4 ≤ n → TwoOperands n
-two-operands n h =
-    let e : suc (suc (suc (suc (n - 4)))) ≡ n = omega arith in
-    subst TwoOperands e (from-four (n - 4))
-
--- a test that all of them pass
-from-number : (test : Form → Bool) (n : ℕ) → 4 ≤ n → allPass test (drop 4 forms) ≡ true → test (formOf n) ≡ true
-from-number test n h e =
-    subst (λ (k : ℕ). test (formOf k) ≡ true) (let z : suc (suc (suc (suc (n - 4)))) ≡ n = omega arith in z) (form-passes-in test (drop 4 forms) (n - 4) e)
-
--- of these, the forms that leave a number made from their source in a register
-pub data Computing (form : Form) : Type 0 where
-  computes-loadD : form ≡ mmreg1←reg32/mem32 → Computing form
-  computes-loadQ : form ≡ mmreg1←mmreg2/mem64 → Computing form
-  computes-usualD : form ≡ mmreg1·mmreg2/mem32 → Computing form
-  computes-usual : form ≡ mmreg1·mmreg2/mem64 → Computing form
-
-pub computing : (n : ℕ) → 4 ≤ n → (n ≡ 4 → ⊥) → (n ≡ 6 → ⊥) → Computing (formOf n)
-computing n h p q = by (two-operands n h)
+doubleword : (n : ℕ) → n ≤ 17 → Other n integerFile 4
+doubleword n h = record { low = λ l. refl; past = λ g. absurd (omega arith); some = omega arith; most = omega arith; kept = λ v i. first v i ∷ second v i ∷ third v i ∷ fourth v i ∷ [] }
   where
-    by : TwoOperands n → Computing (formOf n)
-    by (is-storeD e f) = absurd (p e)
-    by (is-loadD e f) = computes-loadD f
-    by (is-storeQ e f) = absurd (q e)
-    by (is-usualD e f) = computes-usualD f
-    by (is-loadQ e f) = computes-loadQ f
-    by (is-usual g f) = computes-usual f
+    first : (v : ℕ) → v % 2 ^ 32 % 256 ≡ v % 256
+    first v = omega arith
 
--- the operand that r/m names has one to 8 bytes in memory
-pub record Small (k : ℕ) : Type 0 where
-  pub some : 0 < k
-  pub most : k ≤ 8
+    second : (v : ℕ) → v % 2 ^ 32 / 256 % 256 ≡ v / 256 % 256
+    second v = omega arith
 
-pub small : (n : ℕ) → 4 ≤ n → Small (memorySize (formOf n))
-small n h =
-    let (a, b) = and-both _ _ (from-number isSmall n h refl) in
-    record { some = ltb-true _ _ a; most = leb-true _ _ b }
+    third : (v : ℕ) → v % 2 ^ 32 / 256 / 256 % 256 ≡ v / 256 / 256 % 256
+    third v = omega arith
+
+    fourth : (v : ℕ) → v % 2 ^ 32 / 256 / 256 / 256 % 256 ≡ v / 256 / 256 / 256 % 256
+    fourth v = omega arith
+
+multimedia : (n size : ℕ) → 17 < n → 0 < size → size ≤ 8 → Other n mmxFile size
+multimedia n size h a b = record { low = λ l. absurd (omega arith); past = λ g. refl; some = a; most = b; kept = λ v. refl }
+
+-- an ordinary form of a destination and a source
+abbrev pub pair : ℕ → Use × Slot → Slot → Form
+pair number destination source =
+    record { number = number; digits = []; operands = destination ∷ (read, source) ∷ []; immediate = 0; kind = Ordinary }
+
+-- the forms of each way, by their operands
+pub data Shape (n : ℕ) : Way → Form → Type 0 where
+  stores : (file : File) (size : ℕ) → Other n file size → Shape n storing (pair n (written, rm/mem file size) mmreg1)
+  loads : (file : File) (size : ℕ) → Other n file size → Shape n loading (pair n (written, mmreg1) (rm/mem file size))
+  computes : (file : File) (size : ℕ) → Other n file size → Shape n computing (pair n (updated, mmreg1) (rm/mem file size))
+
+-- the numbers that the code tests for
+abbrev pub Stores : ℕ → Type 0
+Stores n = (n ≡ 16) ⊎ (n ≡ 18)
+
+abbrev pub Loads : ℕ → Type 0
+Loads n = (n ≡ 17) ⊎ (n ≡ 19)
+
+module _ (n : ℕ) where
+  pub way-storing : Stores n → wayOf n ≡ storing
+  unfolding wayOf
+  way-storing (inl e) = simp e
+  way-storing (inr e) = simp e
+
+  pub way-loading : Loads n → wayOf n ≡ loading
+  unfolding wayOf
+  way-loading (inl e) = simp e
+  way-loading (inr e) = simp e
+
+  pub way-computing : (Stores n → ⊥) → (Loads n → ⊥) → wayOf n ≡ computing
+  unfolding wayOf
+  way-computing s l = simp (ne-eqb n 16 (λ e. s (inl e)), ne-eqb n 18 (λ e. s (inr e)), ne-eqb n 17 (λ e. l (inl e)), ne-eqb n 19 (λ e. l (inr e)))
+
+  pub way-taking : (Stores n → ⊥) → wayOf n ≡ storing → ⊥
+  unfolding wayOf
+  way-taking s e = by (eqb n 17 || eqb n 19) (simp (ne-eqb n 16 (λ z. s (inl z)), ne-eqb n 18 (λ z. s (inr z))) at e)
+    where
+      by : (t : Bool) → cond t loading computing ≡ storing → ⊥
+      by true e = let z : _≡_ {A = ℕ} 0 1 = cc in omega arith
+      by false e = let z : _≡_ {A = ℕ} 0 1 = cc in omega arith
+
+-- what holds of each number of a list holds of one that is among them
+abbrev AllOf : (ℕ → Type 0) → List ℕ → Type 0
+AllOf P [] = Unit {0}
+AllOf P (x ∷ xs) = P x × AllOf P xs
+
+among : (P : ℕ → Type 0) (n : ℕ) (xs : List ℕ) → isAmong n xs ≡ true → AllOf P xs → P n
+among P n [] e h = absurd (false≢true e)
+among P n (x ∷ xs) e h = by (eqb n x) refl e (λ later. among P n xs later (h .1))
   where
-    isSmall : Form → Bool
-    isSmall form = ltb 0 (memorySize form) && leb (memorySize form) 8
+    by : (t : Bool) → eqb n x ≡ t → (t || isAmong n xs) ≡ true → (isAmong n xs ≡ true → P n) → P n
+    by true q e rest = subst P (sym (eqb-true n x q)) (h .0)
+    by false q e rest = rest e
 
--- at mod 11 the operand of MOVD is an integer register, that of the others an MMX register
+pub shape : (n : ℕ) → isListed n ≡ true → 16 ≤ n → Shape n (wayOf n) (formOf n)
+unfolding wayOf
+shape n h two =
+    among (λ k. 16 ≤ k → Shape k (wayOf k) (formOf k)) n numbers h (
+      λ g. absurd (omega arith),
+      (
+        λ g. absurd (omega arith),
+        (
+          λ g. absurd (omega arith),
+          (
+            λ g. absurd (omega arith),
+            (
+              λ g. stores integerFile 4 (doubleword 16 (omega arith)),
+              (
+                λ g. loads integerFile 4 (doubleword 17 (omega arith)),
+                (
+                  λ g. stores mmxFile 8 (multimedia 18 8 (omega arith) (omega arith) (omega arith)),
+                  (
+                    λ g. loads mmxFile 8 (multimedia 19 8 (omega arith) (omega arith) (omega arith)),
+                    (
+                      λ g. computes mmxFile 4 (multimedia 20 4 (omega arith) (omega arith) (omega arith)),
+                      (λ g. computes mmxFile 8 (multimedia 21 8 (omega arith) (omega arith) (omega arith)), tt),
+                    ),
+                  ),
+                ),
+              ),
+            ),
+          ),
+        ),
+      ),
+    ) two
 
-abbrev fileOf : Form → File
-fileOf form = fileIn (form .operands)
-
-pub integer-form : (n : ℕ) → 4 ≤ n → n ≤ 5 → fileIn (formOf n .operands) ≡ integerFile
-integer-form n h l = by (two-operands n h)
+pub other : (n : ℕ) → isListed n ≡ true → 16 ≤ n → Other n (fileIn (formOf n .operands)) (memorySize (formOf n))
+other n h two = by (wayOf n) (formOf n) (shape n h two)
   where
-    by : TwoOperands n → fileOf (formOf n) ≡ integerFile
-    by (is-storeD e f) = ap fileOf f
-    by (is-loadD e f) = ap fileOf f
-    by (is-storeQ e f) = absurd (omega arith)
-    by (is-usualD e f) = absurd (omega arith)
-    by (is-loadQ e f) = absurd (omega arith)
-    by (is-usual g f) = absurd (omega arith)
-
-pub mmx-form : (n : ℕ) → 5 < n → fileIn (formOf n .operands) ≡ mmxFile
-mmx-form n h = by (two-operands n (omega arith))
-  where
-    by : TwoOperands n → fileOf (formOf n) ≡ mmxFile
-    by (is-storeD e f) = absurd (omega arith)
-    by (is-loadD e f) = absurd (omega arith)
-    by (is-storeQ e f) = ap fileOf f
-    by (is-usualD e f) = ap fileOf f
-    by (is-loadQ e f) = ap fileOf f
-    by (is-usual g f) = ap fileOf f
+    by : (y : Way) (f : Form) → Shape n y f → Other n (fileIn (f .operands)) (memorySize f)
+    by y f (stores file size x) = x
+    by y f (loads file size x) = x
+    by y f (computes file size x) = x
 
 -- the forms of the shifts by an immediate
-pub data Shifting (form : Form) : Type 0 where
-  shifts-WD : form ≡ mmreg2·imm8/642 → Shifting form
-  shifts-Q : form ≡ mmreg2·imm8/62 → Shifting form
+pub data Shifting : Form → Type 0 where
+  shifts-WD : Shifting mmreg2·imm8/642
+  shifts-Q : Shifting mmreg2·imm8/62
 
-pub shift-past : (n : ℕ) → (n ≡ 1 → ⊥) → (n ≡ 0 → ⊥) → 1 < n
-shift-past zero p q = absurd (q refl)
-shift-past (suc zero) p q = absurd (p refl)
-shift-past (suc (suc n)) p q = omega arith
-
-pub shifting-form : (n : ℕ) → n < 4 → (n ≡ 1 → ⊥) → (n ≡ 0 → ⊥) → Shifting (formOf n)
-shifting-form zero h p q = absurd (q refl)
-shifting-form (suc zero) h p q = absurd (p refl)
-shifting-form (suc (suc zero)) h p q = shifts-WD refl
-shifting-form (suc (suc (suc zero))) h p q = shifts-Q refl
-shifting-form (suc (suc (suc (suc n)))) h p q = absurd (omega arith)
+pub shifting : (n : ℕ) → isListed n ≡ true → n < 16 → (n ≡ 1 → ⊥) → (n ≡ 0 → ⊥) → Shifting (formOf n)
+shifting n h =
+    among (λ k. k < 16 → (k ≡ 1 → ⊥) → (k ≡ 0 → ⊥) → Shifting (formOf k)) n numbers h (
+      λ l p q. absurd (q refl),
+      (
+        λ l p q. absurd (p refl),
+        (
+          λ l p q. shifts-WD,
+          (
+            λ l p q. shifts-Q,
+            (
+              λ l p q. absurd (omega arith),
+              (
+                λ l p q. absurd (omega arith),
+                (
+                  λ l p q. absurd (omega arith),
+                  (λ l p q. absurd (omega arith), (λ l p q. absurd (omega arith), (λ l p q. absurd (omega arith), tt))),
+                ),
+              ),
+            ),
+          ),
+        ),
+      ),
+    )

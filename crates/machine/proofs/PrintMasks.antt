@@ -1,6 +1,5 @@
 -- Masks that the code puts together. Rules for masks of registers.
 use mathlib.Core.Path.{_≡_}
-use mathlib.Core.Bool.{and-false}
 use mathlib.Core.List.{append-nil}
 use mathlib.Core.Option.{Option, none, some}
 use Prim.Native.Nat.{ℕ, _*_, _^_, _%_, _<_}
@@ -11,10 +10,10 @@ use lib.Bits.{bitOr, or-zero-r}
 use lib.Pow.{pow-lt}
 use Rattle.codec.specs.Operands.{hasSib}
 use Rattle.codec.specs.declared.Operand.{Operand}
-use Rattle.manual.specs.Addresses.{baseOf, indexOf, addressOf, registersOf, addressRegisters}
+use Rattle.manual.specs.Addresses.{baseOf, indexOf, addressOf, registersOf}
 use Rattle.machine.specs.declared.Places.{Places}
 use Rattle.machine.specs.Prints.{mask}
-use Rattle.machine.specs.PrintShapes.{beside}
+use Rattle.machine.specs.PrintShapes.{beside, behind}
 use Rattle.machine.proofs.Addressing.{base-is, base-is-five, no-base, index-is, no-index}
 use Rattle.machine.proofs.Masks.{mask-append}
 
@@ -30,20 +29,24 @@ module _ (maybe : Option ℕ) where
   pub mask-none : maybe ≡ none → 0 ≡ mask (registersOf maybe)
   mask-none unnamed = rw unnamed
 
--- the mask of an address
-module _ (w : Operand) (r : ℕ) where
-  pub address-plain : r ≡ mask (registersOf (baseOf (w .mode) (w .rm))) → (w .rm ≡ 4 → ⊥) → r ≡ mask (addressRegisters (addressOf w))
-  unfolding addressOf hasSib
-  address-plain e other = simp (ne-eqb (w .rm) 4 other, and-false, append-nil) e
+-- the mask of the address registers of the operand of r/m
+module _ (w : Operand) where
+  pub address-none : w .mode ≡ 3 → 0 ≡ behind w
+  address-none e = simp (eq-eqb (w .mode) 3 e)
 
-  pub address-sib : (x : ℕ) → r ≡ mask (registersOf (baseOf (w .mode) (w .base))) → x ≡ mask (registersOf (indexOf (w .index)))
-      → w .rm ≡ 4 → (w .mode ≡ 3 → ⊥) → bitOr r x ≡ mask (addressRegisters (addressOf w))
-  unfolding addressOf hasSib
-  address-sib x e f sib other = simp (eq-eqb (w .rm) 4 sib, ne-eqb (w .mode) 3 other, mask-append, ← e, ← f)
+  module _ (r : ℕ) (other : w .mode ≡ 3 → ⊥) where
+    pub address-plain : r ≡ mask (registersOf (baseOf (w .mode) (w .rm))) → (w .rm ≡ 4 → ⊥) → r ≡ behind w
+    unfolding addressOf hasSib
+    address-plain e plain = simp (ne-eqb (w .mode) 3 other, ne-eqb (w .rm) 4 plain, append-nil) e
+
+    pub address-sib : (x : ℕ) → r ≡ mask (registersOf (baseOf (w .mode) (w .base))) → x ≡ mask (registersOf (indexOf (w .index)))
+        → w .rm ≡ 4 → bitOr r x ≡ behind w
+    unfolding addressOf hasSib
+    address-sib x e f sib = simp (eq-eqb (w .rm) 4 sib, ne-eqb (w .mode) 3 other, mask-append, ← e, ← f)
 
 -- a register beside other places
 pub made-beside : (register b : ℕ) (p : Places) → b ≡ 2 ^ register
     → record { mmx = bitOr b (p .mmx); integers = p .integers; start = p .start; length = p .length } ≡ beside register p
 made-beside register b p e = simp e
 
-pub ruleset print-masks = (needs, one-bit, base-is, base-is-five, no-base, index-is, no-index, mask-named, mask-none, address-plain, address-sib, made-beside)
+pub ruleset print-masks = (needs, one-bit, base-is, base-is-five, no-base, index-is, no-index, mask-named, mask-none, address-none, address-plain, address-sib, made-beside)

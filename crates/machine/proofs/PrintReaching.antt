@@ -1,26 +1,30 @@
 -- The operand of r/m as masks and a range: the bytes of an operand are one range, and no registers. Rules for where the code finds it.
-use mathlib.Core.Path.{_≡_, refl}
-use mathlib.Core.Bool.{Bool, true, false, not}
-use mathlib.Core.List.{List, []}
+use mathlib.Core.Path.{_≡_, refl, _∙_}
+use mathlib.Core.Bool.{Bool, true, false, cond}
+use mathlib.Core.List.{[]}
 use Prim.Native.Nat.{ℕ, zero, suc, _+_, _/_, _%_, _^_, _≤_, _<_}
 use native.Mathlib.Omega.{arith}
 use borrow.Author.Needs.{needs}
-use borrow.Author.Tests.{eq-eqb, ne-eqb, not-true, not-false}
-use lib.Dec.{leb}
+use lib.Dec.{eqb}
 use lib.ListN.{length}
+use Rattle.codec.specs.Forms.{File, mmxFile, integerFile, memorySize}
+use Rattle.codec.specs.Table.{formOf}
 use Rattle.codec.specs.declared.Operand.{Operand}
-use Rattle.manual.specs.Refusals.{outsideMemory}
 use Rattle.manual.specs.State.{State}
 use Rattle.manual.specs.Addresses.{addressOf, address, addressRegisters}
-use Rattle.manual.specs.Locations.{memory, rmOf, bytesFrom, tested, placesOf}
+use Rattle.manual.specs.Locations.{Location, memory, registerIn, rmOf, bytesFrom, fits, placesOf}
 use Rattle.machine.specs.declared.Places.{Places}
+use Rattle.machine.specs.declared.operands.Spot.{Spot}
+use Rattle.machine.specs.declared.operands.Spot.the-variants.{Integer}
 use Rattle.machine.specs.declared.reaches.Reach.{Reach}
-use Rattle.machine.specs.declared.reaches.Reach.the-variants.{Inside, Refused}
+use Rattle.machine.specs.declared.reaches.Reach.the-variants.{Inside}
 use Rattle.machine.specs.Prints.{mmxNumber, integerNumber, numbersOf, mask, setOf}
-use Rattle.machine.specs.PrintShapes.{nowhere, beside, through, reachOf}
+use Rattle.machine.specs.PrintShapes.{nowhere, through, reachOf, behind, reachAt}
+use Rattle.machine.specs.Spots.{fileIn, otherOf, spotOf}
+use Rattle.machine.specs.Works.{Listed}
 use Rattle.machine.proofs.Ranges.{count-bytes}
-use Rattle.machine.proofs.Numbering.{small, integer-form, mmx-form}
-use Rattle.machine.specs.Works.{otherOf, Listed}
+use Rattle.machine.proofs.Numbering.{other}
+use Rattle.machine.proofs.Locating.{spot-named, register-mmx, register-integer}
 
 no-mmx : (size a : ℕ) → numbersOf mmxNumber (bytesFrom a size) ≡ []
 no-mmx zero a = refl
@@ -38,44 +42,40 @@ set-bytes zero a h = absurd (omega arith)
 set-bytes (suc size) a h =
     λ i. record { mmx = mask (no-mmx (suc size) a i); integers = mask (no-integer (suc size) a i); start = a; length = count-bytes (suc size) a i }
 
--- in memory
-module _ (integers : List ℕ) (w : Operand) (size room a : ℕ) (there : a ≡ address integers (addressOf w)) where
-  abbrev reached : Reach
-  reached = reachOf (memory (addressOf w) size) (tested room size (address integers (addressOf w)))
+-- the operand of r/m, whatever it is
+module _ (s : State) (w : Operand) where
+  abbrev spot : Location → Spot
+  spot x = spotOf (s .integers) (length (s .memory)) x
 
-  -- the operand test
-  module _ (t : Bool) (test : t ≡ leb (a + size) room) where
-    pub reach-outside : not t ≡ true → Refused outsideMemory ≡ reached
-    reach-outside n = simp (← there, ← test, not-true t n)
+  abbrev start : ℕ
+  start = address (s .integers) (addressOf w)
 
-    pub reach-inside : (registers : ℕ) → not t ≡ false → registers ≡ mask (addressRegisters (addressOf w)) → 0 < size
-        → Inside registers (range a size) ≡ reached
-    reach-inside registers n e some = simp (← there, ← test, not-false t n, set-bytes size a some, ← e)
+  reached : (file : File) (size : ℕ) → 0 < size → let x = rmOf file size w in reachAt (behind w) size (spot x) ≡ reachOf x (placesOf s x)
+  unfolding rmOf
+  reached file size some = by (eqb (w .mode) 3) file
+    where
+      inside : (u : Bool) → fits (length (s .memory)) size start ≡ u → let x = memory (addressOf w) size in reachAt (mask (addressRegisters (addressOf w))) size (spot x) ≡ reachOf x (placesOf s x)
+      inside true h = simp (h, set-bytes size start some)
+      inside false h = simp h
 
--- in a register
-module _ (s : State) (entry : ℕ) (w : Operand) where
-  abbrev there : Reach
-  there = reachOf (otherOf (entry / 2 ^ 24) w) (placesOf s (otherOf (entry / 2 ^ 24) w))
+      by : (t : Bool) (f : File) → let x = cond t (registerIn f (w .rm)) (memory (addressOf w) size) in
+          reachAt (cond t 0 (mask (addressRegisters (addressOf w)))) size (spot x) ≡ reachOf x (placesOf s x)
+      by true mmxFile = refl
+      by true integerFile = refl
+      by false f = inside (fits (length (s .memory)) size start) refl
 
-  module _ (p : Places) (register : w .mode ≡ 3) where
-    pub reach-integer : (b : ℕ) → 4 ≤ entry / 2 ^ 24 → entry / 2 ^ 24 ≤ 5 → b ≡ 2 ^ (w .rm) → p ≡ through b nowhere → Inside 0 p ≡ there
-    unfolding rmOf
-    reach-integer b f g e h = simp (eq-eqb (w .mode) 3 register, integer-form (entry / 2 ^ 24) f g, h, e)
+  module _ (entry : ℕ) (l : Listed entry) (two : 16 ≤ entry / 2 ^ 24) where
+    abbrev there : Location
+    there = otherOf (entry / 2 ^ 24) w
 
-    pub reach-mmx : 5 < entry / 2 ^ 24 → p ≡ beside (w .rm) nowhere → Inside 0 p ≡ there
-    unfolding rmOf
-    reach-mmx f h = simp (eq-eqb (w .mode) 3 register, mmx-form (entry / 2 ^ 24) f, h)
+    -- as the code finds it, by where it is
+    module _ (x y : Spot) (m : ℕ) (found : x ≡ spot there) (masked : m ≡ behind w) (e : x ≡ y) where
+      pub reach-there : (r : Reach) → r ≡ reachAt m (entry / 2 ^ 16 % 256) y → r ≡ reachOf there (placesOf s there)
+      reach-there r h =
+          let form = formOf (entry / 2 ^ 24) in
+          h ∙ rw (masked, ← e, found, l .sized two) (reached (fileIn (form .operands)) (memorySize form) (other (entry / 2 ^ 24) (l .listed) two .some))
 
-  module _ (l : Listed entry) (two : 4 ≤ entry / 2 ^ 24) where
-    pub reach-size : 0 < entry / 2 ^ 16 % 256
-    reach-size = omega (arith, l .sized two, small (entry / 2 ^ 24) two .some)
+      pub reach-integer : (k b : ℕ) (p : Places) → y ≡ Integer k → b ≡ 2 ^ k → p ≡ through b nowhere → Inside m p ≡ reachOf there (placesOf s there)
+      reach-integer k b p i f g = reach-there (Inside m p) (simp (i, g, f))
 
-    pub reach-memory : (r : Reach) → (w .mode ≡ 3 → ⊥)
-        → r ≡ reachOf (memory (addressOf w) (entry / 2 ^ 16 % 256)) (tested (length (s .memory)) (entry / 2 ^ 16 % 256) (address (s .integers) (addressOf w)))
-        → r ≡ there
-    unfolding rmOf
-    reach-memory r m h = simp (ne-eqb (w .mode) 3 m, ← l .sized two) h
-
-pub ruleset print-bytes = (needs, reach-outside, reach-inside)
-
-pub ruleset print-reaching = (needs, reach-integer, reach-mmx, reach-size, reach-memory)
+pub ruleset print-reaching = (needs, spot-named, register-mmx, register-integer, reach-there, reach-integer)

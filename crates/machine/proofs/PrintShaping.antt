@@ -1,5 +1,5 @@
 -- What an effect of each shape reads and writes, for any operand: the masks of places one after the other are the masks of both.
-use mathlib.Core.Path.{_≡_, refl, ap, _∙_}
+use mathlib.Core.Path.{_≡_, refl, sym, ap, _∙_}
 use mathlib.Core.List.{List, [], _∷_, _++_, append-nil, map}
 use Prim.Native.Nat.{ℕ, _^_}
 use borrow.Author.Needs.{needs}
@@ -11,15 +11,15 @@ use Rattle.manual.specs.State.{State}
 use Rattle.manual.specs.Places.{Place, mmx, integer, look}
 use Rattle.manual.specs.Locations.{Location, mmxRegister}
 use Rattle.manual.specs.Effects.{Effect, planOn, via}
-use Rattle.manual.proofs.Direct.{both, move}
-use Rattle.manual.proofs.Direct.{one}
+use Rattle.manual.proofs.Direct.{both, move, one}
 use Rattle.machine.specs.declared.Places.{Places}
 use Rattle.machine.specs.declared.Footprint.{Footprint}
 use Rattle.machine.specs.declared.reaches.Reach.{Reach}
 use Rattle.machine.specs.declared.reaches.Reach.the-variants.{Inside, Refused}
 use Rattle.machine.specs.Prints.{mask, setOf, print}
-use Rattle.machine.specs.PrintShapes.{nowhere, beside, through, reachOf, storing, loading, computing}
+use Rattle.machine.specs.PrintShapes.{nowhere, beside, through, reachOf, ordinaryPrint, Way, storing, loading, computing, wayOf, shapedAs}
 use Rattle.machine.proofs.Masks.{or-assoc}
+use Rattle.machine.proofs.Numbering.{Stores, Loads, way-storing, way-loading, way-computing}
 
 -- address registers beside other places
 set-through : (ks : List ℕ) (ps : List Place) → setOf (map integer ks ++ ps) ≡ through (mask ks) (setOf ps)
@@ -37,29 +37,34 @@ module _ (s : State) (k : ℕ) (x : Location) where
   printed e sources targets =
       mapResult print (footprintIn look (via e) s (andThen sources (λ source. mapResult (planOn e source) targets)))
 
-  pub stores : (f : ℕ → ℕ) (o : Result (List Place)) → printed (move f x (mmxRegister k)) (done (mmx k ∷ [])) (one o) ≡ shaped (storing k) (reachOf x o)
-  stores f (done ps) = simp (append-nil, set-through)
-  stores f (refused n) = refl
+  pub store-prints : (f : ℕ → ℕ) (o : Result (List Place)) → printed (move f x (mmxRegister k)) (done (mmx k ∷ [])) (one o) ≡ shaped (shapedAs storing k) (reachOf x o)
+  store-prints f (done ps) = simp (append-nil, set-through)
+  store-prints f (refused n) = refl
 
-  pub loads : (f : ℕ → ℕ) (o : Result (List Place)) → printed (move f (mmxRegister k) x) (one o) (done (mmx k ∷ [])) ≡ shaped (loading k) (reachOf x o)
-  loads f (done ps) = simp (append-nil, set-through)
-  loads f (refused n) = refl
+  pub load-prints : (f : ℕ → ℕ) (o : Result (List Place)) → printed (move f (mmxRegister k) x) (one o) (done (mmx k ∷ [])) ≡ shaped (shapedAs loading k) (reachOf x o)
+  load-prints f (done ps) = simp (append-nil, set-through)
+  load-prints f (refused n) = refl
 
-  pub computes : (f : ℕ → ℕ → ℕ) (o : Result (List Place))
-      → printed (both f (mmxRegister k) x) (mapResult (λ qs. mmx k ∷ qs) (one o)) (done (mmx k ∷ [])) ≡ shaped (computing k) (reachOf x o)
-  computes f (done ps) = simp (append-nil, set-through)
-  computes f (refused n) = refl
+  pub compute-prints : (f : ℕ → ℕ → ℕ) (o : Result (List Place))
+      → printed (both f (mmxRegister k) x) (mapResult (λ qs. mmx k ∷ qs) (one o)) (done (mmx k ∷ [])) ≡ shaped (shapedAs computing k) (reachOf x o)
+  compute-prints f (done ps) = simp (append-nil, set-through)
+  compute-prints f (refused n) = refl
 
--- the shapes as the code makes them
-module _ (k m : ℕ) (p own x : Places) where
-  pub made-storing : own ≡ beside k nowhere → x ≡ through m own → record { reads = x; writes = p; kind = Ordinary } ≡ storing k m p
-  made-storing e h = simp (h, e)
+-- the ways as the code makes them
+pub made-ordinary : (m : ℕ) (p q x : Places) → x ≡ through m p → record { reads = x; writes = q; kind = Ordinary } ≡ ordinaryPrint m p q
+made-ordinary m p q x e = simp e
 
-  pub made-loading : x ≡ through m p → own ≡ beside k nowhere → record { reads = x; writes = own; kind = Ordinary } ≡ loading k m p
-  made-loading h e = simp (h, e)
+module _ (n k m : ℕ) (p own : Places) (r : Footprint) (e : own ≡ beside k nowhere) where
+  by-way : (y : Way) → wayOf n ≡ y → r ≡ shapedAs y k m p → r ≡ shapedAs (wayOf n) k m p
+  by-way y w h = h ∙ ap (λ (z : Way). shapedAs z k m p) (sym w)
 
-  pub made-computing : (both : Places) → both ≡ beside k p → x ≡ through m both → own ≡ beside k nowhere
-      → record { reads = x; writes = own; kind = Ordinary } ≡ computing k m p
-  made-computing both b h e = simp (h, b, e)
+  pub made-storing : Stores n → r ≡ ordinaryPrint m own p → r ≡ shapedAs (wayOf n) k m p
+  made-storing g h = by-way storing (way-storing n g) (simp e at h)
 
-pub ruleset print-shapes = (needs, made-storing, made-loading, made-computing)
+  pub made-loading : Loads n → r ≡ ordinaryPrint m p own → r ≡ shapedAs (wayOf n) k m p
+  made-loading g h = by-way loading (way-loading n g) (simp e at h)
+
+  pub made-computing : (both : Places) → (Stores n → ⊥) → (Loads n → ⊥) → both ≡ beside k p → r ≡ ordinaryPrint m both own → r ≡ shapedAs (wayOf n) k m p
+  made-computing both a b f h = by-way computing (way-computing n a b) (simp (e, f) at h)
+
+pub ruleset print-shapes = (needs, made-ordinary, made-storing, made-loading, made-computing)

@@ -1,79 +1,80 @@
 -- The tests before the footprint, in the order of a step's: the memory's length, the reader's, the control marks. Rules for their answers.
-use mathlib.Core.Path.{_≡_, refl, sym, ap, subst, _∙_}
+use mathlib.Core.Path.{_≡_, refl, sym, ap, _∙_}
 use mathlib.Core.List.{List}
-use Prim.Native.Nat.{ℕ, _≤_, _<_}
+use Prim.Native.Nat.{ℕ, _-_, _≤_, _<_}
 use borrow.Author.Needs.{needs}
 use borrow.Author.Tests.{lt-ltb, le-ltb}
-use lib.ListN.{length, getD}
-use Rattle.reorder.specs.Result.{Result, refused, mapResult}
+use lib.ListN.{length}
+use Rattle.reorder.specs.Result.{Result, refused, andThen, mapResult}
 use Rattle.reorder.specs.Plan.{Plan}
 use Rattle.reorder.specs.Footprint.{footprintIn}
-use Rattle.codec.specs.Answers.{paperOfReading}
-use Rattle.codec.specs.Operands.{Registers}
+use Rattle.codec.specs.Answers.{Decoded, good}
+use Rattle.codec.specs.Answers as decoded
+use Rattle.codec.specs.Finding.{findWith}
+use Rattle.codec.specs.Refusals.{codeTooLong}
 use Rattle.codec.specs.Table.{opcodeTable}
-use Rattle.codec.specs.Reads.{readAt}
-use Rattle.codec.specs.declared.Instruction.{Instruction}
-use Rattle.codec.specs.declared.Reading.{Reading}
-use Rattle.codec.specs.declared.Reading.the-variants as reading
+use Rattle.codec.specs.Reads.{longestCode, readAt}
+use Rattle.codec.specs.declared.Found.{Found}
 use Rattle.codec.specs.declared.Kind.{Kind}
+use Rattle.codec.proofs.OurTable.{read-long, read-on, read-stop}
 use Rattle.manual.specs.Refusals.{memoryTooLong}
 use Rattle.manual.specs.State.{State, longestMemory}
 use Rattle.manual.specs.Places.{Place, look}
 use Rattle.manual.specs.Effects.{Effect, unlessMarked, via}
 use Rattle.manual.specs.Instructions.{effectOf, footprint}
-use Rattle.manual.specs.Steps.{instructionAt}
+use Rattle.manual.specs.Steps.{resultOf, instructionAt}
 use Rattle.manual.specs.Footprints.{footprintAt}
 use Rattle.manual.proofs.Marking.{past-marks}
+use Rattle.machine.specs.declared.Footprint.{Footprint}
 use Rattle.machine.specs.declared.Machine.{Machine}
 use Rattle.machine.specs.declared.Printed.{Printed}
 use Rattle.machine.specs.State.{stateOf}
 use Rattle.machine.specs.Prints.{print, printAt, paperOfFootprint}
 use Rattle.machine.specs.PrintShapes.{unmarkedPrint}
-use Rattle.machine.specs.Works.{barredBy, effectIn, Listed}
+use Rattle.machine.specs.Works.{barredBy, effectIn}
+use Rattle.machine.proofs.Fetching.{names-registers, is-listed, effect-found}
 use Rattle.machine.proofs.Testing.{unbarred-by, barred-by}
-use Rattle.machine.proofs.Listing.{effect-is, read-registers, read-listed}
 
--- the control marks
-module _ (machine : Machine) (memory : List ℕ) (i : Instruction) where
+-- past the memory's length
+module _ (code : List ℕ) (at : ℕ) (machine : Machine) (memory : List ℕ) where
   abbrev here : State
   here = stateOf machine memory
 
-  by-marks : mapResult print (footprint i here) ≡ unlessMarked (machine .marks) (unmarkedPrint (effectOf i) here)
-  unfolding footprint unmarkedPrint
-  by-marks =
-      past-marks (λ (o : Result (Plan Place Kind)). mapResult print (footprintIn look (via (effectOf i)) here o)) (λ n. refl)
-      (machine .marks) _
-
-  -- the number of the marks, or 0
-  module _ (bar : ℕ) (found : bar ≡ barredBy (machine .marks)) where
-    pub print-barred : (bar ≡ 0 → ⊥) → refused bar ≡ mapResult print (footprint i here)
-    print-barred h = ap refused found ∙ sym (by-marks ∙ barred-by (machine .marks) _ (λ e. h (found ∙ e)))
-
-    pub print-unbarred : (entry : ℕ) (r : Printed) → bar ≡ 0 → Registers (i .operand) → entry ≡ getD opcodeTable (i .second) 0
-        → paperOfFootprint r ≡ unmarkedPrint (effectIn entry i) here → paperOfFootprint r ≡ mapResult print (footprint i here)
-    print-unbarred entry r h names e p =
-        p ∙ ap (λ (y : ℕ). unmarkedPrint (effectIn y i) here) e ∙ ap (λ (y : Effect). unmarkedPrint y here) (effect-is i names)
-        ∙ sym (by-marks ∙ unbarred-by (machine .marks) _ (sym found ∙ h))
-
-pub entry-listed : (entry second : ℕ) → entry ≡ getD opcodeTable second 0 → Listed (getD opcodeTable second 0) → Listed entry
-entry-listed entry second e l = subst Listed (sym e) l
-
--- the position
-module _ (code : List ℕ) (at : ℕ) (machine : Machine) (memory : List ℕ) where
-  pub print-long : longestMemory < length memory → refused memoryTooLong ≡ printAt code at (stateOf machine memory)
+  pub print-long : longestMemory < length memory → refused memoryTooLong ≡ printAt code at here
   unfolding printAt footprintAt instructionAt
   print-long h = simp (lt-ltb longestMemory (length memory) h)
 
-  module _ (short : length memory ≤ longestMemory) (z : Reading) (read : paperOfReading z ≡ readAt code at) where
-    pub print-unread : (n : ℕ) → z ≡ reading.Refused n → refused n ≡ printAt code at (stateOf machine memory)
+  module _ (short : length memory ≤ longestMemory) where
+    by-reading : (z : Decoded) → z ≡ readAt code at → printAt code at here ≡ mapResult print (andThen (resultOf z) (λ r. footprint (r .instruction) here))
     unfolding printAt footprintAt instructionAt
-    print-unread n e = simp (le-ltb longestMemory (length memory) short, ← read, e)
+    by-reading z e = simp (le-ltb longestMemory (length memory) short, ← e)
 
-    pub print-read : (i : Instruction) (n : ℕ) (r : Printed) → z ≡ reading.Read i n → paperOfFootprint r ≡ mapResult print (footprint i (stateOf machine memory))
-        → paperOfFootprint r ≡ printAt code at (stateOf machine memory)
-    unfolding printAt footprintAt instructionAt
-    print-read i n r e h = h ∙ simp (le-ltb longestMemory (length memory) short, ← read, e)
+    pub print-code-long : longestCode < length code → refused codeTooLong ≡ printAt code at here
+    print-code-long h = sym (by-reading (decoded.refused codeTooLong) (read-long code at h))
 
-pub ruleset print-marks = (needs, entry-listed, print-barred, print-unbarred)
+    -- with our table
+    module _ (fits : length code ≤ longestCode) (table : List ℕ) (x : Found) (ours : table ≡ opcodeTable) (e : x ≡ findWith table code at) where
+      pub print-unread : (x .refusal ≡ 0 → ⊥) → refused (x .refusal) ≡ printAt code at here
+      print-unread h = sym (by-reading (decoded.refused (x .refusal)) (read-stop code at x table ours e fits h))
 
-pub ruleset print-positions = (needs, read-registers, read-listed, print-long, print-unread, print-read)
+      module _ (passed : x .refusal ≡ 0) where
+        abbrev left : Result Footprint
+        left = unmarkedPrint (effectIn (x .entry) (x .instruction)) here
+
+        print-found : printAt code at here ≡ unlessMarked (machine .marks) left
+        unfolding footprint unmarkedPrint
+        print-found =
+            by-reading (good (x .instruction) (x .next - at)) (read-on code at x table ours e fits passed)
+            ∙ past-marks (λ (o : Result (Plan Place Kind)). mapResult print (footprintIn look (via (effectOf (x .instruction))) here o)) (λ n. refl)
+            (machine .marks) _
+            ∙ ap (λ (y : Effect). unlessMarked (machine .marks) (unmarkedPrint y here)) (sym (effect-found table code at x ours e passed))
+
+        -- the number of the marks, or 0
+        module _ (bar : ℕ) (found : bar ≡ barredBy (machine .marks)) where
+          pub print-barred : (bar ≡ 0 → ⊥) → refused bar ≡ printAt code at here
+          print-barred h = ap refused found ∙ sym (print-found ∙ barred-by (machine .marks) _ (λ z. h (found ∙ z)))
+
+          pub print-unbarred : (r : Printed) → bar ≡ 0 → paperOfFootprint r ≡ left → paperOfFootprint r ≡ printAt code at here
+          print-unbarred r h p = p ∙ sym (print-found ∙ unbarred-by (machine .marks) _ (sym found ∙ h))
+
+pub ruleset print-positions = (needs, names-registers, is-listed, print-long, print-code-long, print-unread, print-barred, print-unbarred)

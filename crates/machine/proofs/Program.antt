@@ -16,7 +16,7 @@ use Rattle.manual.specs.State.{State}
 use Rattle.manual.specs.Places.{Place}
 use Rattle.manual.specs.Runs.{read, runOf}
 use Rattle.manual.specs.Footprints.{footprintAt, footprintInRun}
-use Rattle.manual.proofs.Demand3.{positionInRun, part, map-alike, print-there, rearranged-parts}
+use Rattle.manual.proofs.Demand3.{positionInRun, part, map-alike, has-footprint, rearranged-parts}
 use Rattle.machine.specs.declared.Machine.{Machine}
 use Rattle.machine.specs.declared.Footprint.{Footprint}
 use Rattle.machine.specs.declared.Printed.the-variants.{Of}
@@ -28,7 +28,7 @@ use Rattle.machine.specs.Runs.{paperOfEnd, paperOfRun}
 use Rattle.machine.specs.Prints.{print, printAt, meet, meetTest}
 use Rattle.machine.proofs.Tested.{demand-3-tested}
 use Rattle.machine.proofs.Allowed.{After, machineIn, runBack, run-handed, run-given}
-use Rattle.machine.proofs.Calls.{RunCall, FootprintCall, MeetsCall, run-says, footprint-says, meets-says, run-there, footprint-there, meets-there}
+use Rattle.machine.proofs.Calls.{RunCall, FootprintCall, MeetsCall, run-says, footprint-says, meets-says, run-there, foothas-footprint, meets-there}
 
 -- what a run has come to, by what it handed back
 
@@ -141,8 +141,8 @@ module _ (machine : Machine) (code memory : List ℕ) (budget end total : ℕ) (
       → FootprintCall (handed k .answer .machine) code (handed k .answer .at) (handed k .memory) (Of (handedOut (footprintInRun code (stateOf machine memory) k)))
   unfolding handedOut printAt
   handed-print k b =
-      let (f, e) = print-there code budget end total (stateOf machine memory) final h k b in
-      footprint-there (handed k .answer .machine) code (handed k .answer .at) (handed k .memory) _
+      let (f, e) = has-footprint code budget end total (stateOf machine memory) final h k b in
+      foothas-footprint (handed k .answer .machine) code (handed k .answer .at) (handed k .memory) _
       (ap (λ o. done (handedOut o)) e
       ∙ ap (mapResult print) (sym e ∙ print-called machine code memory k (handed k .answer) (handed k .memory) (handed-run k)))
 

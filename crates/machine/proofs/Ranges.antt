@@ -1,35 +1,32 @@
 -- The memory bytes of a footprint are one range, since an instruction has at most one operand in memory: by the shapes of effects.
 use mathlib.Core.Path.{_≡_, refl, sym, ap, subst}
 use mathlib.Core.Logic.{_↔_}
-use mathlib.Core.Bool.{Bool, true, false, cond}
-use mathlib.Core.List.{List, [], _∷_, _++_, append-nil, map, List·Memᴰ as In, List·Memᴰ·head as here, List·Memᴰ·tail as later}
-use Prim.Native.Nat.{ℕ, zero, suc, _+_, _/_, _%_, _^_, _≤_, _<_}
+use mathlib.Core.Bool.{Bool, true, false, cond, _&&_, false≢true}
+use mathlib.Core.List.{List, [], _∷_, _++_, map, List·Memᴰ as In, List·Memᴰ·head as here, List·Memᴰ·tail as later}
+use Prim.Native.Nat.{ℕ, zero, suc, _+_, _≤_, _<_}
 use native.Mathlib.Decide.{decLt}
 use native.Mathlib.Omega.{arith}
 use lib.ListN.{length, getD}
-use Rattle.lanes.specs.Operations.{Operation, operate}
+use Rattle.lanes.specs.Operations.{Operation}
+use Rattle.words.proofs.Laws.{and-both}
 use Rattle.reorder.specs.Result.{Result, done, refused, andThen, mapResult}
 use Rattle.reorder.specs.Plan.{Plan}
 use Rattle.reorder.specs.Footprint.{Footprint, footprintIn}
-use Rattle.codec.specs.Forms.{mmxFile, integerFile, Form}
-use Rattle.codec.specs.Opcodes.{operationAt}
-use Rattle.codec.specs.Table.{formOf, opcodeTable}
-use Rattle.codec.proofs.Entries.{form-is}
-use Rattle.codec.specs.declared.Operand.{Operand}
+use Rattle.codec.specs.Forms.{File, mmxFile, integerFile, Slot, reg, rm, rm/mem, Form}
+use Rattle.codec.specs.Opcodes.{formAt, operationAt}
 use Rattle.codec.specs.declared.Instruction.{Instruction}
 use Rattle.codec.specs.declared.Kind.{Kind}
-use Rattle.codec.specs.declared.Kind.the-variants.{Ordinary, Emms}
+use Rattle.codec.proofs.Bytes.{form-passes}
 use Rattle.manual.specs.Refusals.{outsideMemory}
 use Rattle.manual.specs.State.{State}
-use Rattle.manual.specs.Places.{Place, mmx, integer, look}
-use Rattle.manual.specs.Addresses.{address}
-use Rattle.manual.specs.Locations.{Location, mmxRegister, integerRegister, memory, rmOf, bytesFrom, fits, placesOf}
-use Rattle.manual.specs.Effects.{addressRegistersOf, unlessMarked, planOn, via, footprintOf}
-use Rattle.manual.specs.Instructions.{effectBy, effectOf, footprint}
+use Rattle.manual.specs.Places.{Place, integer, look}
+use Rattle.manual.specs.Addresses.{address, addressOf}
+use Rattle.manual.specs.Locations.{rmOf, registerIn, locate, bytesFrom, fits, placesOf}
+use Rattle.manual.specs.Effects.{placesOfAll, addressRegistersOf, unlessMarked, planOn, via, footprintOf}
+use Rattle.manual.specs.Instructions.{sources, targets, effectBy, effectOf, footprint}
 use Rattle.manual.proofs.Marking.{by-marks}
-use Rattle.manual.proofs.Direct.{both, move, bare, one}
-use Rattle.machine.proofs.Numbering.{TwoOperands, is-storeD, is-loadD, is-storeQ, is-usualD, is-loadQ, is-usual, two-operands}
-use Rattle.machine.specs.Prints.{bytesOf}
+use Rattle.machine.specs.Prints.{byteNumber, bytesOf}
+use Rattle.machine.proofs.Locating.{by-place}
 
 -- the numbers of the list are those from its first one on, as many as there are
 abbrev pub Range : List ℕ → Type 0
@@ -68,19 +65,64 @@ bytes-via : (ks : List ℕ) (ps : List Place) → bytesOf (map integer ks ++ ps)
 bytes-via [] ps = refl
 bytes-via (k ∷ ks) ps = bytes-via ks ps
 
--- the places of one operand
-abbrev Ranged : Result (List Place) → Type 0
-Ranged (done ps) = Range (bytesOf ps)
-Ranged (refused n) = Unit {0}
+nothing-after : (ps qs : List Place) → bytesOf qs ≡ [] → bytesOf (ps ++ qs) ≡ bytesOf ps
+nothing-after [] qs e = e
+nothing-after (p ∷ ps) qs e = ap (λ (l : List ℕ). byteNumber p ++ l) (nothing-after ps qs e)
 
-ranged-test : (t : Bool) (size a : ℕ) → Ranged (cond t (done (bytesFrom a size)) (refused outsideMemory))
-ranged-test true size a = range-bytes size a
-ranged-test false size a = tt
+-- what is said of the bytes, where there are places
+abbrev Each : (List ℕ → Type 0) → Result (List Place) → Type 0
+Each Q (done ps) = Q (bytesOf ps)
+Each Q (refused n) = Unit {0}
 
-ranged-places : (s : State) (x : Location) → Ranged (placesOf s x)
-ranged-places s (mmxRegister k) = no-bytes
-ranged-places s (integerRegister k) = no-bytes
-ranged-places s (memory a size) = ranged-test (fits (length (s .memory)) size (address (s .integers) a)) size (address (s .integers) a)
+-- operands of which at most one may be in memory, or none
+abbrev atMost : Bool → List Slot → Bool
+atMost one [] = true
+atMost one (reg file ∷ xs) = atMost one xs
+atMost one (rm file ∷ xs) = atMost one xs
+atMost one (rm/mem file size ∷ xs) = one && atMost false xs
+
+-- and so their bytes
+abbrev AtMost : Bool → List ℕ → Type 0
+AtMost true bs = Range bs
+AtMost false bs = bs ≡ []
+
+module _ (s : State) (i : Instruction) where
+  abbrev places : List Slot → Result (List Place)
+  places xs = placesOfAll s (map (locate i) xs)
+
+  -- before other places
+  abbrev before : Result (List Place) → Result (List Place) → Result (List Place)
+  before o rest = andThen o (λ ps. mapResult (λ qs. ps ++ qs) rest)
+
+  register-before : (Q : List ℕ → Type 0) (file : File) (k : ℕ) (rest : Result (List Place)) → Each Q rest → Each Q (before (placesOf s (registerIn file k)) rest)
+  register-before Q mmxFile k (done qs) h = h
+  register-before Q mmxFile k (refused n) h = tt
+  register-before Q integerFile k (done qs) h = h
+  register-before Q integerFile k (refused n) h = tt
+
+  bytes-before : (t : Bool) (size a : ℕ) (rest : Result (List Place)) → Each (AtMost false) rest
+      → Each Range (before (cond t (done (bytesFrom a size)) (refused outsideMemory)) rest)
+  bytes-before true size a (done qs) h = subst Range (sym (nothing-after (bytesFrom a size) qs h)) (range-bytes size a)
+  bytes-before true size a (refused n) h = tt
+  bytes-before false size a rest h = tt
+
+  none-is-range : (o : Result (List Place)) → Each (AtMost false) o → Each Range o
+  none-is-range (done ps) e = subst Range (sym e) no-bytes
+  none-is-range (refused n) e = tt
+
+  at-most : (one : Bool) (xs : List Slot) → atMost one xs ≡ true → Each (AtMost one) (places xs)
+  at-most true [] e = no-bytes
+  at-most false [] e = refl
+  at-most one (reg file ∷ xs) e = register-before (AtMost one) file (i .operand .reg) (places xs) (at-most one xs e)
+  at-most one (rm file ∷ xs) e = register-before (AtMost one) file (i .operand .rm) (places xs) (at-most one xs e)
+  at-most false (rm/mem file size ∷ xs) e = absurd (false≢true e)
+  at-most true (rm/mem file size ∷ xs) e =
+      let none = at-most false xs e in
+      let rest = none-is-range (places xs) none in
+      let a = address (s .integers) (addressOf (i .operand)) in
+      by-place (λ f x. Each Range (before (placesOf s x) (places xs))) file size (i .operand)
+      (register-before Range mmxFile (i .operand .rm) (places xs) rest) (register-before Range integerFile (i .operand .rm) (places xs) rest)
+      (λ f. bytes-before (fits (length (s .memory)) size a) size a (places xs) none)
 
 -- a footprint whose reads and writes are each one range of bytes
 pub record OneRange (f : Footprint Place Kind) : Type 0 where
@@ -91,74 +133,28 @@ abbrev pub RangedPrint : Result (Footprint Place Kind) → Type 0
 RangedPrint (done f) = OneRange f
 RangedPrint (refused n) = Unit {0}
 
-module _ (s : State) where
-  -- of a plan, with these address registers
-  abbrev ofPlan : List Place → Result (Plan Place Kind) → Result (Footprint Place Kind)
-  ofPlan vs planned = footprintIn look vs s planned
+-- a form of which at most one operand that is read, and one that is written, may be in memory
+abbrev oneEach : Form → Bool
+oneEach form = atMost true (sources (form .operands)) && atMost true (targets (form .operands))
 
-  unmarked : (vs : List Place) (o : Result (Plan Place Kind)) → RangedPrint (ofPlan vs o) → RangedPrint (ofPlan vs (unlessMarked (s .marks) o))
-  unmarked vs o h = by-marks (λ a b. RangedPrint (ofPlan vs a)) (λ n. tt) (s .marks) o o h
+module _ (s : State) (i : Instruction) where
+  unmarked : (vs : List Place) (o : Result (Plan Place Kind)) → RangedPrint (footprintIn look vs s o)
+      → RangedPrint (footprintIn look vs s (unlessMarked (s .marks) o))
+  unmarked vs o h = by-marks (λ a b. RangedPrint (footprintIn look vs s a)) (λ n. tt) (s .marks) o o h
 
-  nothing-after : (ps : List Place) → Range (bytesOf ps) → Range (bytesOf (ps ++ []))
-  nothing-after ps h = subst (λ (l : List Place). Range (bytesOf l)) (sym (append-nil ps)) h
+  ranged-form : (form : Form) (o : Operation) → oneEach form ≡ true → RangedPrint (footprintOf (effectBy form o i) s)
+  ranged-form form o e =
+      let (a, b) = and-both (atMost true (sources (form .operands))) _ e in
+      unmarked (via (effectBy form o i)) _
+      (by (places s i (sources (form .operands))) (places s i (targets (form .operands))) (at-most s i true (sources (form .operands)) a) (at-most s i true (targets (form .operands)) b))
+    where
+      by : (o′ p : Result (List Place)) → Each Range o′ → Each Range p
+          → RangedPrint (footprintIn look (via (effectBy form o i)) s (andThen o′ (λ source. mapResult (planOn (effectBy form o i) source) p)))
+      by (done ps) (done qs) h g =
+          record { reads = subst Range (sym (bytes-via (addressRegistersOf (effectBy form o i)) ps)) h; writes = g }
+      by (done ps) (refused n) h g = tt
+      by (refused n) p h g = tt
 
-  moved : (f : ℕ → ℕ) (d x : Location) (ps qs : Result (List Place)) → Ranged ps → Ranged qs
-      → RangedPrint (ofPlan (via (move f d x)) (andThen (one ps) (λ source. mapResult (planOn (move f d x) source) (one qs))))
-  moved f d x (done ps) (done qs) hp hq =
-      record { reads = subst Range (sym (bytes-via (addressRegistersOf (move f d x)) (ps ++ []))) (nothing-after ps hp); writes = nothing-after qs hq }
-  moved f d x (done ps) (refused n) hp hq = tt
-  moved f d x (refused n) qs hp hq = tt
-
-  ranged-move : (f : ℕ → ℕ) (d x : Location) → RangedPrint (footprintOf (move f d x) s)
-  ranged-move f d x =
-      unmarked (via (move f d x)) _
-      (moved f d x (placesOf s x) (placesOf s d) (ranged-places s x) (ranged-places s d))
-
-  joined : (f : ℕ → ℕ → ℕ) (k : ℕ) (x : Location) (ps : Result (List Place)) → Ranged ps
-      → RangedPrint (ofPlan (via (both f (mmxRegister k) x))
-      (andThen (mapResult (λ qs. mmx k ∷ qs) (one ps)) (λ source. done (planOn (both f (mmxRegister k) x) source (mmx k ∷ [])))))
-  joined f k x (done ps) hp =
-      record { reads = subst Range (sym (bytes-via (addressRegistersOf (both f (mmxRegister k) x)) (mmx k ∷ (ps ++ [])))) (nothing-after ps hp); writes = no-bytes }
-  joined f k x (refused n) hp = tt
-
-  ranged-both : (f : ℕ → ℕ → ℕ) (k : ℕ) (x : Location) → RangedPrint (footprintOf (both f (mmxRegister k) x) s)
-  ranged-both f k x =
-      unmarked (via (both f (mmxRegister k) x)) _
-      (joined f k x (placesOf s x) (ranged-places s x))
-
-  ranged-bare : (kind : Kind) → RangedPrint (footprintOf (bare kind) s)
-  ranged-bare kind =
-      unmarked [] _ (record { reads = no-bytes; writes = no-bytes })
-
-  -- each form, by its number
-  module _ (o : Operation) (i : Instruction) where
-    abbrev w : Operand
-    w = i .operand
-
-    abbrev Of : Form → Type 0
-    Of form = RangedPrint (footprintOf (effectBy form o i) s)
-
-    -- what a move leaves of a number
-    abbrev copied : ℕ → ℕ
-    copied v = operate o v v
-
-    ranged-two : (n : ℕ) → TwoOperands n → Of (formOf n)
-    ranged-two n (is-storeD e f) = subst Of (sym f) (ranged-move (λ v. copied v % 2 ^ 32) (rmOf integerFile 4 w) (mmxRegister (w .reg)))
-    ranged-two n (is-loadD e f) = subst Of (sym f) (ranged-move copied (mmxRegister (w .reg)) (rmOf integerFile 4 w))
-    ranged-two n (is-storeQ e f) = subst Of (sym f) (ranged-move copied (rmOf mmxFile 8 w) (mmxRegister (w .reg)))
-    ranged-two n (is-usualD e f) = subst Of (sym f) (ranged-both (operate o) (w .reg) (rmOf mmxFile 4 w))
-    ranged-two n (is-loadQ e f) = subst Of (sym f) (ranged-move copied (mmxRegister (w .reg)) (rmOf mmxFile 8 w))
-    ranged-two n (is-usual g f) = subst Of (sym f) (ranged-both (operate o) (w .reg) (rmOf mmxFile 8 w))
-
-    ranged-form : (n : ℕ) → Of (formOf n)
-    ranged-form zero = ranged-bare Ordinary
-    ranged-form (suc zero) = ranged-bare Emms
-    ranged-form (suc (suc zero)) = ranged-move (λ v. operate o v (i .immediate)) (mmxRegister (w .rm)) (mmxRegister (w .rm))
-    ranged-form (suc (suc (suc zero))) = ranged-move (λ v. operate o v (i .immediate)) (mmxRegister (w .rm)) (mmxRegister (w .rm))
-    ranged-form (suc (suc (suc (suc n)))) = ranged-two (suc (suc (suc (suc n)))) (two-operands (suc (suc (suc (suc n)))) (omega arith))
-
-  pub ranged : (i : Instruction) → RangedPrint (footprint i s)
-  unfolding footprint effectOf
-  ranged i =
-      subst (Of (operationAt (i .second) (i .operand .reg)) i) (form-is (i .second))
-      (ranged-form (operationAt (i .second) (i .operand .reg)) i (getD opcodeTable (i .second) 0 / 2 ^ 24))
+pub ranged : (s : State) (i : Instruction) → RangedPrint (footprint i s)
+unfolding footprint effectOf
+ranged s i = ranged-form s i (formAt (i .second)) (operationAt (i .second) (i .operand .reg)) (form-passes oneEach refl refl (i .second))

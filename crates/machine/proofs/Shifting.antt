@@ -4,7 +4,7 @@ use Prim.Native.Nat.{ℕ, _/_, _%_, _^_}
 use borrow.Author.Needs.{needs}
 use borrow.Author.Tests.{eq-eqb, ne-eqb}
 use Rattle.lanes.specs.Operations.{operationOf, KEEP}
-use Rattle.codec.specs.Table.{shiftIn}
+use Rattle.codec.specs.inner.Entries.{shiftIn}
 
 module _ (number digit : ℕ) where
   pub shift-right : digit ≡ 2 → operationOf (number / 2 ^ 16 % 256) ≡ shiftIn number digit

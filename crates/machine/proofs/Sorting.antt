@@ -1,94 +1,129 @@
--- The work that the code makes of an instruction does what its effect does: one rule for each form and each place of its operand.
+-- The work that the code makes of an instruction does what its effect does: one rule for each shape of a form, whatever operand r/m names.
 use mathlib.Core.Path.{_≡_, refl, sym, ap, subst, _∙_}
 use mathlib.Core.Bool.{Bool, true, false, not}
 use mathlib.Core.List.{List}
-use Prim.Native.Nat.{ℕ, _+_, _/_, _%_, _^_, _≤_, _<_}
+use Prim.Native.Nat.{ℕ, _/_, _%_, _^_, _≤_, _<_}
 use native.Mathlib.Omega.{arith}
 use borrow.Author.Needs.{needs}
-use borrow.Author.Tests.{eq-eqb, ne-eqb, eqb-true, eqb-false, le-leb, lt-ltb, le-ltb, not-true, not-false}
-use lib.Dec.{eqb, leb}
+use borrow.Author.Tests.{le-leb, not-true}
 use lib.ListN.{length, getD}
 use Rattle.lanes.specs.Operations.{Operation, operationOf, operate, MOVE}
-use Rattle.words.specs.Buffer.{loaded, stored}
+use Rattle.words.specs.Number.{bytes}
 use Rattle.words.proofs.Laws.{loaded-bytewise, stored-bytewise}
-use Rattle.reorder.specs.Result.{Result, done, refused, andThen}
-use Rattle.codec.specs.Forms.{File, mmxFile, integerFile, Form, reg32/mem32←mmreg1, mmreg1←reg32/mem32, mmreg2/mem64←mmreg1, mmreg1·mmreg2/mem32, mmreg1·mmreg2/mem64, mmreg1←mmreg2/mem64, memorySize}
-use Rattle.codec.specs.Operands.{Registers}
-use Rattle.codec.specs.Table.{formOf, shiftIn, operationIn}
+use Rattle.reorder.specs.Result.{Result, done, andThen}
+use Rattle.codec.specs.Forms.{File, rm/mem, Form, hasDigits, memorySize}
+use Rattle.codec.specs.inner.Fields.{Registers}
+use Rattle.codec.specs.Table.{formOf}
+use Rattle.codec.specs.inner.Entries.{shiftIn, operationIn}
 use Rattle.codec.specs.declared.Operand.{Operand}
 use Rattle.codec.specs.declared.Instruction.{Instruction}
-use Rattle.codec.specs.declared.Kind.the-variants.{Ordinary, Emms}
+use Rattle.codec.specs.declared.Kind.the-variants.{Emms}
+use Rattle.codec.proofs.Bytes.{number-passes}
 use Rattle.manual.specs.declared.Marks.{Marks}
-use Rattle.manual.specs.Refusals.{outsideMemory}
-use Rattle.manual.specs.State.{State, withMemory}
+use Rattle.manual.specs.State.{State}
 use Rattle.manual.specs.Kinds.{marked}
 use Rattle.manual.specs.Addresses.{address, addressOf}
-use Rattle.manual.specs.Locations.{Location, mmxRegister, integerRegister, memory, registerIn, rmOf}
+use Rattle.manual.specs.Locations.{Location, mmxRegister, memory, rmOf, fits}
 use Rattle.manual.specs.Effects.{directly}
-use Rattle.manual.specs.Instructions.{effectBy}
+use Rattle.manual.specs.Instructions.{heldBy, effectBy}
 use Rattle.manual.specs.Steps.{concluded}
 use Rattle.manual.proofs.Direct.{valueAt, putAt, move-direct, both-direct}
 use Rattle.machine.specs.declared.gathering.Work.{Work}
+use Rattle.machine.specs.declared.operands.Spot.{Spot}
 use Rattle.machine.specs.State.{stateOf}
-use Rattle.machine.specs.Works.{machineOf, effectIn, fileIn, otherOf, isMove, Listed, performed, Sound, Does, refusedWork}
-use Rattle.machine.proofs.Soundness.{operation, store, integerMove, empties, sound-operation, sound-store, sound-integer, sound-empties, sound-refusal}
-use Rattle.machine.proofs.Numbering.{Computing, computes-loadD, computes-loadQ, computes-usualD, computes-usual, computing, small, integer-form, mmx-form, Shifting, shifts-WD, shifts-Q, shifting-form, shift-past}
+use Rattle.machine.specs.Spots.{fileIn, otherOf, spotOf, Named}
+use Rattle.machine.specs.PrintShapes.{Way, storing, wayOf}
+use Rattle.machine.specs.Works.{machineOf, effectIn, isMove, Listed, toOperate, toEmpty, workOf, putWork, takeWork, performed, Sound, Does}
+use Rattle.machine.proofs.Soundness.{sound-operation, sound-empties, sound-put, sound-take}
+use Rattle.machine.proofs.Locating.{by-place, spot-named, register-mmx, register-integer}
+use Rattle.machine.proofs.Numbering.{Shape, stores, loads, computes, Stores, way-storing, way-taking, shape, other, Shifting, shifts-WD, shifts-Q, shifting}
 
+-- what a form's effect leaves, by its shape
 module _ (s : State) (o : Operation) (i : Instruction) where
   abbrev own : Operand
   own = i .operand
 
-  -- what a form's effect leaves, and the operand that r/m names
   abbrev leftBy : Form → Result State
   leftBy form = directly (effectBy form o i) s
 
-  abbrev other : Form → Location
-  other form = rmOf (fileIn (form .operands)) (memorySize form) own
+  abbrev there : Form → Location
+  there form = rmOf (fileIn (form .operands)) (memorySize form) own
 
   -- a shift by an immediate gives its register's number, shifted
   shifts : (form : Form) → Shifting form → leftBy form ≡ putAt s (mmxRegister (own .rm)) (operate o (getD (s .mmx) (own .rm) 0) (i .immediate))
-  shifts form (shifts-WD e) = ap leftBy e
-  shifts form (shifts-Q e) = ap leftBy e
+  shifts form shifts-WD = refl
+  shifts form shifts-Q = refl
 
-  module _ (m : o ≡ MOVE) where
-    -- a store gives the register's number, or its low half
-    stores-D : (form : Form) → form ≡ reg32/mem32←mmreg1 → leftBy form ≡ putAt s (other form) (getD (s .mmx) (own .reg) 0 % 2 ^ 32)
+  module _ (n : ℕ) where
+    -- a store, which moves, gives what the operand takes of the register's number
+    stored-by : (form : Form) → Shape n storing form → (isMove form ≡ true → o ≡ MOVE)
+        → leftBy form ≡ putAt s (there form) (heldBy (rm/mem (fileIn (form .operands)) (memorySize form)) (getD (s .mmx) (own .reg) 0))
     unfolding operate
-    stores-D form e =
-        ap (λ (f : Form). directly (effectBy f o i) s) e
-        ∙ ap (λ (p : Operation). directly (effectBy reg32/mem32←mmreg1 p i) s) m
-        ∙ move-direct s (λ x. x % 2 ^ 32) (other reg32/mem32←mmreg1) (mmxRegister (own .reg))
-        ∙ ap (λ (f : Form). putAt s (other f) (getD (s .mmx) (own .reg) 0 % 2 ^ 32)) (sym e)
+    stored-by form (stores file size x) m =
+        ap (λ (q : Operation). directly (effectBy form q i) s) (m refl) ∙ move-direct s (heldBy (rm/mem file size)) (rmOf file size own) (mmxRegister (own .reg))
 
-    stores-Q : (form : Form) → form ≡ mmreg2/mem64←mmreg1 → leftBy form ≡ putAt s (other form) (getD (s .mmx) (own .reg) 0)
+    -- the others give the operation's, as a load moves
+    abbrev computedAs : Operation → Form → Result State
+    computedAs p form = andThen (valueAt s (there form)) (λ v. putAt s (mmxRegister (own .reg)) (operate p (getD (s .mmx) (own .reg) 0) v))
+
+    computed-by : (y : Way) (form : Form) → Shape n y form → (y ≡ storing → ⊥) → (isMove form ≡ true → o ≡ MOVE) → leftBy form ≡ computedAs o form
     unfolding operate
-    stores-Q form e =
-        ap (λ (f : Form). directly (effectBy f o i) s) e
-        ∙ ap (λ (p : Operation). directly (effectBy mmreg2/mem64←mmreg1 p i) s) m
-        ∙ move-direct s (λ x. x) (other mmreg2/mem64←mmreg1) (mmxRegister (own .reg))
-        ∙ ap (λ (f : Form). putAt s (other f) (getD (s .mmx) (own .reg) 0)) (sym e)
+    computed-by y form (stores file size x) g m = absurd (g refl)
+    computed-by y form (loads file size x) g m =
+        ap (λ (q : Operation). directly (effectBy form q i) s) (m refl)
+        ∙ move-direct s (λ v. v) (mmxRegister (own .reg)) (rmOf file size own)
+        ∙ ap (λ (q : Operation). computedAs q form) (sym (m refl))
+    computed-by y form (computes file size x) g m = both-direct s (operate o) (own .reg) (rmOf file size own)
 
-  -- the other forms give the operation's, as a load moves
-  abbrev computedAs : Operation → Form → Result State
-  computedAs p form = andThen (valueAt s (other form)) (λ v. putAt s (mmxRegister (own .reg)) (operate p (getD (s .mmx) (own .reg) 0) v))
+shift-digits : (form : Form) → Shifting form → hasDigits form ≡ true
+shift-digits form shifts-WD = refl
+shift-digits form shifts-Q = refl
 
-  loads : (form : Form) → o ≡ MOVE → directly (effectBy form MOVE i) s ≡ computedAs MOVE form → leftBy form ≡ computedAs o form
-  loads form m h = ap (λ (p : Operation). directly (effectBy form p i) s) m ∙ h ∙ ap (λ (p : Operation). computedAs p form) (sym m)
-
-  computes : (form : Form) → Computing form → (isMove form ≡ true → o ≡ MOVE) → leftBy form ≡ computedAs o form
-  unfolding operate
-  computes form (computes-loadD e) m =
-      loads form (m (ap isMove e)) (ap (λ (f : Form). directly (effectBy f MOVE i) s) e ∙ move-direct s (λ x. x) (mmxRegister (own .reg)) (other mmreg1←reg32/mem32) ∙ ap (computedAs MOVE) (sym e))
-  computes form (computes-loadQ e) m =
-      loads form (m (ap isMove e)) (ap (λ (f : Form). directly (effectBy f MOVE i) s) e ∙ move-direct s (λ x. x) (mmxRegister (own .reg)) (other mmreg1←mmreg2/mem64) ∙ ap (computedAs MOVE) (sym e))
-  computes form (computes-usualD e) m = ap leftBy e ∙ both-direct s (operate o) (own .reg) (other mmreg1·mmreg2/mem32) ∙ ap (computedAs o) (sym e)
-  computes form (computes-usual e) m = ap leftBy e ∙ both-direct s (operate o) (own .reg) (other mmreg1·mmreg2/mem64) ∙ ap (computedAs o) (sym e)
-
--- an instruction by the table's number for it, over lent registers and memory
-module _ (registers integers m : List ℕ) (entry : ℕ) (i : Instruction) (next : ℕ) where
+-- works over lent registers and memory
+module _ (registers integers m : List ℕ) (next : ℕ) where
   abbrev state : Marks → State
   state marks = stateOf (machineOf registers integers marks) m
 
+  -- a work leaves what a result says
+  abbrev Leaves : Work → (State → Result State) → Type 0
+  Leaves work left = (marks : Marks) (at : ℕ) → performed work at (state marks) ≡ concluded at next (state marks) (left (state marks))
+
+  -- for the operand of r/m, whatever it is
+  module _ (size : ℕ) (w : Operand) (few : size ≤ 8) where
+    abbrev spot : Location → Spot
+    spot x = spotOf integers (length m) x
+
+    abbrev room : Bool
+    room = fits (length m) size (address integers (addressOf w))
+
+    -- a value that is put there
+    abbrev Puts : ℕ → File → Location → Type 0
+    Puts v f x = bytes size (heldBy (rm/mem f size) v) ≡ bytes size v → Leaves (putWork (spot x) size v next) (λ s. putAt s x (heldBy (rm/mem f size) v))
+
+    puts : (file : File) (v : ℕ) → Puts v file (rmOf file size w)
+    unfolding performed operate
+    puts file v = by-place (Puts v) file size w (λ e marks at. refl) (λ e marks at. refl) (λ f. inside f room refl)
+      where
+        inside : (f : File) (u : Bool) → room ≡ u → Puts v f (memory (addressOf w) size)
+        inside f true h e marks at = simp (h, stored-bytewise, le-leb size 8 few, e)
+        inside f false h e marks at = simp h
+
+    -- an operation with the number that is there
+    abbrev Takes : ℕ → ℕ → Location → Type 0
+    Takes number place x =
+        Leaves (takeWork registers integers m number place size (spot x) next)
+        (λ s. andThen (valueAt s x) (λ v. putAt s (mmxRegister place) (operate (operationOf number) (getD registers place 0) v)))
+
+    takes : (file : File) (number place : ℕ) → Takes number place (rmOf file size w)
+    unfolding performed
+    takes file number place = by-place (λ f x. Takes number place x) file size w (λ marks at. refl) (λ marks at. refl) (λ f. inside room refl)
+      where
+        inside : (u : Bool) → room ≡ u → Takes number place (memory (addressOf w) size)
+        inside true h marks at = simp (h, loaded-bytewise, le-leb size 8 few)
+        inside false h marks at = simp h
+
+-- an instruction by the table's number for it
+module _ (registers integers m : List ℕ) (entry : ℕ) (i : Instruction) (next : ℕ) where
   abbrev formIn : ℕ
   formIn = entry / 2 ^ 24
 
@@ -102,183 +137,88 @@ module _ (registers integers m : List ℕ) (entry : ℕ) (i : Instruction) (next
   named = operationIn entry (w .reg)
 
   -- what the effect leaves, and what the work leaves
-  of-work : (work : Work) (left : Marks → Result State) → Sound work
-      → ((marks : Marks) → directly (effectIn entry i) (state marks) ≡ left marks)
-      → ((marks : Marks) (at : ℕ) → performed work at (state marks) ≡ concluded at next (state marks) (left marks))
-      → Does work registers integers m (effectIn entry i) next
+  of-work : (work : Work) (left : State → Result State) → Sound work → ((s : State) → directly (effectIn entry i) s ≡ left s)
+      → Leaves registers integers m next work left → Does work registers integers m (effectIn entry i) next
   of-work work left sound leaves performs =
-      record { sound = sound; does = λ marks at. performs marks at ∙ sym (ap (concluded at next (state marks)) (leaves marks)) }
+      record { sound = sound; does = λ marks at. let s = state registers integers m next marks in performs marks at ∙ sym (ap (concluded at next s) (leaves s)) }
 
-  pub does-emms : formIn ≡ 1 → Does (empties next) registers integers m (effectIn entry i) next
+  pub does-emms : (work : Work) → formIn ≡ 1 → work ≡ workOf toEmpty 0 0 0 next → Does work registers integers m (effectIn entry i) next
   unfolding performed
-  does-emms e =
-      of-work (empties next) (λ marks. done (marked Emms (state marks))) (sound-empties next)
-      (λ marks. ap (λ (n : ℕ). directly (effectBy (formOf n) named i) (state marks)) e) (λ marks at. refl)
+  does-emms work e made =
+      rw made
+      (of-work (workOf toEmpty 0 0 0 next) (λ s. done (marked Emms s)) (sound-empties next)
+      (λ s. ap (λ (n : ℕ). directly (effectBy (formOf n) named i) s) e) (λ marks at. refl))
 
-  -- the shifts by an immediate
-  pub does-shift : (number′ : ℕ) → formIn < 4 → (formIn ≡ 1 → ⊥) → operationOf number′ ≡ shiftIn entry (w .reg) → Registers w → Listed entry
-      → Does (operation number′ (w .rm) (i .immediate) next) registers integers m (effectIn entry i) next
-  unfolding performed operationIn
-  does-shift number′ h other e r l =
-      let some : 1 < formIn = shift-past formIn other (l .present) in
-      let same : named ≡ operationOf number′ = simp (lt-ltb formIn 4 h, lt-ltb 1 formIn some) (sym e) in
-      of-work (operation number′ (w .rm) (i .immediate) next)
-      (λ marks. putAt (state marks) (mmxRegister (w .rm)) (operate (operationOf number′) (getD registers (w .rm) 0) (i .immediate)))
-      (sound-operation number′ (w .rm) (i .immediate) next (r .rm))
-      (λ marks.
-      shifts (state marks) named i form (shifting-form formIn h other (l .present))
-      ∙ ap (λ (o : Operation). putAt (state marks) (mmxRegister (w .rm)) (operate o (getD registers (w .rm) 0) (i .immediate))) same)
-      (λ marks at. refl)
+  module _ (r : Registers w) (l : Listed entry) where
+    -- the shifts by an immediate
+    pub does-shift : (number : ℕ) (work : Work) → formIn < 16 → (formIn ≡ 1 → ⊥) → operationOf number ≡ shiftIn entry (w .reg)
+        → work ≡ workOf toOperate number (w .rm) (i .immediate) next → Does work registers integers m (effectIn entry i) next
+    unfolding performed operationIn
+    does-shift number work h other e made =
+        let is : Shifting form = shifting formIn (l .listed) h other (l .present) in
+        let same : named ≡ operationOf number = simp (shift-digits form is) (sym e) in
+        rw made
+        (of-work (workOf toOperate number (w .rm) (i .immediate) next)
+        (λ s. putAt s (mmxRegister (w .rm)) (operate (operationOf number) (getD (s .mmx) (w .rm) 0) (i .immediate)))
+        (sound-operation number (w .rm) (i .immediate) next (r .rm))
+        (λ s.
+        shifts s named i form is
+        ∙ ap (λ (o : Operation). putAt s (mmxRegister (w .rm)) (operate o (getD (s .mmx) (w .rm) 0) (i .immediate))) same)
+        (λ marks at. refl))
 
-  -- the forms with two operands
-  module _ (two : 4 ≤ formIn) (r : Registers w) (l : Listed entry) where
-    plain : named ≡ operationOf (entry % 256)
-    unfolding operationIn
-    plain = simp (le-ltb formIn 4 two)
+    -- the forms of a destination and a source
+    module _ (two : 16 ≤ formIn) (x : Spot) (found : x ≡ spotOf integers (length m) (otherOf formIn w)) (work : Work) where
+      plain : named ≡ operationOf (entry % 256)
+      unfolding operationIn
+      plain = simp (not-true (hasDigits form) (number-passes (λ f. not (hasDigits f)) 16 formIn two refl refl))
 
-    moves : isMove form ≡ true → named ≡ MOVE
-    moves e = plain ∙ l .moves e
+      moves : isMove form ≡ true → named ≡ MOVE
+      moves e = plain ∙ l .moves e
 
-    -- a computation with what its source comes to
-    abbrev computedBy : Marks → Result ℕ → Result State
-    computedBy marks source =
-        andThen source (λ v. putAt (state marks) (mmxRegister (w .reg)) (operate (operationOf (entry % 256)) (getD registers (w .reg) 0) v))
+      abbrev file : File
+      file = fileIn (form .operands)
 
-    of-source : (work : Work) (source : Result ℕ) → Computing form → Sound work
-        → ((marks : Marks) → valueAt (state marks) (otherOf formIn w) ≡ source)
-        → ((marks : Marks) (at : ℕ) → performed work at (state marks) ≡ concluded at next (state marks) (computedBy marks source))
-        → Does work registers integers m (effectIn entry i) next
-    of-source work source c sound h performs =
-        of-work work (λ marks. computedBy marks source) sound
-        (λ marks.
-        computes (state marks) named i form c moves
-        ∙ ap (λ (o : Operation). computedAs (state marks) named i o form) plain
-        ∙ ap (computedBy marks) (h marks))
-        performs
-
-    computed : (v : ℕ) → Computing form → ((marks : Marks) → valueAt (state marks) (otherOf formIn w) ≡ done v)
-        → Does (operation (entry % 256) (w .reg) v next) registers integers m (effectIn entry i) next
-    unfolding performed
-    computed v c h =
-        of-source (operation (entry % 256) (w .reg) v next) (done v) c (sound-operation (entry % 256) (w .reg) v next (r .reg)) h (λ marks at. refl)
-
-    stores-D-here : formIn ≡ 4 → (marks : Marks) → directly (effectIn entry i) (state marks) ≡ putAt (state marks) (otherOf formIn w) (getD registers (w .reg) 0 % 2 ^ 32)
-    stores-D-here f marks = stores-D (state marks) named i (moves (ap (λ (n : ℕ). isMove (formOf n)) f)) form (ap formOf f)
-
-    stores-Q-here : formIn ≡ 6 → (marks : Marks) → directly (effectIn entry i) (state marks) ≡ putAt (state marks) (otherOf formIn w) (getD registers (w .reg) 0)
-    stores-Q-here f marks = stores-Q (state marks) named i (moves (ap (λ (n : ℕ). isMove (formOf n)) f)) form (ap formOf f)
-
-    -- at mod 11
-    module _ (register : w .mode ≡ 3) where
-      other-register : (file : File) → fileIn (form .operands) ≡ file → otherOf formIn w ≡ registerIn file (w .rm)
-      unfolding rmOf
-      other-register file e = simp (eq-eqb (w .mode) 3 register) (ap (λ (f : File). registerIn f (w .rm)) e)
-
-      pub does-registers : 6 < formIn → Does (operation (entry % 256) (w .reg) (getD registers (w .rm) 0) next) registers integers m (effectIn entry i) next
-      does-registers h =
-          computed (getD registers (w .rm) 0) (computing formIn two (λ e. omega arith) (λ e. omega arith))
-          (λ marks. ap (valueAt (state marks)) (other-register mmxFile (mmx-form formIn (omega arith))))
-
-      pub does-from-integer : (v : ℕ) → formIn ≤ 6 → (formIn ≡ 4 → ⊥) → (formIn ≡ 6 → ⊥) → v ≡ getD integers (w .rm) 0
-          → Does (operation (entry % 256) (w .reg) v next) registers integers m (effectIn entry i) next
-      does-from-integer v g p q e =
-          computed v (computing formIn two p q)
-          (λ marks. ap (valueAt (state marks)) (other-register integerFile (integer-form formIn two (omega arith))) ∙ ap done (sym e))
-
-      pub does-to-integer : formIn ≡ 4 → Does (integerMove (w .rm) (getD registers (w .reg) 0) next) registers integers m (effectIn entry i) next
-      unfolding performed
-      does-to-integer f =
-          of-work (integerMove (w .rm) (getD registers (w .reg) 0) next)
-          (λ marks. putAt (state marks) (integerRegister (w .rm)) (getD registers (w .reg) 0 % 2 ^ 32))
-          (sound-integer (w .rm) (getD registers (w .reg) 0) next (r .rm))
-          (λ marks.
-          stores-D-here f marks
-          ∙ ap (λ (x : Location). putAt (state marks) x (getD registers (w .reg) 0 % 2 ^ 32)) (other-register integerFile (integer-form formIn two (omega arith))))
-          (λ marks at. refl)
-
-      pub does-to-mmx : formIn ≡ 6 → Does (operation 12 (w .rm) (getD registers (w .reg) 0) next) registers integers m (effectIn entry i) next
-      unfolding performed operate
-      does-to-mmx f =
-          of-work (operation 12 (w .rm) (getD registers (w .reg) 0) next)
-          (λ marks. putAt (state marks) (mmxRegister (w .rm)) (getD registers (w .reg) 0))
-          (sound-operation 12 (w .rm) (getD registers (w .reg) 0) next (r .rm))
-          (λ marks.
-          stores-Q-here f marks
-          ∙ ap (λ (x : Location). putAt (state marks) x (getD registers (w .reg) 0)) (other-register mmxFile (mmx-form formIn (omega arith))))
-          (λ marks at. refl)
-
-    -- at the other values of mod: the operand is in memory, at an address that is tested
-    module _ (other : w .mode ≡ 3 → ⊥) (a : ℕ) (there : a ≡ address integers (addressOf w)) (t : Bool)
-        (tested : t ≡ leb (a + entry / 2 ^ 16 % 256) (length m)) where
       abbrev size : ℕ
-      size = entry / 2 ^ 16 % 256
+      size = memorySize form
 
-      at-most : size ≤ 8
-      at-most = omega (arith, l .sized two, small formIn two .most)
+      there-named : Named (spotOf integers (length m) (otherOf formIn w))
+      there-named = spot-named integers (length m) entry w (spotOf integers (length m) (otherOf formIn w)) refl r
 
-      other-memory : otherOf formIn w ≡ memory (addressOf w) size
-      unfolding rmOf
-      other-memory = simp (ne-eqb (w .mode) 3 other) (ap (memory (addressOf w)) (sym (l .sized two)))
+      pub does-put : Stores formIn → work ≡ putWork x (entry / 2 ^ 16 % 256) (getD registers (w .reg) 0) next → Does work registers integers m (effectIn entry i) next
+      does-put g e =
+          let v = getD registers (w .reg) 0 in
+          let y = spotOf integers (length m) (otherOf formIn w) in
+          rw (e, found, l .sized two)
+          (of-work (putWork y size v next) (λ s. putAt s (otherOf formIn w) (heldBy (rm/mem file size) (getD (s .mmx) (w .reg) 0)))
+          (sound-put y size v next there-named)
+          (λ s. stored-by s named i formIn form (subst (λ (y : Way). Shape formIn y form) (way-storing formIn g) (shape formIn (l .listed) two)) moves)
+          (puts registers integers m next size w (other formIn (l .listed) two .most) file v (other formIn (l .listed) two .kept v)))
 
-      -- an operand that is there
-      module _ (n : not t ≡ false) where
-        fits : leb (a + size) (length m) ≡ true
-        fits = sym tested ∙ not-false t n
+      pub does-take : (Stores formIn → ⊥) → work ≡ takeWork registers integers m (entry % 256) (w .reg) (entry / 2 ^ 16 % 256) x next
+          → Does work registers integers m (effectIn entry i) next
+      does-take g e =
+          let y = spotOf integers (length m) (otherOf formIn w) in
+          rw (e, found, l .sized two)
+          (of-work (takeWork registers integers m (entry % 256) (w .reg) size y next) (λ s. computedAs s named i formIn (operationOf (entry % 256)) form)
+          (sound-take registers integers m (entry % 256) (w .reg) size y next (r .reg) there-named)
+          (λ s. computed-by s named i formIn (wayOf formIn) form (shape formIn (l .listed) two) (way-taking formIn g) moves ∙ ap (λ (o : Operation). computedAs s named i formIn o form) plain)
+          (takes registers integers m next size w (other formIn (l .listed) two .most) file (entry % 256) (w .reg)))
 
-        loads-here : (marks : Marks) → valueAt (state marks) (otherOf formIn w) ≡ done (loaded m a size)
-        loads-here marks = ap (valueAt (state marks)) other-memory ∙ simp (← there, fits, loaded-bytewise, le-leb size 8 at-most)
+-- what the code makes where the operand is
+module _ (x y : Spot) (size next : ℕ) (work : Work) (e : x ≡ y) where
+  pub made-put : (value : ℕ) → work ≡ putWork y size value next → work ≡ putWork x size value next
+  made-put value h = h ∙ ap (λ (z : Spot). putWork z size value next) (sym e)
 
-        stores-here : (v : ℕ) (marks : Marks) → putAt (state marks) (otherOf formIn w) v ≡ done (marked Ordinary (withMemory (state marks) (stored m a size v)))
-        stores-here v marks =
-            ap (λ (x : Location). putAt (state marks) x v) other-memory ∙ simp (← there, fits, stored-bytewise, le-leb size 8 at-most)
+  module _ (registers integers m : List ℕ) (number place : ℕ) where
+    pub made-take : work ≡ takeWork registers integers m number place size y next → work ≡ takeWork registers integers m number place size x next
+    made-take h = h ∙ ap (λ (z : Spot). takeWork registers integers m number place size z next) (sym e)
 
-        pub does-load : (v : ℕ) → (formIn ≡ 4 → ⊥) → (formIn ≡ 6 → ⊥) → v ≡ loaded m a size
-            → Does (operation (entry % 256) (w .reg) v next) registers integers m (effectIn entry i) next
-        does-load v p q e = computed v (computing formIn two p q) (λ marks. loads-here marks ∙ ap done (sym e))
+    pub made-taken : (v u : ℕ) → work ≡ workOf toOperate number place v next → workOf toOperate number place u next ≡ takeWork registers integers m number place size y next
+        → v ≡ u → work ≡ takeWork registers integers m number place size x next
+    made-taken v u h g same = made-take (h ∙ ap (λ (z : ℕ). workOf toOperate number place z next) same ∙ g)
 
-        of-store : (v : ℕ) → ((marks : Marks) → directly (effectIn entry i) (state marks) ≡ putAt (state marks) (otherOf formIn w) v)
-            → Does (store size a v next) registers integers m (effectIn entry i) next
-        unfolding performed
-        of-store v gives =
-            of-work (store size a v next) (λ marks. done (marked Ordinary (withMemory (state marks) (stored m a size v))))
-            (sound-store size a v next) (λ marks. gives marks ∙ stores-here v marks) (λ marks at. refl)
+pub ruleset sorting = (needs, spot-named, does-emms, does-shift, does-put, does-take)
 
-        pub does-store-D : formIn ≡ 4 → Does (store size a (getD registers (w .reg) 0 % 2 ^ 32) next) registers integers m (effectIn entry i) next
-        does-store-D f = of-store (getD registers (w .reg) 0 % 2 ^ 32) (stores-D-here f)
+pub ruleset putting = (needs, made-put)
 
-        pub does-store-Q : formIn ≡ 6 → Does (store size a (getD registers (w .reg) 0) next) registers integers m (effectIn entry i) next
-        does-store-Q f = of-store (getD registers (w .reg) 0) (stores-Q-here f)
-
-      -- an operand that is outside
-      module _ (n : not t ≡ true) where
-        far : leb (a + size) (length m) ≡ false
-        far = sym tested ∙ not-true t n
-
-        unloaded : (marks : Marks) → valueAt (state marks) (otherOf formIn w) ≡ refused outsideMemory
-        unloaded marks = ap (valueAt (state marks)) other-memory ∙ simp (← there, far)
-
-        unstored : (v : ℕ) (marks : Marks) → putAt (state marks) (otherOf formIn w) v ≡ refused outsideMemory
-        unstored v marks = ap (λ (x : Location). putAt (state marks) x v) other-memory ∙ simp (← there, far)
-
-        of-refusal : (v : ℕ) → ((marks : Marks) → directly (effectIn entry i) (state marks) ≡ putAt (state marks) (otherOf formIn w) v)
-            → Does (refusedWork outsideMemory) registers integers m (effectIn entry i) next
-        unfolding performed
-        of-refusal v gives =
-            of-work (refusedWork outsideMemory) (λ marks. refused outsideMemory) (sound-refusal outsideMemory (λ e. omega arith))
-            (λ marks. gives marks ∙ unstored v marks) (λ marks at. refl)
-
-        pub does-outside : (work : Work) → work ≡ refusedWork outsideMemory → Does work registers integers m (effectIn entry i) next
-        unfolding performed
-        does-outside work e =
-            subst (λ (x : Work). Does x registers integers m (effectIn entry i) next) (sym e) (by (eqb formIn 4) (eqb formIn 6) refl refl)
-          where
-            by : (b c : Bool) → eqb formIn 4 ≡ b → eqb formIn 6 ≡ c → Does (refusedWork outsideMemory) registers integers m (effectIn entry i) next
-            by true c p q = of-refusal (getD registers (w .reg) 0 % 2 ^ 32) (stores-D-here (eqb-true formIn 4 p))
-            by false true p q = of-refusal (getD registers (w .reg) 0) (stores-Q-here (eqb-true formIn 6 q))
-            by false false p q =
-                of-source (refusedWork outsideMemory) (refused outsideMemory) (computing formIn two (eqb-false formIn 4 p) (eqb-false formIn 6 q))
-                (sound-refusal outsideMemory (λ z. omega arith)) unloaded (λ marks at. refl)
-
-pub ruleset sorting = (needs, does-emms, does-shift, does-registers, does-from-integer, does-to-integer, does-to-mmx)
-
-pub ruleset placing = (needs, does-load, does-store-D, does-store-Q, does-outside)
+pub ruleset taking = (needs, register-mmx, register-integer, made-take, made-taken)

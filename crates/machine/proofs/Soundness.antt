@@ -1,38 +1,39 @@
--- The works that the code makes are sound: each kind, by its number.
+-- The works that the code makes are sound, by what is to be done.
 use mathlib.Core.Path.{_≡_, refl}
+use mathlib.Core.List.{List}
 use Prim.Native.Nat.{ℕ, _<_}
 use native.Mathlib.Omega.{arith}
-use Rattle.machine.specs.declared.gathering.Work.{Work}
-use Rattle.machine.specs.Works.{toOperate, toStore, toInteger, toEmpty, Sound, refusedWork}
+use lib.ListN.{getD}
+use Rattle.lanes.specs.Operations.{numbered, MOVE}
+use Rattle.words.specs.Buffer.{loaded}
+use Rattle.machine.specs.declared.operands.Spot.{Spot}
+use Rattle.machine.specs.declared.operands.Spot.the-variants.{Mmx, Integer, Bytes, Refused}
+use Rattle.machine.specs.Spots.{Named}
+use Rattle.machine.specs.Works.{toOperate, toEmpty, workOf, refusedWork, putWork, takeWork, Sound}
 
-abbrev pub operation : ℕ → ℕ → ℕ → ℕ → Work
-operation number place value next = record { what = toOperate; number = number; place = place; value = value; next = next }
-
-abbrev pub store : ℕ → ℕ → ℕ → ℕ → Work
-store number place value next = record { what = toStore; number = number; place = place; value = value; next = next }
-
-abbrev pub integerMove : ℕ → ℕ → ℕ → Work
-integerMove place value next = record { what = toInteger; number = 0; place = place; value = value; next = next }
-
-abbrev pub empties : ℕ → Work
-empties next = record { what = toEmpty; number = 0; place = 0; value = 0; next = next }
-
-pub sound-operation : (number place value next : ℕ) → place < 8 → Sound (operation number place value next)
+pub sound-operation : (number place value next : ℕ) → place < 8 → Sound (workOf toOperate number place value next)
 sound-operation number place value next h =
     record { operates = λ e. h; moves = λ e. absurd (omega arith); refuses = λ a b c d. absurd (a refl) }
 
-pub sound-store : (number place value next : ℕ) → Sound (store number place value next)
-sound-store number place value next =
-    record { operates = λ e. absurd (omega arith); moves = λ e. absurd (omega arith); refuses = λ a b c d. absurd (b refl) }
-
-pub sound-integer : (place value next : ℕ) → place < 8 → Sound (integerMove place value next)
-sound-integer place value next h =
-    record { operates = λ e. absurd (omega arith); moves = λ e. h; refuses = λ a b c d. absurd (c refl) }
-
-pub sound-empties : (next : ℕ) → Sound (empties next)
+pub sound-empties : (next : ℕ) → Sound (workOf toEmpty 0 0 0 next)
 sound-empties next =
     record { operates = λ e. absurd (omega arith); moves = λ e. absurd (omega arith); refuses = λ a b c d. absurd (d refl) }
 
 pub sound-refusal : (refusal : ℕ) → (refusal ≡ 0 → ⊥) → Sound (refusedWork refusal)
 sound-refusal refusal h =
     record { operates = λ e. absurd (omega arith); moves = λ e. absurd (omega arith); refuses = λ a b c d. h }
+
+pub sound-put : (x : Spot) (size value next : ℕ) → Named x → Sound (putWork x size value next)
+sound-put (Mmx k) size value next h = sound-operation (numbered MOVE .0) k value next h
+sound-put (Integer k) size value next h =
+    record { operates = λ e. absurd (omega arith); moves = λ e. h; refuses = λ a b c d. absurd (c refl) }
+sound-put (Bytes a) size value next h =
+    record { operates = λ e. absurd (omega arith); moves = λ e. absurd (omega arith); refuses = λ a b c d. absurd (b refl) }
+sound-put (Refused n) size value next h = sound-refusal n h
+
+pub sound-take : (registers integers memory : List ℕ) (number place size : ℕ) (x : Spot) (next : ℕ) → place < 8 → Named x
+    → Sound (takeWork registers integers memory number place size x next)
+sound-take registers integers memory number place size (Mmx k) next p h = sound-operation number place (getD registers k 0) next p
+sound-take registers integers memory number place size (Integer k) next p h = sound-operation number place (getD integers k 0) next p
+sound-take registers integers memory number place size (Bytes a) next p h = sound-operation number place (loaded memory a size) next p
+sound-take registers integers memory number place size (Refused n) next p h = sound-refusal n h

@@ -5,5 +5,6 @@ pub mod Steps
 pub mod Runs
 pub mod Prints
 pub mod Starts
+pub mod Spots
 pub mod Works
 pub mod PrintShapes

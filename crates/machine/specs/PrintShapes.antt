@@ -1,16 +1,23 @@
 -- The footprint as the program makes it, in masks and ranges: first where an operand is, then what each shape of effect reads and writes.
+use mathlib.Core.Bool.{cond, _||_}
 use mathlib.Core.List.{List, []}
 use Prim.Native.Nat.{ℕ, _^_}
 use lib.Bits.{bitOr}
+use lib.Dec.{eqb}
 use Rattle.reorder.specs.Result.{Result, done, refused, mapResult}
 use Rattle.reorder.specs.Footprint.{footprintIn}
 use Rattle.codec.specs.declared.Kind.the-variants.{Ordinary}
+use Rattle.codec.specs.declared.Operand.{Operand}
 use Rattle.manual.specs.State.{State}
 use Rattle.manual.specs.Places.{Place, look}
+use Rattle.manual.specs.Addresses.{addressOf, addressRegisters}
 use Rattle.manual.specs.Locations.{Location, registersBehind}
 use Rattle.manual.specs.Effects.{Effect, placed, via}
 use Rattle.machine.specs.declared.Places.{Places}
 use Rattle.machine.specs.declared.Footprint.{Footprint}
+use Rattle.machine.specs.declared.operands.Spot.{Spot}
+use Rattle.machine.specs.declared.operands.Spot.the-variants.{Mmx, Integer, Bytes}
+use Rattle.machine.specs.declared.operands.Spot.the-variants as spot
 use Rattle.machine.specs.declared.reaches.Reach.{Reach}
 use Rattle.machine.specs.declared.reaches.Reach.the-variants.{Inside, Refused}
 use Rattle.machine.specs.Prints.{mask, setOf, print}
@@ -33,20 +40,34 @@ abbrev pub reachOf : Location → Result (List Place) → Reach
 reachOf x (done places) = Inside (mask (registersBehind x)) (setOf places)
 reachOf x (refused n) = Refused n
 
--- an MMX register and the operand of r/m, whose address registers and places are given: the register is stored there, loaded from there, or
--- computed with it
+-- the mask of the address registers of the operand of r/m: none at mod 11
+abbrev pub behind : Operand → ℕ
+behind w = cond (eqb (w .mode) 3) 0 (mask (addressRegisters (addressOf w)))
 
-abbrev pub storing : ℕ → ℕ → Places → Footprint
-storing register registers p =
-    record { reads = through registers (beside register nowhere); writes = p; kind = Ordinary }
+-- the same of where the code finds it, with the mask of its address registers
+abbrev pub reachAt : ℕ → ℕ → Spot → Reach
+reachAt registers size (Mmx k) = Inside registers (beside k nowhere)
+reachAt registers size (Integer k) = Inside registers (through (2 ^ k) nowhere)
+reachAt registers size (Bytes a) = Inside registers (record { mmx = 0; integers = 0; start = a; length = size })
+reachAt registers size (spot.Refused n) = Refused n
 
-abbrev pub loading : ℕ → ℕ → Places → Footprint
-loading register registers p =
-    record { reads = through registers p; writes = beside register nowhere; kind = Ordinary }
+-- what is read, beside the address registers, and what is written
+abbrev pub ordinaryPrint : ℕ → Places → Places → Footprint
+ordinaryPrint registers reads writes = record { reads = through registers reads; writes = writes; kind = Ordinary }
 
-abbrev pub computing : ℕ → ℕ → Places → Footprint
-computing register registers p =
-    record { reads = through registers (beside register p); writes = beside register nowhere; kind = Ordinary }
+-- an MMX register is stored in the operand of r/m, loaded from it, or computed with it
+pub data Way : Type 0 where
+  storing loading computing : Way
+
+-- by the form's number
+unfoldable pub wayOf : ℕ → Way
+wayOf form = cond (eqb form 16 || eqb form 18) storing (cond (eqb form 17 || eqb form 19) loading computing)
+
+-- what each reads and writes: the register, and the operand, whose address registers and places are given
+abbrev pub shapedAs : Way → ℕ → ℕ → Places → Footprint
+shapedAs storing register registers p = ordinaryPrint registers (beside register nowhere) p
+shapedAs loading register registers p = ordinaryPrint registers p (beside register nowhere)
+shapedAs computing register registers p = ordinaryPrint registers (beside register p) (beside register nowhere)
 
 -- the footprint of an effect that no control mark stops
 unfoldable pub unmarkedPrint : Effect → State → Result Footprint

@@ -2,15 +2,15 @@
 -- how a step ended is an outcome. Only the contracts of the code's own functions use them.
 use mathlib.Core.Path.{_≡_}
 use mathlib.Core.Bool.{Bool, true, false, cond}
-use mathlib.Core.List.{List, [], _∷_}
+use mathlib.Core.List.{List, [], _∷_, map}
 use Prim.Native.Nat.{ℕ, _/_, _%_, _^_, _≤_, _<_}
 use lib.Dec.{eqb}
-use Rattle.lanes.specs.Operations.{operationOf, operate, MOVE}
-use Rattle.words.specs.Buffer.{stored}
-use Rattle.codec.specs.Forms.{Use, read, written, updated, File, mmxFile, Slot, reg, rm, rm/mem, Form, memorySize}
-use Rattle.codec.specs.Table.{formOf, operationIn}
-use Rattle.codec.specs.declared.Operand.{Operand}
-use Rattle.manual.specs.Locations.{Location, rmOf}
+use lib.ListN.{getD}
+use Rattle.lanes.specs.Operations.{operationOf, operate, numbered, MOVE}
+use Rattle.words.specs.Buffer.{loaded, stored}
+use Rattle.codec.specs.Forms.{Use, read, written, updated, Slot, Form, forms, isAmong, memorySize}
+use Rattle.codec.specs.Table.{formOf}
+use Rattle.codec.specs.inner.Entries.{operationIn}
 use Rattle.codec.specs.declared.Instruction.{Instruction}
 use Rattle.codec.specs.declared.Kind.the-variants.{Ordinary, Emms}
 use Rattle.manual.specs.declared.Marks.{Marks}
@@ -23,6 +23,8 @@ use Rattle.manual.specs.Instructions.{effectBy}
 use Rattle.manual.specs.Steps.{concluded, Outcome, completed, refusedWith, stepAt}
 use Rattle.machine.specs.declared.Machine.{Machine}
 use Rattle.machine.specs.declared.gathering.Work.{Work}
+use Rattle.machine.specs.declared.operands.Spot.{Spot}
+use Rattle.machine.specs.declared.operands.Spot.the-variants.{Mmx, Integer, Bytes, Refused}
 use Rattle.machine.specs.declared.stepping.Moved.{Moved}
 use Rattle.machine.specs.State.{stateOf}
 
@@ -38,17 +40,6 @@ barredBy marks = cond (marks .em) invalidOpcode (cond (marks .ts) notAvailable (
 abbrev pub effectIn : ℕ → Instruction → Effect
 effectIn number i = effectBy (formOf (number / 2 ^ 24)) (operationIn number (i .operand .reg)) i
 
--- the registers that r/m may name, by a form's operands
-abbrev pub fileIn : List (Use × Slot) → File
-fileIn [] = mmxFile
-fileIn ((how, reg file) ∷ xs) = fileIn xs
-fileIn ((how, rm file) ∷ xs) = file
-fileIn ((how, rm/mem file size) ∷ xs) = file
-
--- the operand of r/m, by the form's number
-abbrev pub otherOf : ℕ → Operand → Location
-otherOf number w = rmOf (fileIn (formOf number .operands)) (memorySize (formOf number)) w
-
 -- whether the destination is not read
 abbrev isWritten : List (Use × Slot) → Bool
 isWritten [] = false
@@ -59,10 +50,18 @@ isWritten ((updated, x) ∷ xs) = false
 abbrev pub isMove : Form → Bool
 isMove form = isWritten (form .operands)
 
--- what is said of every number that is read: its form is there; it has the operand's size, and a move moves
+-- the numbers of the forms
+abbrev pub numbers : List ℕ
+numbers = map (λ form. form .number) forms
+
+abbrev pub isListed : ℕ → Bool
+isListed form = isAmong form numbers
+
+-- what is said of every number that is read: its form is one of the list, and there; it has the operand's size, and a move moves
 pub record Listed (number : ℕ) : Type 0 where
+  pub listed : isListed (number / 2 ^ 24) ≡ true
   pub present : number / 2 ^ 24 ≡ 0 → ⊥
-  pub sized : 4 ≤ number / 2 ^ 24 → number / 2 ^ 16 % 256 ≡ memorySize (formOf (number / 2 ^ 24))
+  pub sized : 16 ≤ number / 2 ^ 24 → number / 2 ^ 16 % 256 ≡ memorySize (formOf (number / 2 ^ 24))
   pub moves : isMove (formOf (number / 2 ^ 24)) ≡ true → operationOf (number % 256) ≡ MOVE
 
 -- what is left to do, by the code's numbers
@@ -80,6 +79,28 @@ toEmpty = 3
 
 abbrev pub toRefuse : ℕ
 toRefuse = 4
+
+-- the works that the code makes
+
+abbrev pub workOf : ℕ → ℕ → ℕ → ℕ → ℕ → Work
+workOf what number place value next = record { what = what; number = number; place = place; value = value; next = next }
+
+abbrev pub refusedWork : ℕ → Work
+refusedWork refusal = workOf toRefuse refusal 0 0 0
+
+-- a value is put where an operand of that size is
+abbrev pub putWork : Spot → ℕ → ℕ → ℕ → Work
+putWork (Mmx k) size value next = workOf toOperate (numbered MOVE .0) k value next
+putWork (Integer k) size value next = workOf toInteger 0 k value next
+putWork (Bytes a) size value next = workOf toStore size a value next
+putWork (Refused n) size value next = refusedWork n
+
+-- an operation on a register, with the number that an operand of that size has
+abbrev pub takeWork : List ℕ → List ℕ → List ℕ → ℕ → ℕ → ℕ → Spot → ℕ → Work
+takeWork registers integers memory number place size (Mmx k) next = workOf toOperate number place (getD registers k 0) next
+takeWork registers integers memory number place size (Integer k) next = workOf toOperate number place (getD integers k 0) next
+takeWork registers integers memory number place size (Bytes a) next = workOf toOperate number place (loaded memory a size) next
+takeWork registers integers memory number place size (Refused n) next = refusedWork n
 
 -- what a work comes to at a position, in a state: an operation on an MMX register, a store, a move to an integer register, the tag mark set
 -- empty, or a refusal
@@ -103,10 +124,6 @@ pub record Sound (work : Work) : Type 0 where
 pub record Does (work : Work) (registers integers memory : List ℕ) (e : Effect) (next : ℕ) : Type 0 where
   pub sound : Sound work
   pub does : (marks : Marks) (at : ℕ) → let s = stateOf (machineOf registers integers marks) memory in performed work at s ≡ concluded at next s (directly e s)
-
--- the work of a refusal
-abbrev pub refusedWork : ℕ → Work
-refusedWork refusal = record { what = toRefuse; number = refusal; place = 0; value = 0; next = 0 }
 
 -- a work does what the step at a position of the code does, whatever the marks that are barred so
 pub record Gathered (work : Work) (registers integers : List ℕ) (bar : ℕ) (code : List ℕ) (at : ℕ) (memory : List ℕ) : Type 0 where

@@ -7,7 +7,7 @@ use codec::modes::NO_DISPLACEMENT;
 use codec::modes::SIB;
 ghost use mathlib.Core.Path.{_≡_};
 ghost use Prim.Native.Nat.{_*_, _^_, _%_, _<_};
-ghost use Rattle.codec.specs.Operands.{Registers};
+ghost use Rattle.codec.specs.inner.Fields.{Registers};
 ghost use Rattle.manual.specs.Addresses.{displacementOf, baseOf, indexOf, addressOf, registerPart, address};
 
 // The least negative byte, and what extends its sign to 32 bits.

@@ -1,4 +1,4 @@
-// The footprint of the step at a position: what each shape reads and writes, by the form, after the tests of the step.
+// The footprint of the step at a position: what each form reads and writes, after the tests of the step.
 use crate::Footprint;
 use crate::Machine;
 use crate::Places;
@@ -10,84 +10,61 @@ use crate::reaches;
 use crate::reaches::Reach;
 use codec::Instruction;
 use codec::Kind;
-use codec::Reading;
 use codec::forms::EMMS;
 use codec::forms::FORM;
 use codec::forms::LOAD_D;
 use codec::forms::LOAD_Q;
 use codec::forms::STORE_D;
 use codec::forms::STORE_Q;
+use codec::forms::TWO_OPERANDS;
+use codec::refusals::CODE_TOO_LONG;
+use codec::refusals::LONGEST_CODE;
 ghost use mathlib.Core.Path.{_≡_};
 ghost use Prim.Native.Nat.{_/_, _^_, _≤_, _<_};
-ghost use lib.ListN.{getD};
-ghost use Rattle.reorder.specs.Result.{mapResult};
-ghost use Rattle.codec.specs.Operands.{Registers};
-ghost use Rattle.codec.specs.Table.{opcodeTable};
-ghost use Rattle.manual.specs.Instructions.{footprint};
+ghost use Rattle.codec.specs.inner.Fields.{Registers};
 ghost use Rattle.machine.specs.State.{stateOf};
-ghost use Rattle.machine.specs.Prints.{print, printAt, paperOfFootprint};
-ghost use Rattle.machine.specs.PrintShapes.{storing, loading, computing, unmarkedPrint};
+ghost use Rattle.machine.specs.Prints.{printAt, paperOfFootprint};
+ghost use Rattle.machine.specs.PrintShapes.{ordinaryPrint, wayOf, shapedAs, unmarkedPrint};
 ghost use Rattle.machine.specs.Works.{effectIn, Listed};
 
-// An MMX register is stored in the operand of r/m: what is there is not read.
-fn stored(register: u8, registers: u8, places: Places) -> Footprint
+// What is read, with the address registers, and what is written.
+fn ordinary(registers: u8, reads: Places, writes: Places) -> Footprint
+    ensures { λ r. ⌜ r ≡ ordinaryPrint registers reads writes ⌝ }
+{
+    Footprint {
+        reads: reaches::with_integers(registers, reads),
+        writes: writes,
+        kind: Kind::Ordinary,
+    }
+}
+
+// An MMX register is stored in the operand of r/m, or loaded from it, or computed with it: then both are read.
+fn shaped(form: u32, register: u8, registers: u8, places: Places) -> Footprint
     requires { ⌜ register < 8 ⌝ }
-    ensures { λ r. ⌜ r ≡ storing register registers places ⌝ }
+    ensures { λ r. ⌜ r ≡ shapedAs (wayOf form) register registers places ⌝ }
 {
     let own = reaches::with_register(register, reaches::NOWHERE);
-    let reads = reaches::with_integers(registers, own);
-    Footprint {
-        reads: reads,
-        writes: places,
-        kind: Kind::Ordinary,
-    }
-}
-
-// An MMX register is loaded from the operand of r/m: it is not read.
-fn loaded(register: u8, registers: u8, places: Places) -> Footprint
-    requires { ⌜ register < 8 ⌝ }
-    ensures { λ r. ⌜ r ≡ loading register registers places ⌝ }
-{
-    let reads = reaches::with_integers(registers, places);
-    let writes = reaches::with_register(register, reaches::NOWHERE);
-    Footprint {
-        reads: reads,
-        writes: writes,
-        kind: Kind::Ordinary,
-    }
-}
-
-// An MMX register is computed with the operand of r/m: both are read.
-fn computed(register: u8, registers: u8, places: Places) -> Footprint
-    requires { ⌜ register < 8 ⌝ }
-    ensures { λ r. ⌜ r ≡ computing register registers places ⌝ }
-{
-    let both = reaches::with_register(register, places);
-    let reads = reaches::with_integers(registers, both);
-    let writes = reaches::with_register(register, reaches::NOWHERE);
-    Footprint {
-        reads: reads,
-        writes: writes,
-        kind: Kind::Ordinary,
+    match form {
+        STORE_D | STORE_Q => ordinary(registers, own, places),
+        LOAD_D | LOAD_Q => ordinary(registers, places, own),
+        _ => ordinary(registers, reaches::with_register(register, places), own),
     }
 }
 
 // An instruction with two operands.
 fn two_operands(machine: Machine, entry: u32, instruction: Instruction, memory: &[u8]) -> Printed
-    requires { ⌜ Registers (instruction .operand) × (Listed entry × (4 ≤ entry / 2 ^ 24)) ⌝ }
+    requires { ⌜ Registers (instruction .operand) × (Listed entry × (16 ≤ entry / 2 ^ 24)) ⌝ }
     ensures { λ r. ⌜ paperOfFootprint r ≡ unmarkedPrint (effectIn entry instruction) (stateOf machine (now (memory .entry))) ⌝ }
 {
     let operand = instruction.operand;
-    let form = entry / FORM;
     let reached = reaches::reach_operand(machine, entry, operand, memory);
     match reached {
-        Reach::Inside(registers, places) => {
-            match form {
-                STORE_D | STORE_Q => Printed::Of(stored(operand.reg, registers, places)),
-                LOAD_D | LOAD_Q => Printed::Of(loaded(operand.reg, registers, places)),
-                _ => Printed::Of(computed(operand.reg, registers, places)),
-            }
-        }
+        Reach::Inside(registers, places) => Printed::Of(shaped(
+            entry / FORM,
+            operand.reg,
+            registers,
+            places,
+        )),
         Reach::Refused(refusal) => Printed::Refused(refusal),
     }
 }
@@ -98,7 +75,7 @@ fn unmarked(machine: Machine, entry: u32, instruction: Instruction, memory: &[u8
     ensures { λ r. ⌜ paperOfFootprint r ≡ unmarkedPrint (effectIn entry instruction) (stateOf machine (now (memory .entry))) ⌝ }
 {
     let form = entry / FORM;
-    if STORE_D <= form {
+    if TWO_OPERANDS <= form {
         return two_operands(machine, entry, instruction, memory);
     }
     if form == EMMS {
@@ -116,27 +93,6 @@ fn unmarked(machine: Machine, entry: u32, instruction: Instruction, memory: &[u8
     })
 }
 
-// What the table says of a second byte.
-fn entry_for(second: u8) -> u32
-    ensures { λ r. ⌜ r ≡ getD opcodeTable second 0 ⌝ }
-{
-    let table = codec::table();
-    table[second as usize]
-}
-
-// An instruction that is read: the control marks first.
-fn of_instruction(machine: Machine, instruction: Instruction, memory: &[u8]) -> Printed
-    requires { ⌜ Registers (instruction .operand) × Listed (getD opcodeTable (instruction .second) 0) ⌝ }
-    ensures { λ r. ⌜ paperOfFootprint r ≡ mapResult print (footprint instruction (stateOf machine (now (memory .entry)))) ⌝ }
-{
-    let bar = gathering::barred(machine.marks);
-    if bar != 0 {
-        return Printed::Refused(bar);
-    }
-    let entry = entry_for(instruction.second);
-    unmarked(machine, entry, instruction, memory)
-}
-
 impl Machine {
     // What the step at a position reads and writes.
     pub fn footprint(self, code: &[u8], at: usize, memory: &[u8]) -> Printed
@@ -145,10 +101,20 @@ impl Machine {
         if LONGEST_MEMORY < memory.len() {
             return Printed::Refused(MEMORY_TOO_LONG);
         }
-        let reading = codec::read(code, at);
-        match reading {
-            Reading::Read(instruction, _) => of_instruction(self, instruction, memory),
-            Reading::Refused(refusal) => Printed::Refused(refusal),
+        if LONGEST_CODE < code.len() {
+            return Printed::Refused(CODE_TOO_LONG);
         }
+        let table = codec::table();
+        let found = codec::read_from(&table, code, at);
+        let refusal = found.refusal;
+        if refusal != 0 {
+            return Printed::Refused(refusal);
+        }
+        let bar = gathering::barred(self.marks);
+        if bar != 0 {
+            return Printed::Refused(bar);
+        }
+        let instruction = found.instruction;
+        unmarked(self, found.entry, instruction, memory)
     }
 }

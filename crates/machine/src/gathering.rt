@@ -1,9 +1,9 @@
 // The instruction at a position is read and its operands are gathered; what is left to do is then plain numbers. Nothing is written here.
-use crate::addresses;
 use crate::numbers::INVALID_OPCODE;
 use crate::numbers::IS_PENDING;
 use crate::numbers::NOT_AVAILABLE;
-use crate::numbers::OUTSIDE_MEMORY;
+use crate::operands;
+use crate::operands::Spot;
 use crate::shifts;
 use codec::Instruction;
 use codec::forms::EMMS;
@@ -12,18 +12,18 @@ use codec::forms::PART;
 use codec::forms::SIZE;
 use codec::forms::STORE_D;
 use codec::forms::STORE_Q;
-use codec::modes::REGISTER;
+use codec::forms::TWO_OPERANDS;
 use lanes::MOVE;
 use manual::Marks;
 ghost use mathlib.Core.Path.{_≡_};
-ghost use Prim.Native.Nat.{_+_, _/_, _^_, _≤_};
-ghost use lib.Dec.{leb};
+ghost use Prim.Native.Nat.{_/_, _%_, _^_, _≤_};
 ghost use lib.ListN.{length};
-ghost use Rattle.codec.specs.Operands.{Registers};
+ghost use Rattle.codec.specs.inner.Fields.{Registers};
 ghost use Rattle.codec.specs.Table.{opcodeTable};
 ghost use Rattle.codec.specs.Reads.{longestCode};
 ghost use Rattle.manual.specs.State.{longestMemory};
-ghost use Rattle.machine.specs.Works.{barredBy, effectIn, Listed, Does, Gathered, refusedWork};
+ghost use Rattle.machine.specs.Spots.{Named};
+ghost use Rattle.machine.specs.Works.{barredBy, effectIn, Listed, workOf, refusedWork, putWork, takeWork, Does, Gathered};
 
 // How many values a doubleword has.
 pub(crate) const DOUBLEWORD_RANGE: u64 = 0x100000000;
@@ -52,16 +52,22 @@ pub(crate) const EMPTY: u8 = 3;
 // Nothing: the refusal of that number.
 const REFUSE: u8 = 4;
 
+fn work_of(what: u8, number: u8, place: usize, value: u64, next: usize) -> Work
+    ensures { λ r. ⌜ r ≡ workOf what number place value next ⌝ }
+{
+    Work {
+        what: what,
+        number: number,
+        place: place,
+        value: value,
+        next: next,
+    }
+}
+
 fn refused(refusal: u8) -> Work
     ensures { λ r. ⌜ r ≡ refusedWork refusal ⌝ }
 {
-    Work {
-        what: REFUSE,
-        number: refusal,
-        place: 0,
-        value: 0,
-        next: 0,
-    }
+    work_of(REFUSE, refusal, 0, 0, 0)
 }
 
 // The refusal of the control marks, EM before TS before pending, or 0.
@@ -80,60 +86,15 @@ pub(crate) fn barred(marks: Marks) -> u8
     0
 }
 
-// Whether all bytes of an operand are below the memory's length.
-pub(crate) fn lies_inside(room: usize, address: usize, size: usize) -> bool
-    ensures { λ r. ⌜ r ≡ leb (address + size) room ⌝ }
+// A value is put where the operand is: in memory so many bytes of it.
+fn put(spot: Spot, size: u8, value: u64, next: usize) -> Work
+    ensures { λ r. ⌜ r ≡ putWork spot size value next ⌝ }
 {
-    if room < size {
-        return false;
-    }
-    address <= room - size
-}
-
-// An instruction whose second operand is in memory.
-fn in_memory(
-    mmx: &[u64; 8],
-    integers: &[u32; 8],
-    entry: u32,
-    instruction: Instruction,
-    next: usize,
-    memory: &[u8],
-) -> Work
-    requires { ⌜ Registers (instruction .operand) × (Listed entry × ((instruction .operand .mode ≡ 3 → ⊥) × (4 ≤ entry / 2 ^ 24))) ⌝ }
-    ensures { λ r. ⌜ Does r (now (mmx .entry)) (now (integers .entry)) (now (memory .entry)) (effectIn entry instruction) next ⌝ }
-{
-    let operand = instruction.operand;
-    let address = addresses::address_of(integers, operand) as usize;
-    let size = (entry / SIZE % PART) as u8;
-    if !lies_inside(memory.len(), address, size as usize) {
-        return refused(OUTSIDE_MEMORY);
-    }
-    let register = operand.reg as usize;
-    let form = entry / FORM;
-    if form == STORE_D {
-        return Work {
-            what: STORE,
-            number: size,
-            place: address,
-            value: mmx[register] % DOUBLEWORD_RANGE,
-            next: next,
-        };
-    }
-    if form == STORE_Q {
-        return Work {
-            what: STORE,
-            number: size,
-            place: address,
-            value: mmx[register],
-            next: next,
-        };
-    }
-    Work {
-        what: OPERATE,
-        number: (entry % PART) as u8,
-        place: register,
-        value: words::load(memory, address, size as usize),
-        next: next,
+    match spot {
+        Spot::Mmx(register) => work_of(OPERATE, MOVE, register as usize, value, next),
+        Spot::Integer(register) => work_of(TO_INTEGER, 0, register as usize, value, next),
+        Spot::Bytes(address) => work_of(STORE, size, address, value, next),
+        Spot::Refused(refusal) => refused(refusal),
     }
 }
 
@@ -141,6 +102,41 @@ fn widened(doubleword: u32) -> u64
     ensures { λ r. ⌜ r ≡ doubleword ⌝ }
 {
     doubleword as u64
+}
+
+// An operation on an MMX register, with the number that the operand has.
+fn computed(
+    mmx: &[u64; 8],
+    integers: &[u32; 8],
+    entry: u32,
+    register: usize,
+    spot: Spot,
+    next: usize,
+    memory: &[u8],
+) -> Work
+    requires { ⌜ Named spot ⌝ }
+    ensures { λ r. ⌜ r ≡ takeWork (now (mmx .entry)) (now (integers .entry)) (now (memory .entry)) (entry % 256) register (entry / 2 ^ 16 % 256) spot next ⌝ }
+{
+    let number = (entry % PART) as u8;
+    let size = (entry / SIZE % PART) as usize;
+    match spot {
+        Spot::Mmx(other) => work_of(OPERATE, number, register, mmx[other as usize], next),
+        Spot::Integer(other) => work_of(
+            OPERATE,
+            number,
+            register,
+            widened(integers[other as usize]),
+            next,
+        ),
+        Spot::Bytes(address) => work_of(
+            OPERATE,
+            number,
+            register,
+            words::load(memory, address, size),
+            next,
+        ),
+        Spot::Refused(refusal) => refused(refusal),
+    }
 }
 
 // An instruction that the control marks let pass.
@@ -158,62 +154,24 @@ fn sorted(
     let operand = instruction.operand;
     let form = entry / FORM;
     let register = operand.reg as usize;
-    let other = operand.rm as usize;
-    if form < STORE_D {
-        if form == EMMS {
-            return Work {
-                what: EMPTY,
-                number: 0,
-                place: 0,
-                value: 0,
-                next: next,
-            };
-        }
-        return Work {
-            what: OPERATE,
-            number: shifts::shift_number(entry, operand.reg),
-            place: other,
-            value: instruction.immediate as u64,
-            next: next,
+    if TWO_OPERANDS <= form {
+        let spot = operands::located(integers, entry, operand, memory.len());
+        return match form {
+            STORE_D | STORE_Q => put(spot, (entry / SIZE % PART) as u8, mmx[register], next),
+            _ => computed(mmx, integers, entry, register, spot, next, memory),
         };
     }
-    if operand.mode != REGISTER {
-        return in_memory(mmx, integers, entry, instruction, next, memory);
+    if form == EMMS {
+        return work_of(EMPTY, 0, 0, 0, next);
     }
-    if STORE_Q < form {
-        return Work {
-            what: OPERATE,
-            number: (entry % PART) as u8,
-            place: register,
-            value: mmx[other],
-            next: next,
-        };
-    }
-    if form == STORE_D {
-        return Work {
-            what: TO_INTEGER,
-            number: 0,
-            place: other,
-            value: mmx[register],
-            next: next,
-        };
-    }
-    if form == STORE_Q {
-        return Work {
-            what: OPERATE,
-            number: MOVE,
-            place: other,
-            value: mmx[register],
-            next: next,
-        };
-    }
-    Work {
-        what: OPERATE,
-        number: (entry % PART) as u8,
-        place: register,
-        value: widened(integers[other]),
-        next: next,
-    }
+    let number = shifts::shift_number(entry, operand.reg);
+    work_of(
+        OPERATE,
+        number,
+        operand.rm as usize,
+        instruction.immediate as u64,
+        next,
+    )
 }
 
 // The instruction at a position: the reader's refusals, then `bar`, that of the control marks or 0, then that of its operand.

@@ -4,6 +4,7 @@ mod footprints;
 mod gathering;
 mod meetings;
 pub mod numbers;
+mod operands;
 mod reaches;
 mod register_masks;
 mod running;

@@ -3,12 +3,14 @@ use crate::numbers::NO_INDEX;
 use codec::Operand;
 use codec::modes::NO_BASE;
 use codec::modes::NO_DISPLACEMENT;
+use codec::modes::REGISTER;
 use codec::modes::SIB;
 ghost use mathlib.Core.Path.{_≡_};
 ghost use Prim.Native.Nat.{_^_, _<_};
-ghost use Rattle.codec.specs.Operands.{Registers};
-ghost use Rattle.manual.specs.Addresses.{baseOf, indexOf, addressOf, registersOf, addressRegisters};
+ghost use Rattle.codec.specs.inner.Fields.{Registers};
+ghost use Rattle.manual.specs.Addresses.{baseOf, indexOf, registersOf};
 ghost use Rattle.machine.specs.Prints.{mask};
+ghost use Rattle.machine.specs.PrintShapes.{behind};
 
 // The mask of one register.
 pub(crate) fn bit(register: u8) -> u8
@@ -43,11 +45,14 @@ fn index_mask(register: u8) -> u8
     bit(register)
 }
 
-// The mask of the registers that an address is made of.
+// The mask of the registers that an operand's address is made of: none at mod 11.
 pub(crate) fn address_mask(operand: Operand) -> u8
-    requires { ⌜ Registers operand × (operand .mode ≡ 3 → ⊥) ⌝ }
-    ensures { λ r. ⌜ r ≡ mask (addressRegisters (addressOf operand)) ⌝ }
+    requires { ⌜ Registers operand ⌝ }
+    ensures { λ r. ⌜ r ≡ behind operand ⌝ }
 {
+    if operand.mode == REGISTER {
+        return 0;
+    }
     if operand.rm != SIB {
         return base_mask(operand.mode, operand.rm);
     }

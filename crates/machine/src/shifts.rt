@@ -8,7 +8,7 @@ use codec::forms::SIGNED_PLACE;
 use lanes::KEEP;
 ghost use mathlib.Core.Path.{_≡_};
 ghost use Rattle.lanes.specs.Operations.{operationOf};
-ghost use Rattle.codec.specs.Table.{shiftIn};
+ghost use Rattle.codec.specs.inner.Entries.{shiftIn};
 
 pub(crate) fn shift_number(entry: u32, digit: u8) -> u8
     ensures { λ r. ⌜ operationOf r ≡ shiftIn entry digit ⌝ }

@@ -1,4 +1,4 @@
--- `gathering::sorted` meets its contract: each form has its work, for an operand in memory and for one in a register.
+-- `gathering::sorted` meets its contract: each shape of a form has its work, wherever the operand of r/m is.
 use Rattle.machine.proofs.Sorting.{sorting}
 use Rattle.machine.proofs.gathering.sorted.Statement.{statement}
 use Rattle.machine.proofs.gathering.sorted.Tie as tie
@@ -8,24 +8,17 @@ sorted-spec =
     tie.close
     (tie.spec
     (λ c. search sorting)
+    (λ c κs. search sorting)
     (λ c. search sorting)
     (λ c. search sorting)
+    (λ c. search sorting)
+    (λ c κs. search sorting)
     (λ c κs. search sorting)
     (λ c. search sorting)
     (λ c. search sorting)
     (λ c κs. search sorting)
     (λ c. search sorting)
-    (λ c. search sorting)
-    (λ c. search sorting)
-    (λ c. search sorting)
-    (λ c. search sorting)
-    (λ c. search sorting)
-    (λ c. search sorting)
-    (λ c. search sorting)
-    (λ c. search sorting)
-    (λ c. search sorting)
-    (λ c. search sorting)
-    (λ c. search sorting)
+    (λ c κs. search sorting)
     (λ c. search sorting)
     (λ c. search sorting)
     (λ c κs. search sorting)

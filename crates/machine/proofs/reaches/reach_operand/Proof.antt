@@ -1,4 +1,4 @@
--- `reaches::reach_operand` meets its contract: an operand in memory is a range, and one in a register is a mask.
+-- `reaches::reach_operand` meets its contract: a register is a mask, bytes are a range, and a refusal is one.
 use Rattle.machine.proofs.PrintReaching.{print-reaching}
 use Rattle.machine.proofs.reaches.reach_operand.Statement.{statement}
 use Rattle.machine.proofs.reaches.reach_operand.Tie as tie
@@ -7,11 +7,17 @@ pub reach-operand-spec : {M : Type 1} → statement M
 reach-operand-spec =
     tie.close
     (tie.spec
+    (λ c κs. search print-reaching)
+    (λ c κs. search print-reaching)
     (λ c. search print-reaching)
     (λ c κs. search print-reaching)
     (λ c. search print-reaching)
     (λ c κs. search print-reaching)
+    (λ c κs. search print-reaching)
     (λ c. search print-reaching)
-    (λ c κs. search print-reaching)
-    (λ c κs. search print-reaching)
+    (λ c. search print-reaching)
+    (λ c. search print-reaching)
+    (λ c. search print-reaching)
+    (λ c. search print-reaching)
+    (λ c. search print-reaching)
     (λ c. search print-reaching))

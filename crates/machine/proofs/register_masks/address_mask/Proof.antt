@@ -7,6 +7,7 @@ pub address-mask-spec : {M : Type 1} → statement M
 address-mask-spec =
     tie.close
     (tie.spec
+    (λ c. search print-masks)
     (λ c κs. search print-masks)
     (λ c. search print-masks)
     (λ c κs. search print-masks)

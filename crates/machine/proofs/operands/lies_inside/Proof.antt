@@ -1,0 +1,11 @@
+-- `operands::lies_inside` meets its contract: its two tests come to that of the sum, which is not formed.
+use Rattle.machine.proofs.Testing.{testing}
+use Rattle.machine.proofs.operands.lies_inside.Statement.{statement}
+use Rattle.machine.proofs.operands.lies_inside.Tie as tie
+
+pub lies-inside-spec : {M : Type 1} → statement M
+lies-inside-spec =
+    tie.close
+    (tie.spec
+    (λ c. search testing)
+    (λ c. search testing))

@@ -1,0 +1,37 @@
+-- Where the code finds the operand that r/m names. Only the contracts of the code's own functions use these words.
+use mathlib.Core.Path.{_≡_}
+use mathlib.Core.Bool.{cond}
+use mathlib.Core.List.{List, [], _∷_}
+use Prim.Native.Nat.{ℕ, _<_}
+use Rattle.codec.specs.Forms.{Use, File, mmxFile, Slot, reg, rm, rm/mem, memorySize}
+use Rattle.codec.specs.Table.{formOf}
+use Rattle.codec.specs.declared.Operand.{Operand}
+use Rattle.manual.specs.Refusals.{outsideMemory}
+use Rattle.manual.specs.Addresses.{address}
+use Rattle.manual.specs.Locations.{Location, mmxRegister, integerRegister, memory, rmOf, fits}
+use Rattle.machine.specs.declared.operands.Spot.{Spot}
+use Rattle.machine.specs.declared.operands.Spot.the-variants.{Mmx, Integer, Bytes, Refused}
+
+-- the registers that r/m may name, by a form's operands
+abbrev pub fileIn : List (Use × Slot) → File
+fileIn [] = mmxFile
+fileIn ((how, reg file) ∷ xs) = fileIn xs
+fileIn ((how, rm file) ∷ xs) = file
+fileIn ((how, rm/mem file size) ∷ xs) = file
+
+-- the operand of r/m, by the form's number
+abbrev pub otherOf : ℕ → Operand → Location
+otherOf number w = rmOf (fileIn (formOf number .operands)) (memorySize (formOf number)) w
+
+-- where an operand is, with these integer registers and so much memory
+abbrev pub spotOf : List ℕ → ℕ → Location → Spot
+spotOf integers room (mmxRegister k) = Mmx k
+spotOf integers room (integerRegister k) = Integer k
+spotOf integers room (memory a size) = cond (fits room size (address integers a)) (Bytes (address integers a)) (Refused outsideMemory)
+
+-- the register that it names is there, and a refusal has a number
+abbrev pub Named : Spot → Type 0
+Named (Mmx k) = k < 8
+Named (Integer k) = k < 8
+Named (Bytes a) = Unit {0}
+Named (Refused n) = n ≡ 0 → ⊥

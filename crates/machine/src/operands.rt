@@ -1,0 +1,51 @@
+// Where the operand that r/m names is: in a register, or in memory at an address that is tested.
+use crate::addresses;
+use crate::numbers::OUTSIDE_MEMORY;
+use codec::Operand;
+use codec::forms::FORM;
+use codec::forms::LOAD_D;
+use codec::forms::PART;
+use codec::forms::SIZE;
+use codec::modes::REGISTER;
+ghost use mathlib.Core.Path.{_≡_};
+ghost use Prim.Native.Nat.{_+_, _/_, _^_, _≤_};
+ghost use lib.Dec.{leb};
+ghost use Rattle.codec.specs.inner.Fields.{Registers};
+ghost use Rattle.machine.specs.Works.{Listed};
+ghost use Rattle.machine.specs.Spots.{otherOf, spotOf};
+
+// The number of the MMX register or of the integer register, the address of the first byte, or the refusal.
+pub(crate) enum Spot {
+    Mmx(u8),
+    Integer(u8),
+    Bytes(usize),
+    Refused(u8),
+}
+
+// Whether all bytes of an operand are below the memory's length.
+fn lies_inside(room: usize, address: usize, size: usize) -> bool
+    ensures { λ r. ⌜ r ≡ leb (address + size) room ⌝ }
+{
+    if room < size {
+        return false;
+    }
+    address <= room - size
+}
+
+// MOVD's register is an integer register.
+pub(crate) fn located(integers: &[u32; 8], entry: u32, operand: Operand, room: usize) -> Spot
+    requires { ⌜ Registers operand × (Listed entry × (16 ≤ entry / 2 ^ 24)) ⌝ }
+    ensures { λ r. ⌜ r ≡ spotOf (now (integers .entry)) room (otherOf (entry / 2 ^ 24) operand) ⌝ }
+{
+    if operand.mode != REGISTER {
+        let address = addresses::address_of(integers, operand) as usize;
+        if lies_inside(room, address, (entry / SIZE % PART) as usize) {
+            return Spot::Bytes(address);
+        }
+        return Spot::Refused(OUTSIDE_MEMORY);
+    }
+    if LOAD_D < entry / FORM {
+        return Spot::Mmx(operand.rm);
+    }
+    Spot::Integer(operand.rm)
+}
