@@ -13,6 +13,7 @@ use Rattle.codec.specs.Table.{opcodeTable}
 use Rattle.codec.specs.Reads.{longestCode, readPart}
 use Rattle.codec.specs.Finding.{foundIn, findWith}
 use Rattle.codec.specs.declared.Found.{Found}
+use Rattle.codec.specs.declared.Instruction.{Instruction}
 use Rattle.codec.specs.Answers.{Decoded, good, refused}
 use Rattle.codec.proofs.Readers.{Holds, moved}
 use Rattle.codec.proofs.Given.{Known, Refusal, reads-known}
@@ -41,26 +42,21 @@ module _ (table code : List ℕ) (at : ℕ) (x : Found) (ours : table ≡ opcode
   pub names-registers : Registers (x .instruction .operand)
   names-registers = subst (λ (y : Found). Registers (y .instruction .operand)) (sym e) (found-registers table code at)
 
-  pub is-listed : x .refusal ≡ 0 → Listed (x .entry)
-  is-listed h = by (readPart (drop at code)) refl (reads-known formAt 0 (drop at code))
+  -- what holds of each instruction that is known holds of what was found
+  found-known : (P : Found → Type 0) → ((i : Instruction) (n : ℕ) → Known formAt i → P (foundIn opcodeTable (good i n))) → x .refusal ≡ 0 → P x
+  found-known P h passed = by (readPart (drop at code)) refl (reads-known formAt 0 (drop at code))
     where
-      by : (z : Decoded) → readPart (drop at code) ≡ z → Holds (Known formAt) Refusal z → Listed (x .entry)
-      by (good i n) r g =
-          subst (λ (y : Found). Listed (y .entry)) (sym (found-is (good i n) r)) (row-listed (i .second) (g .present))
+      by : (z : Decoded) → readPart (drop at code) ≡ z → Holds (Known formAt) Refusal z → P x
+      by (good i n) r g = subst P (sym (found-is (good i n) r)) (h i (at + n) g)
       by (refused n) r g =
           let f : x .refusal ≡ n = ap (λ (y : Found). y .refusal) (found-is (refused n) r) in
           absurd (omega (arith, g .0))
 
-  -- the number that was found has the instruction's effect
+  pub is-listed : x .refusal ≡ 0 → Listed (x .entry)
+  is-listed = found-known (λ y. Listed (y .entry)) (λ i n g. row-listed (i .second) (g .present))
+
   pub effect-found : x .refusal ≡ 0 → effectIn (x .entry) (x .instruction) ≡ effectOf (x .instruction)
-  effect-found h = by (readPart (drop at code)) refl (reads-known formAt 0 (drop at code))
-    where
-      by : (z : Decoded) → readPart (drop at code) ≡ z → Holds (Known formAt) Refusal z → effectIn (x .entry) (x .instruction) ≡ effectOf (x .instruction)
-      by (good i n) r g =
-          subst (λ (y : Found). effectIn (y .entry) (y .instruction) ≡ effectOf (y .instruction)) (sym (found-is (good i n) r)) (effect-is i (g .registers))
-      by (refused n) r g =
-          let f : x .refusal ≡ n = ap (λ (y : Found). y .refusal) (found-is (refused n) r) in
-          absurd (omega (arith, g .0))
+  effect-found = found-known (λ y. effectIn (y .entry) (y .instruction) ≡ effectOf (y .instruction)) (λ i n g. effect-is i (g .registers))
 
   -- within the limits
   module _ (s : State) (code-fits : length code ≤ longestCode) (memory-fits : length (s .memory) ≤ longestMemory) where

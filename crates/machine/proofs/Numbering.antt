@@ -83,50 +83,34 @@ module _ (n : ℕ) where
       by true e = let z : _≡_ {A = ℕ} 0 1 = cc in omega arith
       by false e = let z : _≡_ {A = ℕ} 0 1 = cc in omega arith
 
--- what holds of each number of a list holds of one that is among them
-abbrev AllOf : (ℕ → Type 0) → List ℕ → Type 0
-AllOf P [] = Unit {0}
-AllOf P (x ∷ xs) = P x × AllOf P xs
+-- what holds of each number of a list, said one after the other, holds of one that is among them
+abbrev Cases : (ℕ → Type 0) → List ℕ → Type 0 → Type 0
+Cases P [] R = R
+Cases P (x ∷ xs) R = P x → Cases P xs R
 
-among : (P : ℕ → Type 0) (n : ℕ) (xs : List ℕ) → isAmong n xs ≡ true → AllOf P xs → P n
-among P n [] e h = absurd (false≢true e)
-among P n (x ∷ xs) e h = by (eqb n x) refl e (λ later. among P n xs later (h .1))
+settled : (P : ℕ → Type 0) (xs : List ℕ) {R : Type 0} → R → Cases P xs R
+settled P [] r = r
+settled P (x ∷ xs) r = λ p. settled P xs r
+
+among : (P : ℕ → Type 0) (n : ℕ) (xs : List ℕ) → isAmong n xs ≡ true → Cases P xs (P n)
+among P n [] e = absurd (false≢true e)
+among P n (x ∷ xs) e = by (eqb n x) refl e (among P n xs)
   where
-    by : (t : Bool) → eqb n x ≡ t → (t || isAmong n xs) ≡ true → (isAmong n xs ≡ true → P n) → P n
-    by true q e rest = subst P (sym (eqb-true n x q)) (h .0)
-    by false q e rest = rest e
+    by : (t : Bool) → eqb n x ≡ t → (t || isAmong n xs) ≡ true → (isAmong n xs ≡ true → Cases P xs (P n)) → P x → Cases P xs (P n)
+    by true q e rest p = settled P xs (subst P (sym (eqb-true n x q)) p)
+    by false q e rest p = rest e
 
 pub shape : (n : ℕ) → isListed n ≡ true → 16 ≤ n → Shape n (wayOf n) (formOf n)
 unfolding wayOf
-shape n h two =
-    among (λ k. 16 ≤ k → Shape k (wayOf k) (formOf k)) n numbers h (
-      λ g. absurd (omega arith),
-      (
-        λ g. absurd (omega arith),
-        (
-          λ g. absurd (omega arith),
-          (
-            λ g. absurd (omega arith),
-            (
-              λ g. stores integerFile 4 (doubleword 16 (omega arith)),
-              (
-                λ g. loads integerFile 4 (doubleword 17 (omega arith)),
-                (
-                  λ g. stores mmxFile 8 (multimedia 18 8 (omega arith) (omega arith) (omega arith)),
-                  (
-                    λ g. loads mmxFile 8 (multimedia 19 8 (omega arith) (omega arith) (omega arith)),
-                    (
-                      λ g. computes mmxFile 4 (multimedia 20 4 (omega arith) (omega arith) (omega arith)),
-                      (λ g. computes mmxFile 8 (multimedia 21 8 (omega arith) (omega arith) (omega arith)), tt),
-                    ),
-                  ),
-                ),
-              ),
-            ),
-          ),
-        ),
-      ),
-    ) two
+shape n h =
+    among (λ k. 16 ≤ k → Shape k (wayOf k) (formOf k)) n numbers h
+    (λ g. absurd (omega arith)) (λ g. absurd (omega arith)) (λ g. absurd (omega arith)) (λ g. absurd (omega arith))
+    (λ g. stores integerFile 4 (doubleword 16 (omega arith)))
+    (λ g. loads integerFile 4 (doubleword 17 (omega arith)))
+    (λ g. stores mmxFile 8 (multimedia 18 8 (omega arith) (omega arith) (omega arith)))
+    (λ g. loads mmxFile 8 (multimedia 19 8 (omega arith) (omega arith) (omega arith)))
+    (λ g. computes mmxFile 4 (multimedia 20 4 (omega arith) (omega arith) (omega arith)))
+    (λ g. computes mmxFile 8 (multimedia 21 8 (omega arith) (omega arith) (omega arith)))
 
 pub other : (n : ℕ) → isListed n ≡ true → 16 ≤ n → Other n (fileIn (formOf n .operands)) (memorySize (formOf n))
 other n h two = by (wayOf n) (formOf n) (shape n h two)
@@ -143,25 +127,7 @@ pub data Shifting : Form → Type 0 where
 
 pub shifting : (n : ℕ) → isListed n ≡ true → n < 16 → (n ≡ 1 → ⊥) → (n ≡ 0 → ⊥) → Shifting (formOf n)
 shifting n h =
-    among (λ k. k < 16 → (k ≡ 1 → ⊥) → (k ≡ 0 → ⊥) → Shifting (formOf k)) n numbers h (
-      λ l p q. absurd (q refl),
-      (
-        λ l p q. absurd (p refl),
-        (
-          λ l p q. shifts-WD,
-          (
-            λ l p q. shifts-Q,
-            (
-              λ l p q. absurd (omega arith),
-              (
-                λ l p q. absurd (omega arith),
-                (
-                  λ l p q. absurd (omega arith),
-                  (λ l p q. absurd (omega arith), (λ l p q. absurd (omega arith), (λ l p q. absurd (omega arith), tt))),
-                ),
-              ),
-            ),
-          ),
-        ),
-      ),
-    )
+    among (λ k. k < 16 → (k ≡ 1 → ⊥) → (k ≡ 0 → ⊥) → Shifting (formOf k)) n numbers h
+    (λ l p q. absurd (q refl)) (λ l p q. absurd (p refl)) (λ l p q. shifts-WD) (λ l p q. shifts-Q)
+    (λ l p q. absurd (omega arith)) (λ l p q. absurd (omega arith)) (λ l p q. absurd (omega arith))
+    (λ l p q. absurd (omega arith)) (λ l p q. absurd (omega arith)) (λ l p q. absurd (omega arith))

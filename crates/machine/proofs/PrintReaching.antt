@@ -5,6 +5,7 @@ use mathlib.Core.List.{[]}
 use Prim.Native.Nat.{ℕ, zero, suc, _+_, _/_, _%_, _^_, _≤_, _<_}
 use native.Mathlib.Omega.{arith}
 use borrow.Author.Needs.{needs}
+use lib.Bits.{or-zero-r}
 use lib.Dec.{eqb}
 use lib.ListN.{length}
 use Rattle.codec.specs.Forms.{File, mmxFile, integerFile, memorySize}
@@ -15,11 +16,12 @@ use Rattle.manual.specs.Addresses.{addressOf, address, addressRegisters}
 use Rattle.manual.specs.Locations.{Location, memory, registerIn, rmOf, bytesFrom, fits, placesOf}
 use Rattle.machine.specs.declared.Places.{Places}
 use Rattle.machine.specs.declared.operands.Spot.{Spot}
-use Rattle.machine.specs.declared.operands.Spot.the-variants.{Integer}
+use Rattle.machine.specs.declared.operands.Spot.the-variants.{Mmx, Integer, Bytes}
+use Rattle.machine.specs.declared.operands.Spot.the-variants as spots
 use Rattle.machine.specs.declared.reaches.Reach.{Reach}
-use Rattle.machine.specs.declared.reaches.Reach.the-variants.{Inside}
+use Rattle.machine.specs.declared.reaches.Reach.the-variants.{Inside, Refused}
 use Rattle.machine.specs.Prints.{mmxNumber, integerNumber, numbersOf, mask, setOf}
-use Rattle.machine.specs.PrintShapes.{nowhere, through, reachOf, behind, reachAt}
+use Rattle.machine.specs.PrintShapes.{nowhere, beside, reachOf, behind}
 use Rattle.machine.specs.Spots.{fileIn, otherOf, spotOf}
 use Rattle.machine.specs.Works.{Listed}
 use Rattle.machine.proofs.Ranges.{count-bytes}
@@ -42,6 +44,13 @@ set-bytes zero a h = absurd (omega arith)
 set-bytes (suc size) a h =
     λ i. record { mmx = mask (no-mmx (suc size) a i); integers = mask (no-integer (suc size) a i); start = a; length = count-bytes (suc size) a i }
 
+-- where the code finds an operand, with the mask of its address registers
+abbrev reachAt : ℕ → ℕ → Spot → Reach
+reachAt registers size (Mmx k) = Inside registers (beside k nowhere)
+reachAt registers size (Integer k) = Inside registers (record { mmx = 0; integers = 2 ^ k; start = 0; length = 0 })
+reachAt registers size (Bytes a) = Inside registers (range a size)
+reachAt registers size (spots.Refused n) = Refused n
+
 -- the operand of r/m, whatever it is
 module _ (s : State) (w : Operand) where
   abbrev spot : Location → Spot
@@ -61,7 +70,7 @@ module _ (s : State) (w : Operand) where
       by : (t : Bool) (f : File) → let x = cond t (registerIn f (w .rm)) (memory (addressOf w) size) in
           reachAt (cond t 0 (mask (addressRegisters (addressOf w)))) size (spot x) ≡ reachOf x (placesOf s x)
       by true mmxFile = refl
-      by true integerFile = refl
+      by true integerFile = simp or-zero-r
       by false f = inside (fits (length (s .memory)) size start) refl
 
   module _ (entry : ℕ) (l : Listed entry) (two : 16 ≤ entry / 2 ^ 24) where
@@ -75,7 +84,8 @@ module _ (s : State) (w : Operand) where
           let form = formOf (entry / 2 ^ 24) in
           h ∙ rw (masked, ← e, found, l .sized two) (reached (fileIn (form .operands)) (memorySize form) (other (entry / 2 ^ 24) (l .listed) two .some))
 
-      pub reach-integer : (k b : ℕ) (p : Places) → y ≡ Integer k → b ≡ 2 ^ k → p ≡ through b nowhere → Inside m p ≡ reachOf there (placesOf s there)
-      reach-integer k b p i f g = reach-there (Inside m p) (simp (i, g, f))
+      pub reach-integer : (k b : ℕ) → y ≡ Integer k → b ≡ 2 ^ k
+          → Inside m (record { mmx = 0; integers = b; start = 0; length = 0 }) ≡ reachOf there (placesOf s there)
+      reach-integer k b i f = reach-there (Inside m (record { mmx = 0; integers = b; start = 0; length = 0 })) (simp (i, f))
 
 pub ruleset print-reaching = (needs, spot-named, register-mmx, register-integer, reach-there, reach-integer)

@@ -6,7 +6,6 @@ use borrow.Author.Needs.{needs}
 use lib.Bits.{or-zero-l}
 use Rattle.reorder.specs.Result.{Result, done, refused, andThen, mapResult}
 use Rattle.reorder.specs.Footprint.{footprintIn}
-use Rattle.codec.specs.declared.Kind.the-variants.{Ordinary}
 use Rattle.manual.specs.State.{State}
 use Rattle.manual.specs.Places.{Place, mmx, integer, look}
 use Rattle.manual.specs.Locations.{Location, mmxRegister}
@@ -51,9 +50,6 @@ module _ (s : State) (k : ℕ) (x : Location) where
   compute-prints f (refused n) = refl
 
 -- the ways as the code makes them
-pub made-ordinary : (m : ℕ) (p q x : Places) → x ≡ through m p → record { reads = x; writes = q; kind = Ordinary } ≡ ordinaryPrint m p q
-made-ordinary m p q x e = simp e
-
 module _ (n k m : ℕ) (p own : Places) (r : Footprint) (e : own ≡ beside k nowhere) where
   by-way : (y : Way) → wayOf n ≡ y → r ≡ shapedAs y k m p → r ≡ shapedAs (wayOf n) k m p
   by-way y w h = h ∙ ap (λ (z : Way). shapedAs z k m p) (sym w)
@@ -67,4 +63,4 @@ module _ (n k m : ℕ) (p own : Places) (r : Footprint) (e : own ≡ beside k no
   pub made-computing : (both : Places) → (Stores n → ⊥) → (Loads n → ⊥) → both ≡ beside k p → r ≡ ordinaryPrint m both own → r ≡ shapedAs (wayOf n) k m p
   made-computing both a b f h = by-way computing (way-computing n a b) (simp (e, f) at h)
 
-pub ruleset print-shapes = (needs, made-ordinary, made-storing, made-loading, made-computing)
+pub ruleset print-shapes = (needs, made-storing, made-loading, made-computing)

@@ -15,9 +15,6 @@ use Rattle.manual.specs.Locations.{Location, registersBehind}
 use Rattle.manual.specs.Effects.{Effect, placed, via}
 use Rattle.machine.specs.declared.Places.{Places}
 use Rattle.machine.specs.declared.Footprint.{Footprint}
-use Rattle.machine.specs.declared.operands.Spot.{Spot}
-use Rattle.machine.specs.declared.operands.Spot.the-variants.{Mmx, Integer, Bytes}
-use Rattle.machine.specs.declared.operands.Spot.the-variants as spot
 use Rattle.machine.specs.declared.reaches.Reach.{Reach}
 use Rattle.machine.specs.declared.reaches.Reach.the-variants.{Inside, Refused}
 use Rattle.machine.specs.Prints.{mask, setOf, print}
@@ -43,13 +40,6 @@ reachOf x (refused n) = Refused n
 -- the mask of the address registers of the operand of r/m: none at mod 11
 abbrev pub behind : Operand → ℕ
 behind w = cond (eqb (w .mode) 3) 0 (mask (addressRegisters (addressOf w)))
-
--- the same of where the code finds it, with the mask of its address registers
-abbrev pub reachAt : ℕ → ℕ → Spot → Reach
-reachAt registers size (Mmx k) = Inside registers (beside k nowhere)
-reachAt registers size (Integer k) = Inside registers (through (2 ^ k) nowhere)
-reachAt registers size (Bytes a) = Inside registers (record { mmx = 0; integers = 0; start = a; length = size })
-reachAt registers size (spot.Refused n) = Refused n
 
 -- what is read, beside the address registers, and what is written
 abbrev pub ordinaryPrint : ℕ → Places → Places → Footprint

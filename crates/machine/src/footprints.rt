@@ -31,8 +31,14 @@ ghost use Rattle.machine.specs.Works.{effectIn, Listed};
 fn ordinary(registers: u8, reads: Places, writes: Places) -> Footprint
     ensures { λ r. ⌜ r ≡ ordinaryPrint registers reads writes ⌝ }
 {
+    let joined = Places {
+        mmx: reads.mmx,
+        integers: registers | reads.integers,
+        start: reads.start,
+        length: reads.length,
+    };
     Footprint {
-        reads: reaches::with_integers(registers, reads),
+        reads: joined,
         writes: writes,
         kind: Kind::Ordinary,
     }

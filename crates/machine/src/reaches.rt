@@ -12,7 +12,7 @@ ghost use Prim.Native.Nat.{_/_, _^_, _≤_, _<_};
 ghost use Rattle.codec.specs.inner.Fields.{Registers};
 ghost use Rattle.manual.specs.Locations.{placesOf};
 ghost use Rattle.machine.specs.State.{stateOf};
-ghost use Rattle.machine.specs.PrintShapes.{beside, through, reachOf};
+ghost use Rattle.machine.specs.PrintShapes.{beside, reachOf};
 ghost use Rattle.machine.specs.Spots.{otherOf};
 ghost use Rattle.machine.specs.Works.{Listed};
 
@@ -43,18 +43,6 @@ pub(crate) fn with_register(register: u8, places: Places) -> Places
     }
 }
 
-// Integer registers beside other places.
-pub(crate) fn with_integers(registers: u8, places: Places) -> Places
-    ensures { λ r. ⌜ r ≡ through registers places ⌝ }
-{
-    Places {
-        mmx: places.mmx,
-        integers: registers | places.integers,
-        start: places.start,
-        length: places.length,
-    }
-}
-
 // The operand that r/m names.
 pub(crate) fn reach_operand(machine: Machine, entry: u32, operand: Operand, memory: &[u8]) -> Reach
     requires { ⌜ Registers operand × (Listed entry × (16 ≤ entry / 2 ^ 24)) ⌝ }
@@ -67,7 +55,12 @@ pub(crate) fn reach_operand(machine: Machine, entry: u32, operand: Operand, memo
         Spot::Mmx(register) => Reach::Inside(registers, with_register(register, NOWHERE)),
         Spot::Integer(register) => Reach::Inside(
             registers,
-            with_integers(register_masks::bit(register), NOWHERE),
+            Places {
+                mmx: 0,
+                integers: register_masks::bit(register),
+                start: 0,
+                length: 0,
+            },
         ),
         Spot::Bytes(address) => Reach::Inside(
             registers,

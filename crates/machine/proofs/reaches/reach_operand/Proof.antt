@@ -13,7 +13,6 @@ reach-operand-spec =
     (λ c κs. search print-reaching)
     (λ c. search print-reaching)
     (λ c κs. search print-reaching)
-    (λ c κs. search print-reaching)
     (λ c. search print-reaching)
     (λ c. search print-reaching)
     (λ c. search print-reaching)
