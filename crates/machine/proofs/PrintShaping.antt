@@ -10,7 +10,8 @@ use Rattle.manual.specs.State.{State}
 use Rattle.manual.specs.Places.{Place, mmx, integer, look}
 use Rattle.manual.specs.Locations.{Location, mmxRegister}
 use Rattle.manual.specs.Effects.{Effect, planOn, via}
-use Rattle.manual.proofs.Direct.{both, move, one}
+use Rattle.manual.proofs.Shapes.{both, move}
+use Rattle.manual.proofs.Direct.{one}
 use Rattle.machine.specs.declared.Places.{Places}
 use Rattle.machine.specs.declared.Footprint.{Footprint}
 use Rattle.machine.specs.declared.reaches.Reach.{Reach}
