@@ -1,27 +1,19 @@
 -- What is read has a number of the table: its form is present, as an absent one is refused, and each number keeps what `Listed` says. Rules for what
 -- the code looks up.
-use mathlib.Core.Path.{_≡_, refl, sym, ap, ap₂, subst, _∙_}
-use mathlib.Core.Bool.{Bool, true, false, not, cond, _&&_, _||_, false≢true}
-use mathlib.Core.List.{List}
+use mathlib.Core.Path.{_≡_, refl, sym, ap, ap₂, _∙_}
+use mathlib.Core.Bool.{Bool, true, false, not, _&&_, _||_, false≢true}
 use Prim.Native.Nat.{ℕ, _/_, _%_, _^_}
 use borrow.Author.Tests.{ltb-true, ltb-false, le-ltb, eqb-true}
 use lib.Dec.{eqb, ltb}
-use lib.ListN.{length, getD, drop}
+use lib.ListN.{getD}
 use Rattle.lanes.specs.Operations.{Operation, operationOf, numbered, MOVE}
-use Rattle.codec.specs.Answers.{Decoded, good, refused, paperOfReading}
 use Rattle.codec.specs.Forms.{Form, isAbsent, memorySize}
 use Rattle.codec.specs.Opcodes.{formAt, operationAt}
 use Rattle.codec.specs.inner.Fields.{Registers}
 use Rattle.codec.specs.Table.{formOf, entryAt, listed, opcodeTable}
 use Rattle.codec.specs.inner.Entries.{operationIn}
-use Rattle.codec.specs.Reads.{readPart, longestCode, readAt}
-use Rattle.codec.specs.Refusals.{codeTooLong}
 use Rattle.codec.specs.declared.Instruction.{Instruction}
-use Rattle.codec.specs.declared.Reading.{Reading}
-use Rattle.codec.specs.declared.Reading.the-variants.{Read}
 use Rattle.words.proofs.Laws.{and-both}
-use Rattle.codec.proofs.Readers.{Holds}
-use Rattle.codec.proofs.Given.{Known, Refusal, reads-known}
 use Rattle.codec.proofs.Entries.{agree, table-entry, form-is, operation-is}
 use Rattle.codec.proofs.Bytes.{form-beyond}
 use Rattle.manual.specs.Instructions.{effectBy, effectOf}
