@@ -6,8 +6,8 @@ use machine::End;
 use machine::Footprint;
 use machine::Machine;
 use machine::Places;
-use machine::Printed;
 use machine::Taken;
+use machine::Tracing;
 use manual::Marks;
 
 // The budget of the page program.
@@ -16,7 +16,7 @@ const BUDGET: u32 = 4096;
 // One byte more than a code and a memory may have.
 const TOO_LONG_CODE: usize = codec::refusals::LONGEST_CODE + 1;
 
-const TOO_LONG_MEMORY: usize = machine::numbers::LONGEST_MEMORY + 1;
+const TOO_LONG_MEMORY: usize = machine::refusals::LONGEST_MEMORY + 1;
 
 // Where nothing is said: MM0, and an address in EAX.
 const FIRST: u64 = 0xff;
@@ -241,7 +241,7 @@ fn show_footprint(footprint: Footprint) {
 }
 
 // The footprint of an instruction.
-fn printed_of(code: &[u8]) -> Printed {
+fn printed_of(code: &[u8]) -> Tracing {
     let memory = [0u8; WIDE_MEMORY];
     machine_with(FIRST, START, false, false).footprint(code, 0, &memory)
 }
@@ -249,20 +249,20 @@ fn printed_of(code: &[u8]) -> Printed {
 fn footprint_of(title: &[u8], code: &[u8]) {
     text(title);
     match printed_of(code) {
-        Printed::Of(footprint) => show_footprint(footprint),
-        Printed::Refused(refusal) => show_refusal(refusal),
+        Tracing::Traced(footprint) => show_footprint(footprint),
+        Tracing::Refused(refusal) => show_refusal(refusal),
     }
     text(b"\n");
 }
 
 // Whether the footprints of two instructions meet: one that is refused has none.
-fn do_meet(one: Printed, other: Printed) -> bool {
+fn do_meet(one: Tracing, other: Tracing) -> bool {
     match one {
-        Printed::Of(first) => match other {
-            Printed::Of(second) => machine::meets(first, second),
-            Printed::Refused(_) => false,
+        Tracing::Traced(first) => match other {
+            Tracing::Traced(second) => machine::meets(first, second),
+            Tracing::Refused(_) => false,
         },
-        Printed::Refused(_) => false,
+        Tracing::Refused(_) => false,
     }
 }
 

@@ -9,7 +9,7 @@ use crate::put::put;
 use crate::put::put_random;
 use crate::put::put_small;
 use codec::refusals::LONGEST_CODE;
-use machine::numbers::LONGEST_MEMORY;
+use machine::refusals::LONGEST_MEMORY;
 use pagefile::LONGEST_FILE;
 
 // How a file is made.

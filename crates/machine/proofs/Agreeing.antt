@@ -23,14 +23,14 @@ use Rattle.machine.specs.declared.Taken.{Taken}
 use Rattle.machine.specs.declared.Taken.the-variants as taken
 use Rattle.machine.specs.declared.End.{End}
 use Rattle.machine.specs.declared.End.the-variants as end
-use Rattle.machine.specs.declared.Printed.{Printed}
-use Rattle.machine.specs.declared.Printed.the-variants as printed
+use Rattle.machine.specs.declared.Tracing.{Tracing}
+use Rattle.machine.specs.declared.Tracing.the-variants as tracing
 use Rattle.machine.specs.declared.Stepped.{Stepped}
 use Rattle.machine.specs.declared.Ran.{Ran}
 use Rattle.machine.specs.State.{stateOf}
 use Rattle.machine.specs.Steps.{paperOfTaken, paperOfStep}
 use Rattle.machine.specs.Runs.{paperOfEnd, paperOfRun}
-use Rattle.machine.specs.Prints.{print, printAt, paperOfFootprint}
+use Rattle.machine.specs.Footprints.{masked, maskedAt, paperOfFootprint}
 
 -- a step that is refused by this number was handed back as such
 step-refused : (stepped : Stepped) (memory : List ℕ) (n at : ℕ) (s : State) → paperOfStep stepped memory ≡ refusedWith n at s → stepped .answer ≡ taken.Refused n
@@ -49,22 +49,22 @@ reading-as-step code memory at n s r stepped fits read-is refusal step =
     step-refused stepped memory n at s (step ∙ simp (fits, sym read-is ∙ ap paperOfReading refusal))
 
 -- "It has no answer for a step that is refused: that step's refusal is given"
-pub footprint-as-step : (code memory : List ℕ) (at n : ℕ) (s : State) (stepped : Stepped) (p : Printed)
-    → paperOfStep stepped memory ≡ stepAt code at s → paperOfFootprint p ≡ printAt code at s
-    → (stepped .answer ≡ taken.Refused n) ↔ (p ≡ printed.Refused n)
-unfolding printAt
-footprint-as-step code memory at n s stepped p step print-is =
-    by (stepped .answer) p (footprintAt code at s) (subst (λ (o : Outcome). Together o (footprintAt code at s)) (sym step) (footprint-exactly code at s)) print-is
+pub footprint-as-step : (code memory : List ℕ) (at n : ℕ) (s : State) (stepped : Stepped) (p : Tracing)
+    → paperOfStep stepped memory ≡ stepAt code at s → paperOfFootprint p ≡ maskedAt code at s
+    → (stepped .answer ≡ taken.Refused n) ↔ (p ≡ tracing.Refused n)
+unfolding maskedAt
+footprint-as-step code memory at n s stepped p step masked-is =
+    by (stepped .answer) p (footprintAt code at s) (subst (λ (o : Outcome). Together o (footprintAt code at s)) (sym step) (footprint-exactly code at s)) masked-is
   where
-    by : (a : Taken) (q : Printed) (o : Result (places.Footprint Place Kind))
-        → Together (paperOfTaken a (stepped .at) (stateOf (stepped .machine) memory)) o → paperOfFootprint q ≡ mapResult print o
-        → (a ≡ taken.Refused n) ↔ (q ≡ printed.Refused n)
-    by taken.Completed (printed.Of f) o t e = (λ h. absurd (false≢true (cc)), λ h. absurd (false≢true (cc)))
-    by taken.Completed (printed.Refused k) (done g) t e = absurd (false≢true (cc))
-    by taken.Completed (printed.Refused k) (refused j) t e = absurd t
+    by : (a : Taken) (q : Tracing) (o : Result (places.Footprint Place Kind))
+        → Together (paperOfTaken a (stepped .at) (stateOf (stepped .machine) memory)) o → paperOfFootprint q ≡ mapResult masked o
+        → (a ≡ taken.Refused n) ↔ (q ≡ tracing.Refused n)
+    by taken.Completed (tracing.Traced f) o t e = (λ h. absurd (false≢true (cc)), λ h. absurd (false≢true (cc)))
+    by taken.Completed (tracing.Refused k) (done g) t e = absurd (false≢true (cc))
+    by taken.Completed (tracing.Refused k) (refused j) t e = absurd t
     by (taken.Refused m) q (done g) t e = absurd t
-    by (taken.Refused m) (printed.Of f) (refused j) t e = absurd (false≢true (cc))
-    by (taken.Refused m) (printed.Refused k) (refused j) t e = (λ h. cc, λ h. cc)
+    by (taken.Refused m) (tracing.Traced f) (refused j) t e = absurd (false≢true (cc))
+    by (taken.Refused m) (tracing.Refused k) (refused j) t e = (λ h. cc, λ h. cc)
 
 -- a refused run has come to a step that is refused by the same number
 pub run-as-step : (code after left : List ℕ) (budget n : ℕ) (s : State) (ran : Ran) (stepped : Stepped)

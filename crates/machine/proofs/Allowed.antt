@@ -24,9 +24,9 @@ use Rattle.machine.proofs.Machine.step.Reads as step-reads
 use Rattle.machine.proofs.Machine.step.Kinds as step-kinds
 use Rattle.machine.proofs.Machine.run.Reads as run-reads
 use Rattle.machine.proofs.Machine.run.Kinds as run-kinds
-use Rattle.machine.specs.declared.Printed.{Printed}
-use Rattle.machine.specs.declared.Printed.the-variants as printed
-use Rattle.machine.specs.Prints.{paperOfFootprint}
+use Rattle.machine.specs.declared.Tracing.{Tracing}
+use Rattle.machine.specs.declared.Tracing.the-variants as tracing
+use Rattle.machine.specs.Footprints.{paperOfFootprint}
 use Rattle.machine.proofs.Machine.footprint.Reads as footprint-reads
 use Rattle.machine.proofs.Machine.footprint.Kinds as footprint-kinds
 use Rattle.machine.proofs.meetings.meets.Reads as meets-reads
@@ -90,16 +90,16 @@ pub run-one : (κs : Lfts 2) (a : Dens κs run-kinds.ps) (r₁ r₂ : resT run-k
     → run-reads.Post κs a r₁ s₁ → run-reads.Post κs a r₂ s₂ → (r₁ ≡ r₂) × (now (s₁ .1 .1 .0) ≡ now (s₂ .1 .1 .0))
 run-one κs a r₁ r₂ s₁ s₂ p q = run-given r₁ r₂ (now (s₁ .1 .1 .0)) (now (s₂ .1 .1 .0)) (p ∙ sym q)
 
-printed-one : (x y : Printed) → paperOfFootprint x ≡ paperOfFootprint y → x ≡ y
-printed-one (printed.Of f) (printed.Of g) e = cc
-printed-one (printed.Of f) (printed.Refused n) e = cc
-printed-one (printed.Refused m) (printed.Of g) e = cc
-printed-one (printed.Refused m) (printed.Refused n) e = cc
+traced-one : (x y : Tracing) → paperOfFootprint x ≡ paperOfFootprint y → x ≡ y
+traced-one (tracing.Traced f) (tracing.Traced g) e = cc
+traced-one (tracing.Traced f) (tracing.Refused n) e = cc
+traced-one (tracing.Refused m) (tracing.Traced g) e = cc
+traced-one (tracing.Refused m) (tracing.Refused n) e = cc
 
 pub footprint-one : (κs : Lfts 2) (a : Dens κs footprint-kinds.ps) (r₁ r₂ : resT footprint-kinds.r κs .Denot)
     (s₁ s₂ : AtExit (endedOf 2 footprint-kinds.ps footprint-kinds.r) κs)
     → footprint-reads.Post κs a r₁ s₁ → footprint-reads.Post κs a r₂ s₂ → r₁ ≡ r₂
-footprint-one κs a r₁ r₂ s₁ s₂ p q = printed-one r₁ r₂ (p ∙ sym q)
+footprint-one κs a r₁ r₂ s₁ s₂ p q = traced-one r₁ r₂ (p ∙ sym q)
 
 pub meets-one : (κs : Lfts 0) (a : Dens κs meets-kinds.ps) (r₁ r₂ : resT meets-kinds.r κs .Denot)
     (s₁ s₂ : AtExit (endedOf 0 meets-kinds.ps meets-kinds.r) κs)

@@ -11,11 +11,11 @@ use denote.Ref.{RefT, now}
 use Rattle.manual.specs.Runs.{runOf}
 use Rattle.machine.specs.declared.Machine.{Machine}
 use Rattle.machine.specs.declared.Footprint.{Footprint}
-use Rattle.machine.specs.declared.Printed.{Printed}
+use Rattle.machine.specs.declared.Tracing.{Tracing}
 use Rattle.machine.specs.declared.Ran.{Ran}
 use Rattle.machine.specs.State.{stateOf}
 use Rattle.machine.specs.Runs.{paperOfRun}
-use Rattle.machine.specs.Prints.{printAt, paperOfFootprint, meet}
+use Rattle.machine.specs.Footprints.{maskedAt, paperOfFootprint, meet}
 use Rattle.machine.proofs.Machine.run.Reads as run-reads
 use Rattle.machine.proofs.Machine.run.Kinds as run-kinds
 use Rattle.machine.proofs.Machine.footprint.Reads as footprint-reads
@@ -36,7 +36,7 @@ pub record RunCall (machine : Machine) (code memory : List ℕ) (budget : ℕ) (
   pub left : now (exit .1 .1 .0) ≡ after
 
 -- machine.footprint(code, at, memory) handed back `answer`
-pub record FootprintCall (machine : Machine) (code : List ℕ) (at : ℕ) (memory : List ℕ) (answer : Printed) : Type 1 where
+pub record FootprintCall (machine : Machine) (code : List ℕ) (at : ℕ) (memory : List ℕ) (answer : Tracing) : Type 1 where
   pub κs : Lfts 2
   pub given : Dens κs footprint-kinds.ps
   pub exit : AtExit (endedOf 2 footprint-kinds.ps footprint-kinds.r) κs
@@ -64,12 +64,12 @@ run-says machine code memory budget answer after c =
     ∙ ap₂ (λ (x : List ℕ) (n : ℕ). runOf x n (stateOf (c .given .0) (now (c .given .1 .1 .0)))) (c .with-code) (c .with-budget)
     ∙ ap₂ (λ (m : Machine) (x : List ℕ). runOf code budget (stateOf m x)) (c .with-machine) (c .with-memory)
 
-pub footprint-says : (machine : Machine) (code : List ℕ) (at : ℕ) (memory : List ℕ) (answer : Printed) → FootprintCall machine code at memory answer
-    → paperOfFootprint answer ≡ printAt code at (stateOf machine memory)
+pub footprint-says : (machine : Machine) (code : List ℕ) (at : ℕ) (memory : List ℕ) (answer : Tracing) → FootprintCall machine code at memory answer
+    → paperOfFootprint answer ≡ maskedAt code at (stateOf machine memory)
 footprint-says machine code at memory answer c =
     c .met
-    ∙ ap₂ (λ (x : List ℕ) (n : ℕ). printAt x n (stateOf (c .given .0) (now (c .given .1 .1 .1 .0)))) (c .with-code) (c .with-position)
-    ∙ ap₂ (λ (m : Machine) (x : List ℕ). printAt code at (stateOf m x)) (c .with-machine) (c .with-memory)
+    ∙ ap₂ (λ (x : List ℕ) (n : ℕ). maskedAt x n (stateOf (c .given .0) (now (c .given .1 .1 .1 .0)))) (c .with-code) (c .with-position)
+    ∙ ap₂ (λ (m : Machine) (x : List ℕ). maskedAt code at (stateOf m x)) (c .with-machine) (c .with-memory)
 
 pub meets-says : (first second : Footprint) (answer : Bool) → MeetsCall first second answer → answer ≡ meet first second
 meets-says first second answer c = c .met ∙ ap₂ meet (c .with-first) (c .with-second)
@@ -95,8 +95,8 @@ run-there machine code memory budget answer after e =
       left = refl;
     }
 
-pub footprint-there : (machine : Machine) (code : List ℕ) (at : ℕ) (memory : List ℕ) (answer : Printed)
-    → paperOfFootprint answer ≡ printAt code at (stateOf machine memory) → FootprintCall machine code at memory answer
+pub footprint-there : (machine : Machine) (code : List ℕ) (at : ℕ) (memory : List ℕ) (answer : Tracing)
+    → paperOfFootprint answer ≡ maskedAt code at (stateOf machine memory) → FootprintCall machine code at memory answer
 footprint-there machine code at memory answer e =
     record {
       κs = ([], ([], tt));

@@ -27,8 +27,8 @@ use Rattle.manual.specs.Footprints.{footprintAt, footprintInRun, Meets}
 use Rattle.manual.proofs.Example.{block, start, final, allowed, forbidden}
 use Rattle.manual.proofs.Computed.{computed}
 use Rattle.manual.proofs.Demand3.{demand-3}
-use Rattle.machine.specs.Prints.{overlap, share, meet, meetTest}
-use Rattle.machine.proofs.Meeting.{meet-test-exactly}
+use Rattle.machine.specs.Footprints.{overlap, share, meet, meetTest}
+use Rattle.machine.proofs.laws.meetings.Meeting.{meet-test-exactly}
 use Rattle.machine.proofs.Positions.{ranged-run}
 
 -- two instructions of the block meet in its run: by their places, and by the program's test

@@ -17,16 +17,16 @@ use Rattle.manual.specs.Steps.{instructionAt}
 use Rattle.manual.specs.Runs.{runOf}
 use Rattle.manual.specs.Footprints.{footprintAt, footprintInRun, Meets}
 use Rattle.machine.specs.declared.Places.{Places}
-use Rattle.machine.specs.Prints.{print, meet}
-use Rattle.machine.proofs.Ranges.{OneRange, RangedPrint, ranged}
-use Rattle.machine.proofs.Printing.{byte-printed}
-use Rattle.machine.proofs.Meeting.{meet-exactly}
+use Rattle.machine.specs.Footprints.{masked, meet}
+use Rattle.machine.proofs.laws.meetings.Ranges.{OneRange, RangedFootprint, ranged}
+use Rattle.machine.proofs.laws.meetings.Masking.{byte-masked}
+use Rattle.machine.proofs.laws.meetings.Meeting.{meet-exactly}
 
-ranged-reading : (o : Result (Fetched Instruction)) (s : State) → RangedPrint (andThen o (λ r. footprint (r .instruction) s))
+ranged-reading : (o : Result (Fetched Instruction)) (s : State) → RangedFootprint (andThen o (λ r. footprint (r .instruction) s))
 ranged-reading (done r) s = ranged s (r .instruction)
 ranged-reading (refused n) s = tt
 
-ranged-at : (code : List ℕ) (at : ℕ) (s : State) → RangedPrint (footprintAt code at s)
+ranged-at : (code : List ℕ) (at : ℕ) (s : State) → RangedFootprint (footprintAt code at s)
 unfolding footprintAt
 ranged-at code at s = ranged-reading (instructionAt code at s) s
 
@@ -36,20 +36,20 @@ Covers p a = (p .start ≤ a) × (a < p .start + p .length)
 
 module _ (code : List ℕ) (at : ℕ) (s : State) (f : places.Footprint Place Kind) (e : footprintAt code at s ≡ done f) where
   one-range : OneRange f
-  one-range = subst RangedPrint e (ranged-at code at s)
+  one-range = subst RangedFootprint e (ranged-at code at s)
 
   -- the ranges of what is read and of what is written cover the bytes that are, and no other
-  pub reads-bytes : (a : ℕ) → Covers (print f .reads) a ↔ In (byte a) (f .reads)
-  reads-bytes a = byte-printed a (f .reads) (one-range .reads)
+  pub reads-bytes : (a : ℕ) → Covers (masked f .reads) a ↔ In (byte a) (f .reads)
+  reads-bytes a = byte-masked a (f .reads) (one-range .reads)
 
-  pub writes-bytes : (a : ℕ) → Covers (print f .writes) a ↔ In (byte a) (f .writes)
-  writes-bytes a = byte-printed a (f .writes) (one-range .writes)
+  pub writes-bytes : (a : ℕ) → Covers (masked f .writes) a ↔ In (byte a) (f .writes)
+  writes-bytes a = byte-masked a (f .writes) (one-range .writes)
 
 -- the footprints of two steps, wherever they stand
 pub meet-at : (code code′ : List ℕ) (at at′ : ℕ) (s s′ : State) (f g : places.Footprint Place Kind)
-    → footprintAt code at s ≡ done f → footprintAt code′ at′ s′ ≡ done g → (meet (print f) (print g) ≡ true) ↔ Meets (done f) (done g)
+    → footprintAt code at s ≡ done f → footprintAt code′ at′ s′ ≡ done g → (meet (masked f) (masked g) ≡ true) ↔ Meets (done f) (done g)
 meet-at code code′ at at′ s s′ f g ef eg = meet-exactly f g (one-range code at s f ef) (one-range code′ at′ s′ g eg)
 
 -- and of the step that a run has come to
-pub ranged-run : (code : List ℕ) (start : State) (k : ℕ) → RangedPrint (footprintInRun code start k)
+pub ranged-run : (code : List ℕ) (start : State) (k : ℕ) → RangedFootprint (footprintInRun code start k)
 ranged-run code start k = let answer = runOf code k start in ranged-at code (positionReached answer) (stateReached answer)

@@ -19,13 +19,13 @@ use Rattle.manual.specs.Footprints.{footprintAt, footprintInRun}
 use Rattle.manual.proofs.Demand3.{positionInRun, part, map-alike, has-footprint, rearranged-parts}
 use Rattle.machine.specs.declared.Machine.{Machine}
 use Rattle.machine.specs.declared.Footprint.{Footprint}
-use Rattle.machine.specs.declared.Printed.the-variants.{Of}
+use Rattle.machine.specs.declared.Tracing.the-variants.{Traced}
 use Rattle.machine.specs.declared.End.{End}
 use Rattle.machine.specs.declared.End.the-variants.{Done, Spent, Refused}
 use Rattle.machine.specs.declared.Ran.{Ran}
 use Rattle.machine.specs.State.{stateOf}
 use Rattle.machine.specs.Runs.{paperOfEnd, paperOfRun}
-use Rattle.machine.specs.Prints.{print, printAt, meet, meetTest}
+use Rattle.machine.specs.Footprints.{masked, maskedAt, meet, meetTest}
 use Rattle.machine.proofs.Tested.{demand-3-tested}
 use Rattle.machine.proofs.Allowed.{After, machineIn, runBack, run-handed, run-given}
 use Rattle.machine.proofs.Calls.{RunCall, FootprintCall, MeetsCall, run-says, footprint-says, meets-says, run-there, footprint-there, meets-there}
@@ -53,12 +53,12 @@ module _ (machine : Machine) (code memory : List ℕ) (k : ℕ) (answer : Ran) (
   state-called = ap stateReached called ∙ state-handed (answer .end) (answer .at) (answer .count) (stateOf (answer .machine) after)
 
   -- so its footprint there is that of the instruction in the run
-  print-called : footprintInRun code (stateOf machine memory) k ≡ footprintAt code (answer .at) (stateOf (answer .machine) after)
-  print-called = ap₂ (footprintAt code) position-called state-called
+  footprint-called : footprintInRun code (stateOf machine memory) k ≡ footprintAt code (answer .at) (stateOf (answer .machine) after)
+  footprint-called = ap₂ (footprintAt code) position-called state-called
 
 -- the program's test of two footprints is its test of what it handed out of them
-handed-test : (x y : Result (places.Footprint Place Kind)) (f g : Footprint) → mapResult print x ≡ done f → mapResult print y ≡ done g → meetTest x y ≡ meet f g
-handed-test (done a) (done b) f g ex ey = let same : print a ≡ f = cc in let same′ : print b ≡ g = cc in ap₂ meet same same′
+handed-test : (x y : Result (places.Footprint Place Kind)) (f g : Footprint) → mapResult masked x ≡ done f → mapResult masked y ≡ done g → meetTest x y ≡ meet f g
+handed-test (done a) (done b) f g ex ey = let same : masked a ≡ f = cc in let same′ : masked b ≡ g = cc in ap₂ meet same same′
 handed-test (done a) (refused n) f g ex ey = absurd (false≢true (cc))
 handed-test (refused n) y f g ex ey = absurd (false≢true (cc))
 
@@ -71,10 +71,10 @@ pub record Recorded (machine : Machine) (code memory : List ℕ) (budget : ℕ) 
   pub runs : ℕ → Ran
   pub memories : ℕ → List ℕ
   pub run-of : (k : ℕ) → k ≤ whole .count → RunCall machine code memory k (runs k) (memories k)
-  pub prints : ℕ → Footprint
-  pub print-of : (k : ℕ) → k < whole .count → FootprintCall (runs k .machine) code (runs k .at) (memories k) (Of (prints k))
+  pub footprints : ℕ → Footprint
+  pub footprint-of : (k : ℕ) → k < whole .count → FootprintCall (runs k .machine) code (runs k .at) (memories k) (Traced (footprints k))
   pub meeting : ℕ → ℕ → Bool
-  pub meeting-of : (i j : ℕ) → i < j → j < whole .count → MeetsCall (prints i) (prints j) (meeting i j)
+  pub meeting-of : (i j : ℕ) → i < j → j < whole .count → MeetsCall (footprints i) (footprints j) (meeting i j)
 
 module _ (machine : Machine) (code memory : List ℕ) (budget : ℕ) (whole : Ran) (after : List ℕ) (known : Recorded machine code memory budget whole after) where
   -- the block in a new order: of each instruction the bytes from where the run before it came to, to where the run with it did
@@ -90,11 +90,11 @@ module _ (machine : Machine) (code memory : List ℕ) (budget : ℕ) (whole : Ra
   position-of : (k : ℕ) → k ≤ whole .count → positionInRun code start k ≡ known .runs k .at
   position-of k b = position-called machine code memory k (known .runs k) (known .memories k) (known .run-of k b)
 
-  printed : (k : ℕ) → k < whole .count → mapResult print (footprintInRun code start k) ≡ done (known .prints k)
-  unfolding printAt
-  printed k b =
-      ap (mapResult print) (print-called machine code memory k (known .runs k) (known .memories k) (known .run-of k (omega arith)))
-      ∙ sym (footprint-says (known .runs k .machine) code (known .runs k .at) (known .memories k) (Of (known .prints k)) (known .print-of k b))
+  masked-footprint : (k : ℕ) → k < whole .count → mapResult masked (footprintInRun code start k) ≡ done (known .footprints k)
+  unfolding maskedAt
+  masked-footprint k b =
+      ap (mapResult masked) (footprint-called machine code memory k (known .runs k) (known .memories k) (known .run-of k (omega arith)))
+      ∙ sym (footprint-says (known .runs k .machine) code (known .runs k .at) (known .memories k) (Traced (known .footprints k)) (known .footprint-of k b))
 
   same-block : (order : List ℕ) → NewOrder (whole .count) order → rearranged read code order ≡ moved order
   same-block order new =
@@ -118,8 +118,8 @@ module _ (machine : Machine) (code memory : List ℕ) (budget : ℕ) (whole : Ra
       kept : Keeps (whole .count) order (λ i j. meetTest (footprintInRun code start i) (footprintInRun code start j) ≡ true)
       kept i j p q earlier j-in p-in q-in at-p at-q m =
           keeps i j p q earlier j-in p-in q-in at-p at-q
-          (meets-says (known .prints i) (known .prints j) (known .meeting i j) (known .meeting-of i j earlier j-in)
-          ∙ sym (handed-test (footprintInRun code start i) (footprintInRun code start j) (known .prints i) (known .prints j) (printed i (omega arith)) (printed j j-in))
+          (meets-says (known .footprints i) (known .footprints j) (known .meeting i j) (known .meeting-of i j earlier j-in)
+          ∙ sym (handed-test (footprintInRun code start i) (footprintInRun code start j) (known .footprints i) (known .footprints j) (masked-footprint i (omega arith)) (masked-footprint j j-in))
           ∙ m)
 
 -- What is recorded can be had of every block whose run is done.
@@ -134,17 +134,17 @@ module _ (machine : Machine) (code memory : List ℕ) (budget end total : ℕ) (
 
   -- the footprint that is handed out of a result (of a refusal, which there is none of below the count, this stands in)
   handedOut : Result (places.Footprint Place Kind) → Footprint
-  handedOut (done f) = print f
-  handedOut (refused n) = print (record { reads = []; writes = []; kind = Ordinary })
+  handedOut (done f) = masked f
+  handedOut (refused n) = masked (record { reads = []; writes = []; kind = Ordinary })
 
-  handed-print : (k : ℕ) → k < total
-      → FootprintCall (handed k .answer .machine) code (handed k .answer .at) (handed k .memory) (Of (handedOut (footprintInRun code (stateOf machine memory) k)))
-  unfolding handedOut printAt
-  handed-print k b =
+  handed-footprint : (k : ℕ) → k < total
+      → FootprintCall (handed k .answer .machine) code (handed k .answer .at) (handed k .memory) (Traced (handedOut (footprintInRun code (stateOf machine memory) k)))
+  unfolding handedOut maskedAt
+  handed-footprint k b =
       let (f, e) = has-footprint code budget end total (stateOf machine memory) final h k b in
       footprint-there (handed k .answer .machine) code (handed k .answer .at) (handed k .memory) _
       (ap (λ o. done (handedOut o)) e
-      ∙ ap (mapResult print) (sym e ∙ print-called machine code memory k (handed k .answer) (handed k .memory) (handed-run k)))
+      ∙ ap (mapResult masked) (sym e ∙ footprint-called machine code memory k (handed k .answer) (handed k .memory) (handed-run k)))
 
   pub recorded : Recorded machine code memory budget (record { end = Done; at = end; count = total; machine = machineIn final }) (final .memory)
   recorded =
@@ -154,8 +154,8 @@ module _ (machine : Machine) (code memory : List ℕ) (budget end total : ℕ) (
         runs = λ k. handed k .answer;
         memories = λ k. handed k .memory;
         run-of = λ k b. handed-run k;
-        prints = λ k. handedOut (footprintInRun code (stateOf machine memory) k);
-        print-of = handed-print;
+        footprints = λ k. handedOut (footprintInRun code (stateOf machine memory) k);
+        footprint-of = handed-footprint;
         meeting = λ i j. meet (handedOut (footprintInRun code (stateOf machine memory) i)) (handedOut (footprintInRun code (stateOf machine memory) j));
         meeting-of = λ i j earlier b. meets-there _ _;
       }

@@ -10,8 +10,8 @@ use Rattle.manual.specs.State.{State}
 use Rattle.manual.specs.Runs.{read, runOf}
 use Rattle.manual.specs.Footprints.{footprintInRun}
 use Rattle.manual.proofs.Demand3.{demand-3}
-use Rattle.machine.specs.Prints.{meetTest}
-use Rattle.machine.proofs.Meeting.{meet-test-exactly}
+use Rattle.machine.specs.Footprints.{meetTest}
+use Rattle.machine.proofs.laws.meetings.Meeting.{meet-test-exactly}
 use Rattle.machine.proofs.Positions.{ranged-run}
 
 pub demand-3-tested : (code order : List ℕ) (budget end total : ℕ) (start final : State)

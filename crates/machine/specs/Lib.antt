@@ -1,10 +1,8 @@
 -- What the code's types are in the manual's words: the state of a machine, the paper's answers for a step and a run, footprints as masks and
--- ranges, the machine of a page; then the words of the code's private contracts.
+-- ranges, the machine of a page; then the words of private contracts.
 pub mod State
 pub mod Steps
 pub mod Runs
-pub mod Prints
+pub mod Footprints
 pub mod Starts
-pub mod Spots
-pub mod Works
-pub mod PrintShapes
+pub mod inner

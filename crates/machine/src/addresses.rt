@@ -1,9 +1,9 @@
 // The address of an operand in memory: base, index times scale, and displacement, in sums that wrap at 2^32.
-use crate::numbers::NO_INDEX;
 use codec::Operand;
 use codec::modes::BYTE_DISPLACEMENT;
 use codec::modes::NO_BASE;
 use codec::modes::NO_DISPLACEMENT;
+use codec::modes::NO_INDEX;
 use codec::modes::SIB;
 ghost use mathlib.Core.Path.{_≡_};
 ghost use Prim.Native.Nat.{_*_, _^_, _%_, _<_};

@@ -2,12 +2,12 @@
 use crate::Footprint;
 use crate::Machine;
 use crate::Places;
-use crate::Printed;
+use crate::Tracing;
 use crate::gathering;
-use crate::numbers::LONGEST_MEMORY;
-use crate::numbers::MEMORY_TOO_LONG;
 use crate::reaches;
 use crate::reaches::Reach;
+use crate::refusals::LONGEST_MEMORY;
+use crate::refusals::MEMORY_TOO_LONG;
 use codec::Instruction;
 use codec::Kind;
 use codec::forms::EMMS;
@@ -23,13 +23,13 @@ ghost use mathlib.Core.Path.{_≡_};
 ghost use Prim.Native.Nat.{_/_, _^_, _≤_, _<_};
 ghost use Rattle.codec.specs.inner.Fields.{Registers};
 ghost use Rattle.machine.specs.State.{stateOf};
-ghost use Rattle.machine.specs.Prints.{printAt, paperOfFootprint};
-ghost use Rattle.machine.specs.PrintShapes.{ordinaryPrint, wayOf, shapedAs, unmarkedPrint};
-ghost use Rattle.machine.specs.Works.{effectIn, Listed};
+ghost use Rattle.machine.specs.Footprints.{maskedAt, paperOfFootprint};
+ghost use Rattle.machine.specs.inner.Shapes.{ordinaryFootprint, wayOf, shapedAs, unmarkedFootprint};
+ghost use Rattle.machine.specs.inner.Works.{effectIn, Listed};
 
 // What is read, with the address registers, and what is written.
 fn ordinary(registers: u8, reads: Places, writes: Places) -> Footprint
-    ensures { λ r. ⌜ r ≡ ordinaryPrint registers reads writes ⌝ }
+    ensures { λ r. ⌜ r ≡ ordinaryFootprint registers reads writes ⌝ }
 {
     let joined = Places {
         mmx: reads.mmx,
@@ -58,41 +58,41 @@ fn shaped(form: u32, register: u8, registers: u8, places: Places) -> Footprint
 }
 
 // An instruction with two operands.
-fn two_operands(machine: Machine, entry: u32, instruction: Instruction, memory: &[u8]) -> Printed
+fn two_operands(machine: Machine, entry: u32, instruction: Instruction, memory: &[u8]) -> Tracing
     requires { ⌜ Registers (instruction .operand) × (Listed entry × (16 ≤ entry / 2 ^ 24)) ⌝ }
-    ensures { λ r. ⌜ paperOfFootprint r ≡ unmarkedPrint (effectIn entry instruction) (stateOf machine (now (memory .entry))) ⌝ }
+    ensures { λ r. ⌜ paperOfFootprint r ≡ unmarkedFootprint (effectIn entry instruction) (stateOf machine (now (memory .entry))) ⌝ }
 {
     let operand = instruction.operand;
     let reached = reaches::reach_operand(machine, entry, operand, memory);
     match reached {
-        Reach::Inside(registers, places) => Printed::Of(shaped(
+        Reach::Inside(registers, places) => Tracing::Traced(shaped(
             entry / FORM,
             operand.reg,
             registers,
             places,
         )),
-        Reach::Refused(refusal) => Printed::Refused(refusal),
+        Reach::Refused(refusal) => Tracing::Refused(refusal),
     }
 }
 
 // An instruction that the control marks let pass.
-fn unmarked(machine: Machine, entry: u32, instruction: Instruction, memory: &[u8]) -> Printed
+fn unmarked(machine: Machine, entry: u32, instruction: Instruction, memory: &[u8]) -> Tracing
     requires { ⌜ Registers (instruction .operand) × Listed entry ⌝ }
-    ensures { λ r. ⌜ paperOfFootprint r ≡ unmarkedPrint (effectIn entry instruction) (stateOf machine (now (memory .entry))) ⌝ }
+    ensures { λ r. ⌜ paperOfFootprint r ≡ unmarkedFootprint (effectIn entry instruction) (stateOf machine (now (memory .entry))) ⌝ }
 {
     let form = entry / FORM;
     if TWO_OPERANDS <= form {
         return two_operands(machine, entry, instruction, memory);
     }
     if form == EMMS {
-        return Printed::Of(Footprint {
+        return Tracing::Traced(Footprint {
             reads: reaches::NOWHERE,
             writes: reaches::NOWHERE,
             kind: Kind::Emms,
         });
     }
     let register = reaches::with_register(instruction.operand.rm, reaches::NOWHERE);
-    Printed::Of(Footprint {
+    Tracing::Traced(Footprint {
         reads: register,
         writes: register,
         kind: Kind::Ordinary,
@@ -101,24 +101,24 @@ fn unmarked(machine: Machine, entry: u32, instruction: Instruction, memory: &[u8
 
 impl Machine {
     // What the step at a position reads and writes.
-    pub fn footprint(self, code: &[u8], at: usize, memory: &[u8]) -> Printed
-        ensures { λ r. ⌜ paperOfFootprint r ≡ printAt (now (code .entry)) at (stateOf self (now (memory .entry))) ⌝ }
+    pub fn footprint(self, code: &[u8], at: usize, memory: &[u8]) -> Tracing
+        ensures { λ r. ⌜ paperOfFootprint r ≡ maskedAt (now (code .entry)) at (stateOf self (now (memory .entry))) ⌝ }
     {
         if LONGEST_MEMORY < memory.len() {
-            return Printed::Refused(MEMORY_TOO_LONG);
+            return Tracing::Refused(MEMORY_TOO_LONG);
         }
         if LONGEST_CODE < code.len() {
-            return Printed::Refused(CODE_TOO_LONG);
+            return Tracing::Refused(CODE_TOO_LONG);
         }
         let table = codec::table();
         let found = codec::read_from(&table, code, at);
         let refusal = found.refusal;
         if refusal != 0 {
-            return Printed::Refused(refusal);
+            return Tracing::Refused(refusal);
         }
         let bar = gathering::barred(self.marks);
         if bar != 0 {
-            return Printed::Refused(bar);
+            return Tracing::Refused(bar);
         }
         let instruction = found.instruction;
         unmarked(self, found.entry, instruction, memory)

@@ -1,9 +1,9 @@
 // The instruction at a position is read and its operands are gathered; what is left to do is then plain numbers. Nothing is written here.
-use crate::numbers::INVALID_OPCODE;
-use crate::numbers::IS_PENDING;
-use crate::numbers::NOT_AVAILABLE;
 use crate::operands;
 use crate::operands::Spot;
+use crate::refusals::INVALID_OPCODE;
+use crate::refusals::IS_PENDING;
+use crate::refusals::NOT_AVAILABLE;
 use crate::shifts;
 use codec::Instruction;
 use codec::forms::EMMS;
@@ -22,8 +22,8 @@ ghost use Rattle.codec.specs.inner.Fields.{Registers};
 ghost use Rattle.codec.specs.Table.{opcodeTable};
 ghost use Rattle.codec.specs.Reads.{longestCode};
 ghost use Rattle.manual.specs.State.{longestMemory};
-ghost use Rattle.machine.specs.Spots.{Named};
-ghost use Rattle.machine.specs.Works.{barredBy, effectIn, Listed, workOf, refusedWork, putWork, takeWork, Does, Gathered};
+ghost use Rattle.machine.specs.inner.Spots.{Named};
+ghost use Rattle.machine.specs.inner.Works.{barredBy, effectIn, Listed, workOf, refusedWork, putWork, takeWork, Does, Gathered};
 
 // How many values a doubleword has.
 pub(crate) const DOUBLEWORD_RANGE: u64 = 0x100000000;

@@ -3,9 +3,9 @@ mod addresses;
 mod footprints;
 mod gathering;
 mod meetings;
-pub mod numbers;
 mod operands;
 mod reaches;
+pub mod refusals;
 mod register_masks;
 mod running;
 mod shifts;
@@ -69,7 +69,7 @@ pub struct Footprint {
 }
 
 // The footprint of a step, or the step's refusal.
-pub enum Printed {
-    Of(Footprint),
+pub enum Tracing {
+    Traced(Footprint),
     Refused(u8),
 }

@@ -4,7 +4,7 @@ use crate::Places;
 use codec::Kind;
 ghost use mathlib.Core.Path.{_≡_};
 ghost use Rattle.manual.specs.Kinds.{kindsMeet};
-ghost use Rattle.machine.specs.Prints.{overlap, share, meet};
+ghost use Rattle.machine.specs.Footprints.{overlap, share, meet};
 
 // Two ranges of bytes have one in common. No sum is formed, so nothing overflows.
 fn overlaps(start: usize, size: usize, other: usize, count: usize) -> bool

@@ -1,6 +1,6 @@
 // Where the operand that r/m names is: in a register, or in memory at an address that is tested.
 use crate::addresses;
-use crate::numbers::OUTSIDE_MEMORY;
+use crate::refusals::OUTSIDE_MEMORY;
 use codec::Operand;
 use codec::forms::FORM;
 use codec::forms::LOAD_D;
@@ -11,8 +11,8 @@ ghost use mathlib.Core.Path.{_≡_};
 ghost use Prim.Native.Nat.{_+_, _/_, _^_, _≤_};
 ghost use lib.Dec.{leb};
 ghost use Rattle.codec.specs.inner.Fields.{Registers};
-ghost use Rattle.machine.specs.Works.{Listed};
-ghost use Rattle.machine.specs.Spots.{otherOf, spotOf};
+ghost use Rattle.machine.specs.inner.Works.{Listed};
+ghost use Rattle.machine.specs.inner.Spots.{otherOf, spotOf};
 
 // The number of the MMX register or of the integer register, the address of the first byte, or the refusal.
 pub(crate) enum Spot {

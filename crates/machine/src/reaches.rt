@@ -12,9 +12,9 @@ ghost use Prim.Native.Nat.{_/_, _^_, _≤_, _<_};
 ghost use Rattle.codec.specs.inner.Fields.{Registers};
 ghost use Rattle.manual.specs.Locations.{placesOf};
 ghost use Rattle.machine.specs.State.{stateOf};
-ghost use Rattle.machine.specs.PrintShapes.{beside, reachOf};
-ghost use Rattle.machine.specs.Spots.{otherOf};
-ghost use Rattle.machine.specs.Works.{Listed};
+ghost use Rattle.machine.specs.inner.Shapes.{beside, reachOf};
+ghost use Rattle.machine.specs.inner.Spots.{otherOf};
+ghost use Rattle.machine.specs.inner.Works.{Listed};
 
 // No places.
 pub(crate) const NOWHERE: Places = Places {

@@ -1,16 +1,16 @@
 // Register sets as masks: one register, and those that an address is made of.
-use crate::numbers::NO_INDEX;
 use codec::Operand;
 use codec::modes::NO_BASE;
 use codec::modes::NO_DISPLACEMENT;
+use codec::modes::NO_INDEX;
 use codec::modes::REGISTER;
 use codec::modes::SIB;
 ghost use mathlib.Core.Path.{_≡_};
 ghost use Prim.Native.Nat.{_^_, _<_};
 ghost use Rattle.codec.specs.inner.Fields.{Registers};
 ghost use Rattle.manual.specs.Addresses.{baseOf, indexOf, registersOf};
-ghost use Rattle.machine.specs.Prints.{mask};
-ghost use Rattle.machine.specs.PrintShapes.{behind};
+ghost use Rattle.machine.specs.Footprints.{mask};
+ghost use Rattle.machine.specs.inner.Shapes.{behind};
 
 // The mask of one register.
 pub(crate) fn bit(register: u8) -> u8

@@ -3,8 +3,8 @@ use crate::Machine;
 use crate::Stepped;
 use crate::Taken;
 use crate::gathering;
-use crate::numbers::LONGEST_MEMORY;
-use crate::numbers::MEMORY_TOO_LONG;
+use crate::refusals::LONGEST_MEMORY;
+use crate::refusals::MEMORY_TOO_LONG;
 use codec::refusals::CODE_TOO_LONG;
 use codec::refusals::LONGEST_CODE;
 ghost use mathlib.Core.Path.{_≡_};
@@ -16,7 +16,7 @@ ghost use Rattle.manual.specs.State.{longestMemory};
 ghost use Rattle.manual.specs.Steps.{stepAt};
 ghost use Rattle.machine.specs.State.{stateOf};
 ghost use Rattle.machine.specs.Steps.{paperOfStep};
-ghost use Rattle.machine.specs.Works.{Advanced};
+ghost use Rattle.machine.specs.inner.Works.{Advanced};
 
 // How a step ended: the refusal or 0, the position after it and, where it completed, the tag mark.
 pub(crate) struct Moved {

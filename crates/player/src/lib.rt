@@ -2,8 +2,8 @@
 use codec::refusals::CODE_TOO_LONG;
 use codec::refusals::LONGEST_CODE;
 use machine::Machine;
-use machine::numbers::LONGEST_MEMORY;
-use machine::numbers::MEMORY_TOO_LONG;
+use machine::refusals::LONGEST_MEMORY;
+use machine::refusals::MEMORY_TOO_LONG;
 use pagefile::Page;
 ghost use mathlib.Core.Path.{_≡_};
 ghost use Prim.Native.Nat.{_≤_};

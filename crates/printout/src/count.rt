@@ -7,7 +7,7 @@ ghost use Rattle.printout.specs.Lines.{answer};
 ghost use Rattle.printout.specs.inner.Room.{reportLength};
 use crate::put::decimal_places;
 use machine::End;
-use machine::numbers::LONGEST_MEMORY;
+use machine::refusals::LONGEST_MEMORY;
 
 // The characters of `done`, `spent` and `refused `, and of a line end.
 const DONE: usize = 4;

@@ -4,7 +4,7 @@ use mathlib.Core.List.{List}
 use Prim.Native.Nat.{ℕ}
 use borrow.Author.Needs.{needs}
 use Rattle.machine.specs.Starts.{marksOf, startOf}
-use Rattle.machine.specs.Works.{machineOf}
+use Rattle.machine.specs.inner.Works.{machineOf}
 use Rattle.machine.proofs.Machine.from_page.Statement.{statement}
 use Rattle.machine.proofs.Machine.from_page.Tie as tie
 

@@ -5,8 +5,8 @@ use borrow.Author.Needs.{needs}
 use lib.ListN.{length}
 use Rattle.manual.specs.Runs.{runOf}
 use Rattle.machine.specs.State.{stateOf}
-use Rattle.machine.specs.Works.{machineOf, barredBy}
-use Rattle.machine.proofs.Budgets.{remaining, starting, turning}
+use Rattle.machine.specs.inner.Works.{machineOf, barredBy}
+use Rattle.machine.proofs.laws.running.Budgets.{remaining, starting, turning}
 use Rattle.machine.proofs.Machine.run.Statement.{statement}
 use Rattle.machine.proofs.Machine.run.Tie as tie
 

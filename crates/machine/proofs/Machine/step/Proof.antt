@@ -1,5 +1,5 @@
 -- `Machine::step` meets its contract: it refuses what is too long, and else answers as the step over its registers ended.
-use Rattle.machine.proofs.Answering.{answering}
+use Rattle.machine.proofs.laws.stepping.Answering.{answering}
 use Rattle.machine.proofs.Machine.step.Statement.{statement}
 use Rattle.machine.proofs.Machine.step.Tie as tie
 

@@ -1,5 +1,5 @@
 -- `addresses::address_of` meets its contract: each sum of its parts wraps at 2 ^ 32, and so the whole does once.
-use Rattle.machine.proofs.Addressing.{addressing}
+use Rattle.machine.proofs.laws.addresses.Addressing.{addressing}
 use Rattle.machine.proofs.addresses.address_of.Statement.{statement}
 use Rattle.machine.proofs.addresses.address_of.Tie as tie
 

@@ -1,5 +1,5 @@
 -- `addresses::base_in` meets its contract: its tests are those of the definition, where 101 is none at mod 00.
-use Rattle.machine.proofs.Addressing.{addressing}
+use Rattle.machine.proofs.laws.addresses.Addressing.{addressing}
 use Rattle.machine.proofs.addresses.base_in.Statement.{statement}
 use Rattle.machine.proofs.addresses.base_in.Tie as tie
 

@@ -1,5 +1,5 @@
 -- `addresses::extended` meets its contract: a byte of displacement keeps its sign, and any other is as it stands.
-use Rattle.machine.proofs.Addressing.{addressing}
+use Rattle.machine.proofs.laws.addresses.Addressing.{addressing}
 use Rattle.machine.proofs.addresses.extended.Statement.{statement}
 use Rattle.machine.proofs.addresses.extended.Tie as tie
 

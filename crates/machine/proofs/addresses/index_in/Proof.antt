@@ -1,5 +1,5 @@
 -- `addresses::index_in` meets its contract: its test is that of the definition, where 100 is none.
-use Rattle.machine.proofs.Addressing.{addressing}
+use Rattle.machine.proofs.laws.addresses.Addressing.{addressing}
 use Rattle.machine.proofs.addresses.index_in.Statement.{statement}
 use Rattle.machine.proofs.addresses.index_in.Tie as tie
 

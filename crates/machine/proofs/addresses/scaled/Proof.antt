@@ -1,7 +1,7 @@
 -- `addresses::scaled` meets its contract: each turn doubles once, and what is left of the scale falls.
 use mathlib.Core.Path.{_≡_}
 use Prim.Native.Nat.{_*_, _-_, _^_, _%_, _≤_}
-use Rattle.machine.proofs.Addressing.{addressing}
+use Rattle.machine.proofs.laws.addresses.Addressing.{addressing}
 use Rattle.machine.proofs.addresses.scaled.Statement.{statement}
 use Rattle.machine.proofs.addresses.scaled.Tie as tie
 

@@ -1,5 +1,5 @@
 -- `footprints::unmarked` meets its contract: the forms with two operands, with none and with one each have their shape.
-use Rattle.machine.proofs.PrintForms.{print-forms}
+use Rattle.machine.proofs.laws.footprints.Forms.{form-rules}
 use Rattle.machine.proofs.footprints.unmarked.Statement.{statement}
 use Rattle.machine.proofs.footprints.unmarked.Tie as tie
 
@@ -7,8 +7,8 @@ pub unmarked-spec : {M : Type 1} → statement M
 unmarked-spec =
     tie.close
     (tie.spec
-    (λ c κs. search print-forms)
-    (λ c. search print-forms)
-    (λ c. search print-forms)
-    (λ c κs. search print-forms)
-    (λ c. search print-forms))
+    (λ c κs. search form-rules)
+    (λ c. search form-rules)
+    (λ c. search form-rules)
+    (λ c κs. search form-rules)
+    (λ c. search form-rules))

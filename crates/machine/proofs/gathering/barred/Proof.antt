@@ -1,5 +1,5 @@
 -- `gathering::barred` meets its contract: it tests the control marks in the order of the definition.
-use Rattle.machine.proofs.Testing.{testing}
+use Rattle.machine.proofs.laws.gathering.Testing.{testing}
 use Rattle.machine.proofs.gathering.barred.Statement.{statement}
 use Rattle.machine.proofs.gathering.barred.Tie as tie
 

@@ -1,5 +1,5 @@
 -- `gathering::computed` meets its contract: the number is taken from wherever the operand is.
-use Rattle.machine.proofs.Sorting.{taking}
+use Rattle.machine.proofs.laws.gathering.Sorting.{taking}
 use Rattle.machine.proofs.gathering.computed.Statement.{statement}
 use Rattle.machine.proofs.gathering.computed.Tie as tie
 

@@ -1,5 +1,5 @@
 -- `gathering::put` meets its contract: each place that an operand may have has its work.
-use Rattle.machine.proofs.Sorting.{putting}
+use Rattle.machine.proofs.laws.gathering.Sorting.{putting}
 use Rattle.machine.proofs.gathering.put.Statement.{statement}
 use Rattle.machine.proofs.gathering.put.Tie as tie
 

@@ -1,5 +1,5 @@
 -- `gathering::sorted` meets its contract: each shape of a form has its work, wherever the operand of r/m is.
-use Rattle.machine.proofs.Sorting.{sorting}
+use Rattle.machine.proofs.laws.gathering.Sorting.{sorting}
 use Rattle.machine.proofs.gathering.sorted.Statement.{statement}
 use Rattle.machine.proofs.gathering.sorted.Tie as tie
 

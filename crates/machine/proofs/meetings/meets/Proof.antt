@@ -1,5 +1,5 @@
 -- `meetings::meets` meets its contract: its tests are those of the definition, one after the other.
-use Rattle.machine.proofs.MeetRules.{meet-rules}
+use Rattle.machine.proofs.laws.meetings.Rules.{meet-rules}
 use Rattle.machine.proofs.meetings.meets.Statement.{statement}
 use Rattle.machine.proofs.meetings.meets.Tie as tie
 

@@ -1,5 +1,5 @@
 -- `meetings::overlaps` meets its contract: two ranges that are not empty overlap where the one that starts later starts inside the other.
-use Rattle.machine.proofs.MeetRules.{meet-rules}
+use Rattle.machine.proofs.laws.meetings.Rules.{meet-rules}
 use Rattle.machine.proofs.meetings.overlaps.Statement.{statement}
 use Rattle.machine.proofs.meetings.overlaps.Tie as tie
 

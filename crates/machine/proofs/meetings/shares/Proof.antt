@@ -1,5 +1,5 @@
 -- `meetings::shares` meets its contract: it tests the registers by their masks, and then the bytes by their ranges.
-use Rattle.machine.proofs.MeetRules.{meet-rules}
+use Rattle.machine.proofs.laws.meetings.Rules.{meet-rules}
 use Rattle.machine.proofs.meetings.shares.Statement.{statement}
 use Rattle.machine.proofs.meetings.shares.Tie as tie
 

@@ -1,5 +1,5 @@
 -- `operands::lies_inside` meets its contract: its two tests come to that of the sum, which is not formed.
-use Rattle.machine.proofs.Testing.{testing}
+use Rattle.machine.proofs.laws.gathering.Testing.{testing}
 use Rattle.machine.proofs.operands.lies_inside.Statement.{statement}
 use Rattle.machine.proofs.operands.lies_inside.Tie as tie
 

@@ -1,5 +1,5 @@
 -- `operands::located` meets its contract: an operand in memory is tested, and one in a register is of the form's file.
-use Rattle.machine.proofs.Locating.{locating}
+use Rattle.machine.proofs.laws.operands.Locating.{locating}
 use Rattle.machine.proofs.operands.located.Statement.{statement}
 use Rattle.machine.proofs.operands.located.Tie as tie
 

@@ -1,5 +1,5 @@
 -- `reaches::reach_operand` meets its contract: a register is a mask, bytes are a range, and a refusal is one.
-use Rattle.machine.proofs.PrintReaching.{print-reaching}
+use Rattle.machine.proofs.laws.footprints.Reaching.{reach-rules}
 use Rattle.machine.proofs.reaches.reach_operand.Statement.{statement}
 use Rattle.machine.proofs.reaches.reach_operand.Tie as tie
 
@@ -7,16 +7,16 @@ pub reach-operand-spec : {M : Type 1} → statement M
 reach-operand-spec =
     tie.close
     (tie.spec
-    (λ c κs. search print-reaching)
-    (λ c κs. search print-reaching)
-    (λ c. search print-reaching)
-    (λ c κs. search print-reaching)
-    (λ c. search print-reaching)
-    (λ c κs. search print-reaching)
-    (λ c. search print-reaching)
-    (λ c. search print-reaching)
-    (λ c. search print-reaching)
-    (λ c. search print-reaching)
-    (λ c. search print-reaching)
-    (λ c. search print-reaching)
-    (λ c. search print-reaching))
+    (λ c κs. search reach-rules)
+    (λ c κs. search reach-rules)
+    (λ c. search reach-rules)
+    (λ c κs. search reach-rules)
+    (λ c. search reach-rules)
+    (λ c κs. search reach-rules)
+    (λ c. search reach-rules)
+    (λ c. search reach-rules)
+    (λ c. search reach-rules)
+    (λ c. search reach-rules)
+    (λ c. search reach-rules)
+    (λ c. search reach-rules)
+    (λ c. search reach-rules))

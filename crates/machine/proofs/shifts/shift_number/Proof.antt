@@ -1,5 +1,5 @@
 -- `shifts::shift_number` meets its contract: its tests are those of the definition, and each number names its operation.
-use Rattle.machine.proofs.Shifting.{shifting}
+use Rattle.machine.proofs.laws.gathering.Shifting.{shifting}
 use Rattle.machine.proofs.shifts.shift_number.Statement.{statement}
 use Rattle.machine.proofs.shifts.shift_number.Tie as tie
 

@@ -1,6 +1,6 @@
 -- `stepping::advance` meets its contract: what is left in the lent registers and memory is what the work performs, and that is the step.
 use borrow.Author.Needs.{needs}
-use Rattle.machine.proofs.Advancing.{operating, storing, putting, ending}
+use Rattle.machine.proofs.laws.stepping.Advancing.{operating, storing, putting, ending}
 use Rattle.machine.proofs.stepping.advance.Statement.{statement}
 use Rattle.machine.proofs.stepping.advance.Tie as tie
 

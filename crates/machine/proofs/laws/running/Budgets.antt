@@ -26,7 +26,7 @@ use Rattle.machine.specs.declared.Machine.{Machine}
 use Rattle.machine.specs.declared.stepping.Moved.{Moved}
 use Rattle.machine.specs.State.{stateOf}
 use Rattle.machine.specs.Runs.{paperOfRun}
-use Rattle.machine.specs.Works.{machineOf, barredBy, Advanced}
+use Rattle.machine.specs.inner.Works.{machineOf, barredBy, Advanced}
 
 -- a run from a position on, with what is left of its budget
 unfoldable pub remaining : ℕ → List ℕ → ℕ → ℕ → State → Answer State

@@ -12,9 +12,9 @@ use Rattle.codec.specs.Forms.{Use, read, written, updated, File, mmxFile, integ
 use Rattle.codec.specs.Table.{formOf}
 use Rattle.codec.specs.declared.Kind.the-variants.{Ordinary}
 use Rattle.manual.specs.Instructions.{heldBy}
-use Rattle.machine.specs.Spots.{fileIn}
-use Rattle.machine.specs.PrintShapes.{Way, storing, loading, computing, wayOf}
-use Rattle.machine.specs.Works.{numbers, isListed}
+use Rattle.machine.specs.inner.Spots.{fileIn}
+use Rattle.machine.specs.inner.Shapes.{Way, storing, loading, computing, wayOf}
+use Rattle.machine.specs.inner.Works.{numbers, isListed}
 
 -- the register file and the size of r/m: MOVD's register is an integer register; of some bytes and at most eight, which a number that it takes keeps
 pub record Other (n : ℕ) (file : File) (size : ℕ) : Type 0 where

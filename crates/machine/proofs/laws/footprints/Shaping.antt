@@ -16,10 +16,10 @@ use Rattle.machine.specs.declared.Places.{Places}
 use Rattle.machine.specs.declared.Footprint.{Footprint}
 use Rattle.machine.specs.declared.reaches.Reach.{Reach}
 use Rattle.machine.specs.declared.reaches.Reach.the-variants.{Inside, Refused}
-use Rattle.machine.specs.Prints.{mask, setOf, print}
-use Rattle.machine.specs.PrintShapes.{nowhere, beside, through, reachOf, ordinaryPrint, Way, storing, loading, computing, wayOf, shapedAs}
-use Rattle.machine.proofs.Masks.{or-assoc}
-use Rattle.machine.proofs.Numbering.{Stores, Loads, way-storing, way-loading, way-computing}
+use Rattle.machine.specs.Footprints.{mask, setOf, masked}
+use Rattle.machine.specs.inner.Shapes.{nowhere, beside, through, reachOf, ordinaryFootprint, Way, storing, loading, computing, wayOf, shapedAs}
+use Rattle.machine.proofs.laws.meetings.Masks.{or-assoc}
+use Rattle.machine.proofs.laws.operands.Numbering.{Stores, Loads, way-storing, way-loading, way-computing}
 
 -- address registers beside other places
 set-through : (ks : List ℕ) (ps : List Place) → setOf (map integer ks ++ ps) ≡ through (mask ks) (setOf ps)
@@ -33,35 +33,35 @@ shaped shape (Refused n) = refused n
 
 module _ (s : State) (k : ℕ) (x : Location) where
   -- from these places, with this plan
-  abbrev printed : Effect → Result (List Place) → Result (List Place) → Result Footprint
-  printed e sources targets =
-      mapResult print (footprintIn look (via e) s (andThen sources (λ source. mapResult (planOn e source) targets)))
+  abbrev shown : Effect → Result (List Place) → Result (List Place) → Result Footprint
+  shown e sources targets =
+      mapResult masked (footprintIn look (via e) s (andThen sources (λ source. mapResult (planOn e source) targets)))
 
-  pub store-prints : (f : ℕ → ℕ) (o : Result (List Place)) → printed (move f x (mmxRegister k)) (done (mmx k ∷ [])) (one o) ≡ shaped (shapedAs storing k) (reachOf x o)
-  store-prints f (done ps) = simp (append-nil, set-through)
-  store-prints f (refused n) = refl
+  pub store-footprint : (f : ℕ → ℕ) (o : Result (List Place)) → shown (move f x (mmxRegister k)) (done (mmx k ∷ [])) (one o) ≡ shaped (shapedAs storing k) (reachOf x o)
+  store-footprint f (done ps) = simp (append-nil, set-through)
+  store-footprint f (refused n) = refl
 
-  pub load-prints : (f : ℕ → ℕ) (o : Result (List Place)) → printed (move f (mmxRegister k) x) (one o) (done (mmx k ∷ [])) ≡ shaped (shapedAs loading k) (reachOf x o)
-  load-prints f (done ps) = simp (append-nil, set-through)
-  load-prints f (refused n) = refl
+  pub load-footprint : (f : ℕ → ℕ) (o : Result (List Place)) → shown (move f (mmxRegister k) x) (one o) (done (mmx k ∷ [])) ≡ shaped (shapedAs loading k) (reachOf x o)
+  load-footprint f (done ps) = simp (append-nil, set-through)
+  load-footprint f (refused n) = refl
 
-  pub compute-prints : (f : ℕ → ℕ → ℕ) (o : Result (List Place))
-      → printed (both f (mmxRegister k) x) (mapResult (λ qs. mmx k ∷ qs) (one o)) (done (mmx k ∷ [])) ≡ shaped (shapedAs computing k) (reachOf x o)
-  compute-prints f (done ps) = simp (append-nil, set-through)
-  compute-prints f (refused n) = refl
+  pub compute-footprint : (f : ℕ → ℕ → ℕ) (o : Result (List Place))
+      → shown (both f (mmxRegister k) x) (mapResult (λ qs. mmx k ∷ qs) (one o)) (done (mmx k ∷ [])) ≡ shaped (shapedAs computing k) (reachOf x o)
+  compute-footprint f (done ps) = simp (append-nil, set-through)
+  compute-footprint f (refused n) = refl
 
 -- the ways as the code makes them
 module _ (n k m : ℕ) (p own : Places) (r : Footprint) (e : own ≡ beside k nowhere) where
   by-way : (y : Way) → wayOf n ≡ y → r ≡ shapedAs y k m p → r ≡ shapedAs (wayOf n) k m p
   by-way y w h = h ∙ ap (λ (z : Way). shapedAs z k m p) (sym w)
 
-  pub made-storing : Stores n → r ≡ ordinaryPrint m own p → r ≡ shapedAs (wayOf n) k m p
+  pub made-storing : Stores n → r ≡ ordinaryFootprint m own p → r ≡ shapedAs (wayOf n) k m p
   made-storing g h = by-way storing (way-storing n g) (simp e at h)
 
-  pub made-loading : Loads n → r ≡ ordinaryPrint m p own → r ≡ shapedAs (wayOf n) k m p
+  pub made-loading : Loads n → r ≡ ordinaryFootprint m p own → r ≡ shapedAs (wayOf n) k m p
   made-loading g h = by-way loading (way-loading n g) (simp e at h)
 
-  pub made-computing : (both : Places) → (Stores n → ⊥) → (Loads n → ⊥) → both ≡ beside k p → r ≡ ordinaryPrint m both own → r ≡ shapedAs (wayOf n) k m p
+  pub made-computing : (both : Places) → (Stores n → ⊥) → (Loads n → ⊥) → both ≡ beside k p → r ≡ ordinaryFootprint m both own → r ≡ shapedAs (wayOf n) k m p
   made-computing both a b f h = by-way computing (way-computing n a b) (simp (e, f) at h)
 
-pub ruleset print-shapes = (needs, made-storing, made-loading, made-computing)
+pub ruleset shape-rules = (needs, made-storing, made-loading, made-computing)

@@ -10,7 +10,7 @@ use lib.Dec.{ltb}
 use Rattle.manual.specs.Kinds.{kindsMeet}
 use Rattle.machine.specs.declared.Places.{Places}
 use Rattle.machine.specs.declared.Footprint.{Footprint}
-use Rattle.machine.specs.Prints.{overlap, share, meet}
+use Rattle.machine.specs.Footprints.{overlap, share, meet}
 
 -- a range that starts within another: without and with a sum
 within : (a m b : ℕ) → a ≤ b → ltb (b - a) m ≡ ltb b (a + m)

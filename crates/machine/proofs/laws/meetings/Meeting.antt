@@ -16,10 +16,10 @@ use Rattle.codec.specs.declared.Kind.{Kind}
 use Rattle.manual.specs.Places.{Place, mmx, integer, byte}
 use Rattle.manual.specs.Kinds.{KindsMeet}
 use Rattle.manual.specs.Footprints.{Meets}
-use Rattle.machine.specs.Prints.{mmxNumber, integerNumber, numbersOf, bytesOf, mask, setOf, print, overlap, share, meet, meetTest}
-use Rattle.machine.proofs.Masks.{masks-meet}
-use Rattle.machine.proofs.Ranges.{Range, OneRange, RangedPrint}
-use Rattle.machine.proofs.Printing.{mmx-exactly, integer-exactly, byte-printed}
+use Rattle.machine.specs.Footprints.{mmxNumber, integerNumber, numbersOf, bytesOf, mask, setOf, masked, overlap, share, meet, meetTest}
+use Rattle.machine.proofs.laws.meetings.Masks.{masks-meet}
+use Rattle.machine.proofs.laws.meetings.Ranges.{Range, OneRange, RangedFootprint}
+use Rattle.machine.proofs.laws.meetings.Masking.{mmx-exactly, integer-exactly, byte-masked}
 
 -- Tests and what they test
 
@@ -101,15 +101,15 @@ share-exactly ps qs range-p range-q = (λ e. place (tests .0 e), λ c. tests .1 
     place : Sorts → Common ps qs
     place (inl (inl (k, i, j))) = (mmx k, mmx-exactly k ps .0 i, mmx-exactly k qs .0 j)
     place (inl (inr (k, i, j))) = (integer k, integer-exactly k ps .0 i, integer-exactly k qs .0 j)
-    place (inr (a, i, j)) = (byte a, byte-printed a ps range-p .0 i, byte-printed a qs range-q .0 j)
+    place (inr (a, i, j)) = (byte a, byte-masked a ps range-p .0 i, byte-masked a qs range-q .0 j)
 
     sort : Common ps qs → Sorts
     sort (mmx k, i, j) = inl (inl (k, mmx-exactly k ps .1 i, mmx-exactly k qs .1 j))
     sort (integer k, i, j) = inl (inr (k, integer-exactly k ps .1 i, integer-exactly k qs .1 j))
-    sort (byte a, i, j) = inr (a, byte-printed a ps range-p .1 i, byte-printed a qs range-q .1 j)
+    sort (byte a, i, j) = inr (a, byte-masked a ps range-p .1 i, byte-masked a qs range-q .1 j)
 
 -- the program's test of two footprints is true exactly where they meet
-pub meet-exactly : (f g : places.Footprint Place Kind) → OneRange f → OneRange g → (meet (print f) (print g) ≡ true) ↔ Meets (done f) (done g)
+pub meet-exactly : (f g : places.Footprint Place Kind) → OneRange f → OneRange g → (meet (masked f) (masked g) ≡ true) ↔ Meets (done f) (done g)
 unfolding meet
 meet-exactly f g rf rg = (λ e. meeting (tests .0 e), λ m. tests .1 (cases m))
   where
@@ -117,7 +117,7 @@ meet-exactly f g rf rg = (λ e. meeting (tests .0 e), λ m. tests .1 (cases m))
     Cases =
         ((KindsMeet (f .kind) (g .kind) ⊎ Common (f .writes) (g .reads)) ⊎ Common (f .writes) (g .writes)) ⊎ Common (f .reads) (g .writes)
 
-    tests : (meet (print f) (print g) ≡ true) ↔ Cases
+    tests : (meet (masked f) (masked g) ≡ true) ↔ Cases
     tests =
         or-exactly _ _
         (or-exactly _ _
@@ -139,7 +139,7 @@ meet-exactly f g rf rg = (λ e. meeting (tests .0 e), λ m. tests .1 (cases m))
     cases (inr (inr (p, i, inr j))) = inl (inr (p, j, i))
 
 -- and so is the test of what may be footprints
-pub meet-test-exactly : (f g : Result (places.Footprint Place Kind)) → RangedPrint f → RangedPrint g → (meetTest f g ≡ true) ↔ Meets f g
+pub meet-test-exactly : (f g : Result (places.Footprint Place Kind)) → RangedFootprint f → RangedFootprint g → (meetTest f g ≡ true) ↔ Meets f g
 meet-test-exactly (done f) (done g) rf rg = meet-exactly f g rf rg
 meet-test-exactly (done f) (refused n) rf rg = (λ e. absurd (false≢true (cc)), λ m. absurd m)
 meet-test-exactly (refused n) g rf rg = (λ e. absurd (false≢true (cc)), λ m. absurd m)

@@ -17,7 +17,7 @@ use Rattle.machine.specs.declared.Places.{Places}
 use Rattle.machine.specs.declared.Footprint.{Footprint}
 use Rattle.machine.specs.declared.reaches.Reach.{Reach}
 use Rattle.machine.specs.declared.reaches.Reach.the-variants.{Inside, Refused}
-use Rattle.machine.specs.Prints.{mask, setOf, print}
+use Rattle.machine.specs.Footprints.{mask, setOf, masked}
 
 abbrev pub nowhere : Places
 nowhere = setOf []
@@ -42,8 +42,8 @@ abbrev pub behind : Operand → ℕ
 behind w = cond (eqb (w .mode) 3) 0 (mask (addressRegisters (addressOf w)))
 
 -- what is read, beside the address registers, and what is written
-abbrev pub ordinaryPrint : ℕ → Places → Places → Footprint
-ordinaryPrint registers reads writes = record { reads = through registers reads; writes = writes; kind = Ordinary }
+abbrev pub ordinaryFootprint : ℕ → Places → Places → Footprint
+ordinaryFootprint registers reads writes = record { reads = through registers reads; writes = writes; kind = Ordinary }
 
 -- an MMX register is stored in the operand of r/m, loaded from it, or computed with it
 pub data Way : Type 0 where
@@ -55,11 +55,11 @@ wayOf form = cond (eqb form 16 || eqb form 18) storing (cond (eqb form 17 || eqb
 
 -- what each reads and writes: the register, and the operand, whose address registers and places are given
 abbrev pub shapedAs : Way → ℕ → ℕ → Places → Footprint
-shapedAs storing register registers p = ordinaryPrint registers (beside register nowhere) p
-shapedAs loading register registers p = ordinaryPrint registers p (beside register nowhere)
-shapedAs computing register registers p = ordinaryPrint registers (beside register p) (beside register nowhere)
+shapedAs storing register registers p = ordinaryFootprint registers (beside register nowhere) p
+shapedAs loading register registers p = ordinaryFootprint registers p (beside register nowhere)
+shapedAs computing register registers p = ordinaryFootprint registers (beside register p) (beside register nowhere)
 
 -- the footprint of an effect that no control mark stops
-unfoldable pub unmarkedPrint : Effect → State → Result Footprint
-unmarkedPrint e s =
-    mapResult print (footprintIn look (via e) s (placed e s))
+unfoldable pub unmarkedFootprint : Effect → State → Result Footprint
+unmarkedFootprint e s =
+    mapResult masked (footprintIn look (via e) s (placed e s))

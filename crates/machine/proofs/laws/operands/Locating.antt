@@ -16,9 +16,9 @@ use Rattle.manual.specs.Addresses.{address, addressOf}
 use Rattle.manual.specs.Locations.{Location, mmxRegister, integerRegister, memory, registerIn, rmOf, fits}
 use Rattle.machine.specs.declared.operands.Spot.{Spot}
 use Rattle.machine.specs.declared.operands.Spot.the-variants.{Mmx, Integer, Bytes, Refused}
-use Rattle.machine.specs.Spots.{fileIn, otherOf, spotOf, Named}
-use Rattle.machine.specs.Works.{Listed}
-use Rattle.machine.proofs.Numbering.{other}
+use Rattle.machine.specs.inner.Spots.{fileIn, otherOf, spotOf, Named}
+use Rattle.machine.specs.inner.Works.{Listed}
+use Rattle.machine.proofs.laws.operands.Numbering.{other}
 
 -- what holds of a register of either file, and of so many bytes in memory, holds of the operand that r/m names
 pub by-place : (P : File → Location → Type 0) (file : File) (size : ℕ) (w : Operand) → P mmxFile (mmxRegister (w .rm)) → P integerFile (integerRegister (w .rm))

@@ -8,8 +8,8 @@ use Rattle.lanes.specs.Operations.{numbered, MOVE}
 use Rattle.words.specs.Buffer.{loaded}
 use Rattle.machine.specs.declared.operands.Spot.{Spot}
 use Rattle.machine.specs.declared.operands.Spot.the-variants.{Mmx, Integer, Bytes, Refused}
-use Rattle.machine.specs.Spots.{Named}
-use Rattle.machine.specs.Works.{toOperate, toEmpty, workOf, refusedWork, putWork, takeWork, Sound}
+use Rattle.machine.specs.inner.Spots.{Named}
+use Rattle.machine.specs.inner.Works.{toOperate, toEmpty, workOf, refusedWork, putWork, takeWork, Sound}
 
 pub sound-operation : (number place value next : ℕ) → place < 8 → Sound (workOf toOperate number place value next)
 sound-operation number place value next h =

@@ -12,10 +12,10 @@ use Rattle.codec.specs.Operands.{hasSib}
 use Rattle.codec.specs.declared.Operand.{Operand}
 use Rattle.manual.specs.Addresses.{baseOf, indexOf, addressOf, registersOf}
 use Rattle.machine.specs.declared.Places.{Places}
-use Rattle.machine.specs.Prints.{mask}
-use Rattle.machine.specs.PrintShapes.{beside, behind}
-use Rattle.machine.proofs.Addressing.{base-is, base-is-five, no-base, index-is, no-index}
-use Rattle.machine.proofs.Masks.{mask-append}
+use Rattle.machine.specs.Footprints.{mask}
+use Rattle.machine.specs.inner.Shapes.{beside, behind}
+use Rattle.machine.proofs.laws.addresses.Addressing.{base-is, base-is-five, no-base, index-is, no-index}
+use Rattle.machine.proofs.laws.meetings.Masks.{mask-append}
 
 -- a register's bit fits a byte
 pub one-bit : (register : ℕ) → register < 8 → 1 * 2 ^ register % 256 ≡ 2 ^ register
@@ -49,4 +49,4 @@ pub made-beside : (register b : ℕ) (p : Places) → b ≡ 2 ^ register
     → record { mmx = bitOr b (p .mmx); integers = p .integers; start = p .start; length = p .length } ≡ beside register p
 made-beside register b p e = simp e
 
-pub ruleset print-masks = (needs, one-bit, base-is, base-is-five, no-base, index-is, no-index, mask-named, mask-none, address-none, address-plain, address-sib, made-beside)
+pub ruleset mask-rules = (needs, one-bit, base-is, base-is-five, no-base, index-is, no-index, mask-named, mask-none, address-none, address-plain, address-sib, made-beside)

@@ -25,8 +25,8 @@ use Rattle.manual.specs.Locations.{registerIn, locate, bytesFrom, fits, placesO
 use Rattle.manual.specs.Effects.{placesOfAll, addressRegistersOf, unlessMarked, planOn, via, footprintOf}
 use Rattle.manual.specs.Instructions.{sources, targets, effectBy, effectOf, footprint}
 use Rattle.manual.proofs.Marking.{by-marks}
-use Rattle.machine.specs.Prints.{byteNumber, bytesOf}
-use Rattle.machine.proofs.Locating.{by-place}
+use Rattle.machine.specs.Footprints.{byteNumber, bytesOf}
+use Rattle.machine.proofs.laws.operands.Locating.{by-place}
 
 -- the numbers of the list are those from its first one on, as many as there are
 abbrev pub Range : List ℕ → Type 0
@@ -129,32 +129,32 @@ pub record OneRange (f : Footprint Place Kind) : Type 0 where
   pub reads : Range (bytesOf (f .reads))
   pub writes : Range (bytesOf (f .writes))
 
-abbrev pub RangedPrint : Result (Footprint Place Kind) → Type 0
-RangedPrint (done f) = OneRange f
-RangedPrint (refused n) = Unit {0}
+abbrev pub RangedFootprint : Result (Footprint Place Kind) → Type 0
+RangedFootprint (done f) = OneRange f
+RangedFootprint (refused n) = Unit {0}
 
 -- a form of which at most one operand that is read, and one that is written, may be in memory
 abbrev oneEach : Form → Bool
 oneEach form = atMost true (sources (form .operands)) && atMost true (targets (form .operands))
 
 module _ (s : State) (i : Instruction) where
-  unmarked : (vs : List Place) (o : Result (Plan Place Kind)) → RangedPrint (footprintIn look vs s o)
-      → RangedPrint (footprintIn look vs s (unlessMarked (s .marks) o))
-  unmarked vs o h = by-marks (λ a b. RangedPrint (footprintIn look vs s a)) (λ n. tt) (s .marks) o o h
+  unmarked : (vs : List Place) (o : Result (Plan Place Kind)) → RangedFootprint (footprintIn look vs s o)
+      → RangedFootprint (footprintIn look vs s (unlessMarked (s .marks) o))
+  unmarked vs o h = by-marks (λ a b. RangedFootprint (footprintIn look vs s a)) (λ n. tt) (s .marks) o o h
 
-  ranged-form : (form : Form) (o : Operation) → oneEach form ≡ true → RangedPrint (footprintOf (effectBy form o i) s)
+  ranged-form : (form : Form) (o : Operation) → oneEach form ≡ true → RangedFootprint (footprintOf (effectBy form o i) s)
   ranged-form form o e =
       let (a, b) = and-both (atMost true (sources (form .operands))) _ e in
       unmarked (via (effectBy form o i)) _
       (by (places s i (sources (form .operands))) (places s i (targets (form .operands))) (at-most s i true (sources (form .operands)) a) (at-most s i true (targets (form .operands)) b))
     where
       by : (o′ p : Result (List Place)) → Each Range o′ → Each Range p
-          → RangedPrint (footprintIn look (via (effectBy form o i)) s (andThen o′ (λ source. mapResult (planOn (effectBy form o i) source) p)))
+          → RangedFootprint (footprintIn look (via (effectBy form o i)) s (andThen o′ (λ source. mapResult (planOn (effectBy form o i) source) p)))
       by (done ps) (done qs) h g =
           record { reads = subst Range (sym (bytes-via (addressRegistersOf (effectBy form o i)) ps)) h; writes = g }
       by (done ps) (refused n) h g = tt
       by (refused n) p h g = tt
 
-pub ranged : (s : State) (i : Instruction) → RangedPrint (footprint i s)
+pub ranged : (s : State) (i : Instruction) → RangedFootprint (footprint i s)
 unfolding footprint effectOf
 ranged s i = ranged-form s i (formAt (i .second)) (operationAt (i .second) (i .operand .reg)) (form-passes oneEach refl refl (i .second))

@@ -30,12 +30,12 @@ use Rattle.manual.proofs.Direct.{valueAt, putAt, move-direct, both-direct}
 use Rattle.machine.specs.declared.gathering.Work.{Work}
 use Rattle.machine.specs.declared.operands.Spot.{Spot}
 use Rattle.machine.specs.State.{stateOf}
-use Rattle.machine.specs.Spots.{fileIn, otherOf, spotOf, Named}
-use Rattle.machine.specs.PrintShapes.{Way, storing, wayOf}
-use Rattle.machine.specs.Works.{machineOf, effectIn, isMove, Listed, toOperate, toEmpty, workOf, putWork, takeWork, performed, Sound, Does}
-use Rattle.machine.proofs.Soundness.{sound-operation, sound-empties, sound-put, sound-take}
-use Rattle.machine.proofs.Locating.{by-place, spot-named, register-mmx, register-integer}
-use Rattle.machine.proofs.Numbering.{Shape, stores, loads, computes, Stores, way-storing, way-taking, shape, other, Shifting, shifts-WD, shifts-Q, shifting}
+use Rattle.machine.specs.inner.Spots.{fileIn, otherOf, spotOf, Named}
+use Rattle.machine.specs.inner.Shapes.{Way, storing, wayOf}
+use Rattle.machine.specs.inner.Works.{machineOf, effectIn, isMove, Listed, toOperate, toEmpty, workOf, putWork, takeWork, performed, Sound, Does}
+use Rattle.machine.proofs.laws.gathering.Soundness.{sound-operation, sound-empties, sound-put, sound-take}
+use Rattle.machine.proofs.laws.operands.Locating.{by-place, spot-named, register-mmx, register-integer}
+use Rattle.machine.proofs.laws.operands.Numbering.{Shape, stores, loads, computes, Stores, way-storing, way-taking, shape, other, Shifting, shifts-WD, shifts-Q, shifting}
 
 -- what a form's effect leaves, by its shape
 module _ (s : State) (o : Operation) (i : Instruction) where

@@ -17,7 +17,7 @@ use Rattle.words.proofs.Laws.{and-both}
 use Rattle.codec.proofs.Entries.{agree, table-entry, form-is, operation-is}
 use Rattle.codec.proofs.Bytes.{form-beyond}
 use Rattle.manual.specs.Instructions.{effectBy, effectOf}
-use Rattle.machine.specs.Works.{effectIn, isMove, isListed, Listed}
+use Rattle.machine.specs.inner.Works.{effectIn, isMove, isListed, Listed}
 
 -- the numbers are tested by a computation
 abbrev passes : ℕ → Bool

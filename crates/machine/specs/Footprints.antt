@@ -14,8 +14,8 @@ use Rattle.manual.specs.Kinds.{kindsMeet}
 use Rattle.manual.specs.Footprints.{footprintAt}
 use Rattle.machine.specs.declared.Places.{Places}
 use Rattle.machine.specs.declared.Footprint.{Footprint}
-use Rattle.machine.specs.declared.Printed.{Printed}
-use Rattle.machine.specs.declared.Printed.the-variants.{Of, Refused}
+use Rattle.machine.specs.declared.Tracing.{Tracing}
+use Rattle.machine.specs.declared.Tracing.the-variants.{Traced, Refused}
 
 -- the number of a place of one sort, in a list of one or none: MMX registers, integer registers, memory bytes
 
@@ -56,16 +56,16 @@ setOf ps =
       length = length (bytesOf ps);
     }
 
-abbrev pub print : places.Footprint Place Kind → Footprint
-print f = record { reads = setOf (f .reads); writes = setOf (f .writes); kind = f .kind }
+abbrev pub masked : places.Footprint Place Kind → Footprint
+masked f = record { reads = setOf (f .reads); writes = setOf (f .writes); kind = f .kind }
 
 -- what the footprint of the step at a position answers
-unfoldable pub printAt : List ℕ → ℕ → State → Result Footprint
-printAt code at s = mapResult print (footprintAt code at s)
+unfoldable pub maskedAt : List ℕ → ℕ → State → Result Footprint
+maskedAt code at s = mapResult masked (footprintAt code at s)
 
 -- the paper's answer for each case of the footprint's
-abbrev pub paperOfFootprint : Printed → Result Footprint
-paperOfFootprint (Of f) = done f
+abbrev pub paperOfFootprint : Tracing → Result Footprint
+paperOfFootprint (Traced f) = done f
 paperOfFootprint (Refused n) = refused n
 
 -- the m bytes from a on and the n bytes from b on have one in common
@@ -89,6 +89,6 @@ meet f g =
 
 -- the same of what may be footprints: a refused step has none, and meets none
 abbrev pub meetTest : Result (places.Footprint Place Kind) → Result (places.Footprint Place Kind) → Bool
-meetTest (done f) (done g) = meet (print f) (print g)
+meetTest (done f) (done g) = meet (masked f) (masked g)
 meetTest (done f) (refused n) = false
 meetTest (refused n) g = false

@@ -4,9 +4,9 @@ use mathlib.Core.Logic.{_↔_, _⊎_, inl, inr}
 use mathlib.Core.List.{List, [], _∷_, List·Memᴰ as In, List·Memᴰ·head as here, List·Memᴰ·tail as later, List·Memᴰ·not-nil as not-nil, List·Memᴰ·eq-of-singleton as eq-of-singleton, List·Memᴰ·append-cases as append-cases, Memᴰ·append-left, Memᴰ·append-right}
 use Prim.Native.Nat.{ℕ, _+_, _≤_, _<_}
 use Rattle.manual.specs.Places.{Place, mmx, integer, byte}
-use Rattle.machine.specs.Prints.{mmxNumber, integerNumber, byteNumber, numbersOf, bytesOf, mask, setOf}
-use Rattle.machine.proofs.Masks.{bit, mask-exactly}
-use Rattle.machine.proofs.Ranges.{Range}
+use Rattle.machine.specs.Footprints.{mmxNumber, integerNumber, byteNumber, numbersOf, bytesOf, mask, setOf}
+use Rattle.machine.proofs.laws.meetings.Masks.{bit, mask-exactly}
+use Rattle.machine.proofs.laws.meetings.Ranges.{Range}
 
 -- a sort of places: each has its own number, and no other place has it
 module _ (number : Place → List ℕ) (place : ℕ → Place)
@@ -56,14 +56,14 @@ byte-exactly = number-exactly byteNumber byte (λ k. here refl) only-byte
 
 -- bit k of a mask is set exactly where register k is among the places
 
-pub mmx-printed : (k : ℕ) (ps : List Place) → (bit k (setOf ps .mmx) ≡ 1) ↔ In (mmx k) ps
-mmx-printed = bit-exactly mmxNumber mmx (λ k. here refl) only-mmx
+pub mmx-masked : (k : ℕ) (ps : List Place) → (bit k (setOf ps .mmx) ≡ 1) ↔ In (mmx k) ps
+mmx-masked = bit-exactly mmxNumber mmx (λ k. here refl) only-mmx
 
-pub integer-printed : (k : ℕ) (ps : List Place) → (bit k (setOf ps .integers) ≡ 1) ↔ In (integer k) ps
-integer-printed = bit-exactly integerNumber integer (λ k. here refl) only-integer
+pub integer-masked : (k : ℕ) (ps : List Place) → (bit k (setOf ps .integers) ≡ 1) ↔ In (integer k) ps
+integer-masked = bit-exactly integerNumber integer (λ k. here refl) only-integer
 
 -- a byte is in the range exactly where it is among the places
-pub byte-printed : (a : ℕ) (ps : List Place) → Range (bytesOf ps)
+pub byte-masked : (a : ℕ) (ps : List Place) → Range (bytesOf ps)
     → ((setOf ps .start ≤ a) × (a < setOf ps .start + setOf ps .length)) ↔ In (byte a) ps
-byte-printed a ps range =
+byte-masked a ps range =
     let n = byte-exactly a ps in (λ h. n .0 (range a .1 h), λ i. range a .0 (n .1 i))

@@ -10,7 +10,7 @@ use lib.ListN.{getD, set}
 use Rattle.lanes.specs.Operations.{operationOf, operate}
 use Rattle.words.specs.Buffer.{stored}
 use Rattle.machine.specs.declared.gathering.Work.{Work}
-use Rattle.machine.specs.Works.{toOperate, toStore, toInteger, toEmpty, performed, Gathered, Advanced}
+use Rattle.machine.specs.inner.Works.{toOperate, toStore, toInteger, toEmpty, performed, Gathered, Advanced}
 
 module _ (registers integers : List ℕ) (bar : ℕ) (code : List ℕ) (at : ℕ) (m : List ℕ) (work : Work) (g : Gathered work registers integers bar code at m) where
   -- the registers that it names are there

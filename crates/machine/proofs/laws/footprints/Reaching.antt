@@ -20,13 +20,13 @@ use Rattle.machine.specs.declared.operands.Spot.the-variants.{Mmx, Integ
 use Rattle.machine.specs.declared.operands.Spot.the-variants as spots
 use Rattle.machine.specs.declared.reaches.Reach.{Reach}
 use Rattle.machine.specs.declared.reaches.Reach.the-variants.{Inside, Refused}
-use Rattle.machine.specs.Prints.{mmxNumber, integerNumber, numbersOf, mask, setOf}
-use Rattle.machine.specs.PrintShapes.{nowhere, beside, reachOf, behind}
-use Rattle.machine.specs.Spots.{fileIn, otherOf, spotOf}
-use Rattle.machine.specs.Works.{Listed}
-use Rattle.machine.proofs.Ranges.{count-bytes}
-use Rattle.machine.proofs.Numbering.{other}
-use Rattle.machine.proofs.Locating.{spot-named, register-mmx, register-integer}
+use Rattle.machine.specs.Footprints.{mmxNumber, integerNumber, numbersOf, mask, setOf}
+use Rattle.machine.specs.inner.Shapes.{nowhere, beside, reachOf, behind}
+use Rattle.machine.specs.inner.Spots.{fileIn, otherOf, spotOf}
+use Rattle.machine.specs.inner.Works.{Listed}
+use Rattle.machine.proofs.laws.meetings.Ranges.{count-bytes}
+use Rattle.machine.proofs.laws.operands.Numbering.{other}
+use Rattle.machine.proofs.laws.operands.Locating.{spot-named, register-mmx, register-integer}
 
 no-mmx : (size a : ℕ) → numbersOf mmxNumber (bytesFrom a size) ≡ []
 no-mmx zero a = refl
@@ -88,4 +88,4 @@ module _ (s : State) (w : Operand) where
           → Inside m (record { mmx = 0; integers = b; start = 0; length = 0 }) ≡ reachOf there (placesOf s there)
       reach-integer k b i f = reach-there (Inside m (record { mmx = 0; integers = b; start = 0; length = 0 })) (simp (i, f))
 
-pub ruleset print-reaching = (needs, spot-named, register-mmx, register-integer, reach-there, reach-integer)
+pub ruleset reach-rules = (needs, spot-named, register-mmx, register-integer, reach-there, reach-integer)

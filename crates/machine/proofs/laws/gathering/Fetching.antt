@@ -29,10 +29,10 @@ use Rattle.manual.proofs.Turns.{instruction-here}
 use Rattle.manual.proofs.Direct.{marks-first}
 use Rattle.machine.specs.declared.gathering.Work.{Work}
 use Rattle.machine.specs.State.{stateOf}
-use Rattle.machine.specs.Works.{machineOf, effectIn, Listed, performed, Does, Gathered, refusedWork}
-use Rattle.machine.proofs.Listing.{row-listed, effect-is}
-use Rattle.machine.proofs.Soundness.{sound-refusal}
-use Rattle.machine.proofs.Testing.{unbarred-by, barred-by}
+use Rattle.machine.specs.inner.Works.{machineOf, effectIn, Listed, performed, Does, Gathered, refusedWork}
+use Rattle.machine.proofs.laws.gathering.Listing.{row-listed, effect-is}
+use Rattle.machine.proofs.laws.gathering.Soundness.{sound-refusal}
+use Rattle.machine.proofs.laws.gathering.Testing.{unbarred-by, barred-by}
 
 module _ (table code : List ℕ) (at : ℕ) (x : Found) (ours : table ≡ opcodeTable) (e : x ≡ findWith table code at) where
   -- what is found is the defined reading, as far on as the position

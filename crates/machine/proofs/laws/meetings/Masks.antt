@@ -10,7 +10,7 @@ use native.Mathlib.Omega.{arith}
 use lib.Arith.{bin-ind}
 use lib.Bits.{bitAnd, bitOr, or-step, and-step, or-shr, and-shr, or-zero-l}
 use lib.Pow.{pow-pos, pow-lt, pow-add, shl-shr, shr-shr}
-use Rattle.machine.specs.Prints.{mask}
+use Rattle.machine.specs.Footprints.{mask}
 
 -- bit k of x
 abbrev pub bit : ℕ → ℕ → ℕ

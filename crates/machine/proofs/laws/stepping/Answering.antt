@@ -15,7 +15,7 @@ use Rattle.machine.specs.declared.Machine.{Machine}
 use Rattle.machine.specs.declared.stepping.Moved.{Moved}
 use Rattle.machine.specs.State.{stateOf}
 use Rattle.machine.specs.Steps.{paperOfStep}
-use Rattle.machine.specs.Works.{machineOf, barredBy, Advanced}
+use Rattle.machine.specs.inner.Works.{machineOf, barredBy, Advanced}
 
 -- the tests of the limits
 module _ (code : List ℕ) (at : ℕ) (k : Machine) (m : List ℕ) where

@@ -11,7 +11,7 @@ use Rattle.manual.specs.declared.Marks.{Marks}
 use Rattle.manual.specs.Refusals.{invalidOpcode, notAvailable, isPending}
 use Rattle.manual.specs.Effects.{unlessMarked}
 use Rattle.manual.proofs.Marking.{controlled}
-use Rattle.machine.specs.Works.{barredBy}
+use Rattle.machine.specs.inner.Works.{barredBy}
 
 module _ (marks : Marks) where
   pub barred-em : marks .em ≡ true → invalidOpcode ≡ barredBy marks

@@ -1,0 +1,8 @@
+-- The laws by the module of the code that they serve.
+pub mod meetings
+pub mod addresses
+pub mod operands
+pub mod gathering
+pub mod stepping
+pub mod running
+pub mod footprints

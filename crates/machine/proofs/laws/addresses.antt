@@ -1,0 +1,2 @@
+-- The rules for addresses.
+pub mod Addressing

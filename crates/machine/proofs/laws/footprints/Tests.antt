@@ -1,0 +1,80 @@
+-- The tests before the footprint, in the order of a step's: the memory's length, the reader's, the control marks. Rules for their answers.
+use mathlib.Core.Path.{_≡_, refl, sym, ap, _∙_}
+use mathlib.Core.List.{List}
+use Prim.Native.Nat.{ℕ, _-_, _≤_, _<_}
+use borrow.Author.Needs.{needs}
+use borrow.Author.Tests.{lt-ltb, le-ltb}
+use lib.ListN.{length}
+use Rattle.reorder.specs.Result.{Result, refused, andThen, mapResult}
+use Rattle.reorder.specs.Plan.{Plan}
+use Rattle.reorder.specs.Footprint.{footprintIn}
+use Rattle.codec.specs.Answers.{Decoded, good}
+use Rattle.codec.specs.Answers as decoded
+use Rattle.codec.specs.Finding.{findWith}
+use Rattle.codec.specs.Refusals.{codeTooLong}
+use Rattle.codec.specs.Table.{opcodeTable}
+use Rattle.codec.specs.Reads.{longestCode, readAt}
+use Rattle.codec.specs.declared.Found.{Found}
+use Rattle.codec.specs.declared.Kind.{Kind}
+use Rattle.codec.proofs.OurTable.{read-long, read-on, read-stop}
+use Rattle.manual.specs.Refusals.{memoryTooLong}
+use Rattle.manual.specs.State.{State, longestMemory}
+use Rattle.manual.specs.Places.{Place, look}
+use Rattle.manual.specs.Effects.{Effect, unlessMarked, via}
+use Rattle.manual.specs.Instructions.{effectOf, footprint}
+use Rattle.manual.specs.Steps.{resultOf, instructionAt}
+use Rattle.manual.specs.Footprints.{footprintAt}
+use Rattle.manual.proofs.Marking.{past-marks}
+use Rattle.machine.specs.declared.Footprint.{Footprint}
+use Rattle.machine.specs.declared.Machine.{Machine}
+use Rattle.machine.specs.declared.Tracing.{Tracing}
+use Rattle.machine.specs.State.{stateOf}
+use Rattle.machine.specs.Footprints.{masked, maskedAt, paperOfFootprint}
+use Rattle.machine.specs.inner.Shapes.{unmarkedFootprint}
+use Rattle.machine.specs.inner.Works.{barredBy, effectIn}
+use Rattle.machine.proofs.laws.gathering.Fetching.{names-registers, is-listed, effect-found}
+use Rattle.machine.proofs.laws.gathering.Testing.{unbarred-by, barred-by}
+
+-- past the memory's length
+module _ (code : List ℕ) (at : ℕ) (machine : Machine) (memory : List ℕ) where
+  abbrev here : State
+  here = stateOf machine memory
+
+  pub traced-long : longestMemory < length memory → refused memoryTooLong ≡ maskedAt code at here
+  unfolding maskedAt footprintAt instructionAt
+  traced-long h = simp (lt-ltb longestMemory (length memory) h)
+
+  module _ (short : length memory ≤ longestMemory) where
+    by-reading : (z : Decoded) → z ≡ readAt code at → maskedAt code at here ≡ mapResult masked (andThen (resultOf z) (λ r. footprint (r .instruction) here))
+    unfolding maskedAt footprintAt instructionAt
+    by-reading z e = simp (le-ltb longestMemory (length memory) short, ← e)
+
+    pub traced-code-long : longestCode < length code → refused codeTooLong ≡ maskedAt code at here
+    traced-code-long h = sym (by-reading (decoded.refused codeTooLong) (read-long code at h))
+
+    -- with our table
+    module _ (fits : length code ≤ longestCode) (table : List ℕ) (x : Found) (ours : table ≡ opcodeTable) (e : x ≡ findWith table code at) where
+      pub traced-unread : (x .refusal ≡ 0 → ⊥) → refused (x .refusal) ≡ maskedAt code at here
+      traced-unread h = sym (by-reading (decoded.refused (x .refusal)) (read-stop code at x table ours e fits h))
+
+      module _ (passed : x .refusal ≡ 0) where
+        abbrev left : Result Footprint
+        left = unmarkedFootprint (effectIn (x .entry) (x .instruction)) here
+
+        traced-found : maskedAt code at here ≡ unlessMarked (machine .marks) left
+        unfolding footprint unmarkedFootprint
+        traced-found =
+            by-reading (good (x .instruction) (x .next - at)) (read-on code at x table ours e fits passed)
+            ∙ past-marks (λ (o : Result (Plan Place Kind)). mapResult masked (footprintIn look (via (effectOf (x .instruction))) here o)) (λ n. refl)
+            (machine .marks) _
+            ∙ ap (λ (y : Effect). unlessMarked (machine .marks) (unmarkedFootprint y here)) (sym (effect-found table code at x ours e passed))
+
+        -- the number of the marks, or 0
+        module _ (bar : ℕ) (found : bar ≡ barredBy (machine .marks)) where
+          pub traced-barred : (bar ≡ 0 → ⊥) → refused bar ≡ maskedAt code at here
+          traced-barred h = ap refused found ∙ sym (traced-found ∙ barred-by (machine .marks) _ (λ z. h (found ∙ z)))
+
+          pub traced-unbarred : (r : Tracing) → bar ≡ 0 → paperOfFootprint r ≡ left → paperOfFootprint r ≡ maskedAt code at here
+          traced-unbarred r h p = p ∙ sym (traced-found ∙ unbarred-by (machine .marks) _ (sym found ∙ h))
+
+pub ruleset position-rules = (needs, names-registers, is-listed, traced-long, traced-code-long, traced-unread, traced-barred, traced-unbarred)

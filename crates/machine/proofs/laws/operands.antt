@@ -1,0 +1,3 @@
+-- The rules for where an operand is, by the form.
+pub mod Numbering
+pub mod Locating

@@ -1,0 +1,2 @@
+-- The rules for the run.
+pub mod Budgets

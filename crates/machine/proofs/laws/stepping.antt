@@ -1,0 +1,3 @@
+-- The rules for one step.
+pub mod Advancing
+pub mod Answering
