@@ -19,7 +19,8 @@ use Rattle.manual.specs.Places.{Place, mmx, integer, byte, look, put}
 use Rattle.manual.specs.Kinds.{marked}
 use Rattle.manual.specs.Addresses.{Address, address}
 use Rattle.manual.specs.Locations.{Location, mmxRegister, integerRegister, memory, bytesFrom, fits, placesOf}
-use Rattle.manual.specs.Effects.{Effect, width, valueIn, contentsOf, unlessMarked, planOn, placed, directly, perform as performs}
+use Rattle.manual.specs.Effects.{Effect, width, valueIn, contentsOf, unlessMarked, planOn, placed, perform as performs}
+use Rattle.manual.specs.inner.Unmarked.{directly}
 use Rattle.manual.proofs.Marking.{past-marks}
 use Rattle.manual.proofs.Shapes.{both, move}
 

@@ -18,7 +18,8 @@ use Rattle.manual.specs.Places.{Place, look, put}
 use Rattle.manual.specs.Kinds.{marked}
 use Rattle.manual.specs.Addresses.{address}
 use Rattle.manual.specs.Locations.{Location, mmxRegister, integerRegister, memory, fits, bytesFrom, placesOf}
-use Rattle.manual.specs.Effects.{placesOfAll, planOn, directly, plan, unlessMarked}
+use Rattle.manual.specs.Effects.{placesOfAll, planOn, plan, unlessMarked}
+use Rattle.manual.specs.inner.Unmarked.{directly}
 use Rattle.manual.specs.Instructions.{effectOf, execute}
 use Rattle.manual.specs.Steps.{refusedWith, resultOf, concluded, instructionAt, stepAt}
 use Rattle.manual.specs.Reasons.{Stands, Outside, Reason, one, reading, seven, eight, nine, ten}

@@ -78,10 +78,6 @@ planOn e source target =
 abbrev pub placed : Effect → State → Result (Plan Place Kind)
 placed e s = andThen (placesOfAll s (e .takes)) (λ source. mapResult (planOn e source) (placesOfAll s (e .gives)))
 
--- the step of an effect whose control marks have been tested
-abbrev pub directly : Effect → State → Result State
-directly = execBy look put marked placed
-
 -- the effect in a state: the control marks are tested before the operands
 abbrev pub plan : Effect → State → Result (Plan Place Kind)
 plan e s = unlessMarked (s .marks) (placed e s)

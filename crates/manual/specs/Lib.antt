@@ -12,3 +12,4 @@ pub mod Steps
 pub mod Reasons
 pub mod Runs
 pub mod Footprints
+pub mod inner

@@ -18,7 +18,8 @@ use Rattle.manual.specs.Refusals.{invalidOpcode, notAvailable, isPending}
 use Rattle.manual.specs.State.{State, withMemory, tagged}
 use Rattle.manual.specs.Places.{mmx, integer, look, put}
 use Rattle.manual.specs.Kinds.{marked}
-use Rattle.manual.specs.Effects.{Effect, directly}
+use Rattle.manual.specs.Effects.{Effect}
+use Rattle.manual.specs.inner.Unmarked.{directly}
 use Rattle.manual.specs.Instructions.{effectBy}
 use Rattle.manual.specs.Steps.{concluded, Outcome, completed, refusedWith, stepAt}
 use Rattle.machine.specs.declared.Machine.{Machine}

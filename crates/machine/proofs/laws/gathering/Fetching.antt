@@ -21,7 +21,8 @@ use Rattle.codec.proofs.OurTable.{found-ours}
 use Rattle.codec.proofs.Theorems.{found-registers}
 use Rattle.manual.specs.declared.Marks.{Marks}
 use Rattle.manual.specs.State.{State, longestMemory}
-use Rattle.manual.specs.Effects.{Effect, unlessMarked, directly}
+use Rattle.manual.specs.Effects.{Effect, unlessMarked}
+use Rattle.manual.specs.inner.Unmarked.{directly}
 use Rattle.manual.specs.Instructions.{effectOf, execute}
 use Rattle.manual.specs.Steps.{concluded, refusedWith, resultOf, stepAt}
 use Rattle.manual.specs.Runs.{read}

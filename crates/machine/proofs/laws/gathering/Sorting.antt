@@ -23,7 +23,7 @@ use Rattle.manual.specs.State.{State}
 use Rattle.manual.specs.Kinds.{marked}
 use Rattle.manual.specs.Addresses.{address, addressOf}
 use Rattle.manual.specs.Locations.{Location, mmxRegister, memory, rmOf, fits}
-use Rattle.manual.specs.Effects.{directly}
+use Rattle.manual.specs.inner.Unmarked.{directly}
 use Rattle.manual.specs.Instructions.{heldBy, effectBy}
 use Rattle.manual.specs.Steps.{concluded}
 use Rattle.manual.proofs.Direct.{valueAt, putAt, move-direct, both-direct}
