@@ -1,8 +1,7 @@
 -- Any two answers that a public contract allows at one input are equal, and so is what they leave in a lent buffer: each contract is one equation,
 -- and the paper's answers of different cases differ.
-use mathlib.Core.Path.{_≡_, sym, _∙_}
-use mathlib.Core.List.{List}
-use Prim.Native.Nat.{ℕ}
+use Rattle.basis.specs.Names.{_≡_, List, ℕ}
+use Rattle.basis.proofs.Names.{sym, _∙_}
 use contract.Lifetimes.{Lfts}
 use borrow.Fn.Kinds.{Dens, resT, endedOf}
 use denote.Triple.Clauses.{AtExit}

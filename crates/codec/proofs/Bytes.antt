@@ -1,11 +1,6 @@
 -- What is found in a list: what every line passes is passed by the line found. So it is said of every second byte, and of every form's number.
-use Prim.Native.Nat.{ℕ, _≤_}
-use mathlib.Core.Path.{_≡_, refl}
-use mathlib.Core.Bool.{Bool, true, false, cond, _&&_, _||_}
-use mathlib.Core.List.{List, [], _∷_}
-use native.Mathlib.Omega.{arith}
-use borrow.Author.Tests.{ltb-true, le-ltb, eqb-true}
-use lib.Dec.{eqb, ltb}
+use Rattle.basis.specs.Names.{ℕ, _≤_, _≡_, refl, Bool, true, false, cond, _&&_, _||_, List, [], _∷_, eqb, ltb}
+use Rattle.basis.proofs.Names.{arith, ltb-true, le-ltb, eqb-true}
 use Rattle.codec.specs.Forms.{Form, absent, mmreg1·mmreg2/mem64, forms}
 use Rattle.codec.specs.Contents.{lines}
 use Rattle.codec.specs.Opcodes.{find, formAt}

@@ -1,11 +1,6 @@
 -- The writer's tests, from what the code has found: rules for the functions that say whether a record has bytes.
-use Prim.Native.Nat.{ℕ, zero, suc, _^_, _<_}
-use mathlib.Core.Path.{_≡_, refl, sym, ap, _∙_}
-use mathlib.Core.Bool.{Bool, true, false, and-true}
-use native.Mathlib.Omega.{arith}
-use borrow.Author.Needs.{needs}
-use borrow.Author.Tests.{lt-ltb, eq-eqb, ne-eqb, le-ltb}
-use lib.Dec.{eqb, ltb}
+use Rattle.basis.specs.Names.{ℕ, zero, suc, _^_, _<_, _≡_, refl, Bool, true, false, eqb, ltb}
+use Rattle.basis.proofs.Names.{sym, ap, _∙_, and-true, arith, needs, lt-ltb, eq-eqb, ne-eqb, le-ltb}
 use Rattle.codec.specs.Forms.{Form, allows, immediateSize}
 use Rattle.codec.specs.Opcodes.{formAt, escape}
 use Rattle.codec.specs.Table.{formOf}

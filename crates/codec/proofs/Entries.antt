@@ -1,12 +1,6 @@
 -- Our table says of each second byte what the list says: a computation for the 256 bytes.
-use Prim.Native.Nat.{ℕ, zero, suc, _+_, _*_, _/_, _%_, _^_, _≤_, _<_}
-use mathlib.Core.Path.{_≡_, refl, sym, ap, ap₂, subst, _∙_}
-use mathlib.Core.Bool.{Bool, true, false, cond}
-use native.Mathlib.Omega.{arith}
-use native.Mathlib.Nat.{zero-add, add-zero}
-use borrow.Author.Tests.{ltb-true, ltb-false}
-use lib.Dec.{eqb, ltb}
-use lib.ListN.{length, getD, List·getD-eq-default}
+use Rattle.basis.specs.Names.{ℕ, zero, suc, _+_, _*_, _/_, _%_, _^_, _≤_, _<_, _≡_, refl, Bool, true, false, cond, eqb, ltb, length, getD}
+use Rattle.basis.proofs.Names.{sym, ap, ap₂, subst, _∙_, arith, zero-add, add-zero, ltb-true, ltb-false, List·getD-eq-default}
 use Rattle.lanes.specs.Operations.{KEEP}
 use Rattle.codec.specs.Opcodes.{formAt, operationAt, escape}
 use Rattle.codec.specs.Table.{formOf, entryAt, listed, opcodeTable, formIn}

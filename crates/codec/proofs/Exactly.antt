@@ -1,15 +1,7 @@
 -- Each refusal of reading is given exactly when there is its reason: what is left of a code is a good instruction, or has a reason, and what has
 -- a reason is refused by its number.
-use Prim.Native.Nat.{ℕ, zero, suc, _+_, _-_, _≤_, _<_}
-use mathlib.Core.Path.{_≡_, refl, sym, ap, subst, _∙_}
-use mathlib.Core.Logic.{_↔_, inl, inr}
-use mathlib.Core.Bool.{Bool, true, false, cond, false≢true}
-use mathlib.Core.List.{List, [], _∷_, _++_, append-assoc}
-use native.Mathlib.Omega.{arith}
-use borrow.Author.Tests.{leb-true, leb-false, le-leb, lt-leb, ltb-true, ltb-false, lt-ltb, le-ltb, eqb-true, eqb-false}
-use lib.Dec.{eqb, leb, ltb}
-use lib.ListN.{length, take, drop, replicate, length-append, length-replicate, take-append-drop}
-use lib.Seq.{take-append-le, drop-append-le}
+use Rattle.basis.specs.Names.{ℕ, zero, suc, _+_, _-_, _≤_, _<_, _≡_, refl, Bool, true, false, cond, List, [], _∷_, _++_, eqb, leb, ltb, length, take, drop, replicate}
+use Rattle.basis.proofs.Names.{sym, ap, subst, _∙_, _↔_, inl, inr, false≢true, append-assoc, arith, leb-true, leb-false, le-leb, lt-leb, ltb-true, ltb-false, lt-ltb, le-ltb, eqb-true, eqb-false, length-append, length-replicate, take-append-drop, take-append-le, drop-append-le}
 use Rattle.words.specs.Number.{AllBytes, number}
 use Rattle.words.proofs.Numbers.{all-none, all-cons, all-append}
 use Rattle.codec.specs.Refusals.{codeTooLong, codeEnds, prefixed, notListed, notAllowed, noBytes, bufferEnds}

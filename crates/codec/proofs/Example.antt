@@ -1,7 +1,5 @@
 -- What the writer leaves, computed: in a buffer that is longer than the instruction, as long, and shorter; and of a record without bytes.
-use mathlib.Core.Path.{_≡_, refl}
-use mathlib.Core.List.{[], _∷_}
-use Prim.Native.Nat.{ℕ}
+use Rattle.basis.specs.Names.{_≡_, refl, [], _∷_, ℕ}
 use Rattle.codec.specs.declared.Instruction.{Instruction}
 use Rattle.codec.specs.declared.Writing.the-variants.{Wrote, Refused}
 use Rattle.codec.specs.Answers.{wrote, refusedWith, paperOfWriting}

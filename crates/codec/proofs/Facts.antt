@@ -1,10 +1,6 @@
 -- The writer's tests as facts: all of a list of tests is true exactly where each of them is.
-use Prim.Native.Nat.{ℕ, _^_, _<_}
-use mathlib.Core.Path.{_≡_, refl, sym, ap, _∙_}
-use mathlib.Core.Bool.{Bool, true, false, not, cond, _&&_, false≢true}
-use mathlib.Core.List.{List, [], _∷_}
-use borrow.Author.Tests.{lt-ltb, ltb-true, eqb-true, eq-eqb, not-true}
-use lib.Dec.{eqb, ltb}
+use Rattle.basis.specs.Names.{ℕ, _^_, _<_, _≡_, refl, Bool, true, false, not, cond, _&&_, List, [], _∷_, eqb, ltb}
+use Rattle.basis.proofs.Names.{sym, ap, _∙_, false≢true, lt-ltb, ltb-true, eqb-true, eq-eqb, not-true}
 use Rattle.codec.specs.Forms.{Form, isAbsent, hasOperand, allows, immediateSize}
 use Rattle.codec.specs.Opcodes.{formAt, escape}
 use Rattle.codec.specs.Table.{formOf}

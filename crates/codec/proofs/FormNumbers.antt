@@ -1,11 +1,6 @@
 -- What the code's tests on a form's number say of the form: rules for the functions that take one.
-use Prim.Native.Nat.{ℕ, zero, suc, _-_, _≤_, _<_}
-use mathlib.Core.Path.{_≡_, refl, sym}
-use mathlib.Core.Bool.{Bool, true, false, not, _&&_, false≢true}
-use mathlib.Core.List.{List, [], _∷_}
-use native.Mathlib.Omega.{arith}
-use borrow.Author.Tests.{ne-eqb, eqb-true, not-true}
-use lib.Dec.{eqb}
+use Rattle.basis.specs.Names.{ℕ, zero, suc, _-_, _≤_, _<_, _≡_, refl, Bool, true, false, not, _&&_, List, [], _∷_, eqb}
+use Rattle.basis.proofs.Names.{sym, false≢true, arith, ne-eqb, eqb-true, not-true}
 use Rattle.words.proofs.Laws.{and-both}
 use Rattle.codec.specs.Forms.{Use, Slot, reg, rm, rm/mem, Form, isAbsent, hasOperand, slotAllows, slotsAllow, digitAmong, allows, immediateSize}
 use Rattle.codec.specs.Table.{formOf}

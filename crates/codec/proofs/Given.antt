@@ -1,10 +1,6 @@
 -- What every reading gives, whatever the table and the bytes: registers below 8, a form that is there, the refusals 3 to 6. Part by part.
-use Prim.Native.Nat.{ℕ, _≤_}
-use mathlib.Core.Path.{_≡_, refl, ap, _∙_}
-use mathlib.Core.Bool.{Bool, true, false, cond}
-use mathlib.Core.List.{List}
-use native.Mathlib.Omega.{arith}
-use lib.Dec.{eqb}
+use Rattle.basis.specs.Names.{ℕ, _≤_, _≡_, refl, Bool, true, false, cond, List, eqb}
+use Rattle.basis.proofs.Names.{ap, _∙_, arith}
 use Rattle.codec.specs.Refusals.{prefixed, notListed}
 use Rattle.codec.specs.Forms.{Form, isAmong, isAbsent, hasOperand, allows}
 use Rattle.codec.specs.Opcodes.{escape, prefixes}

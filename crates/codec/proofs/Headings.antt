@@ -1,11 +1,5 @@
 -- The list has 47 headings with 57 instructions, and each is found by its bytes: by computation.
-use mathlib.Core.Path.{_≡_, refl}
-use mathlib.Core.Bool.{cond}
-use mathlib.Core.List.{List, [], _∷_, _++_, map}
-use mathlib.Core.Option.{Option, none, some}
-use Prim.Native.Nat.{ℕ}
-use lib.Dec.{eqb}
-use lib.ListN.{length}
+use Rattle.basis.specs.Names.{_≡_, refl, cond, List, [], _∷_, _++_, map, Option, none, some, ℕ, eqb, length}
 use Rattle.codec.specs.Contents.{Line, contents, lines}
 use Rattle.codec.specs.Opcodes.{formAt, operationAt}
 

@@ -1,7 +1,6 @@
 -- A byte of three fields gives its fields, and they the byte.
-use Prim.Native.Nat.{ℕ, _<_}
-use mathlib.Core.Path.{_≡_}
-use native.Mathlib.Omega.{arith}
+use Rattle.basis.specs.Names.{ℕ, _<_, _≡_}
+use Rattle.basis.proofs.Names.{arith}
 use Rattle.codec.specs.Operands.{upper, middle, lower, joined}
 use Rattle.codec.specs.inner.Fields.{Fields}
 

@@ -1,11 +1,6 @@
 -- The opcode bytes, all 256 of each: of the first, document 01's eleven are refused by 4 on their own, 0F goes on, and every other byte is refused by
 -- 5; of the second, after 0F, every byte but the 52 of document 01's table is.
-use Prim.Native.Nat.{ℕ, zero, suc}
-use mathlib.Core.Path.{_≡_, refl}
-use mathlib.Core.Bool.{Bool, false, not, cond}
-use mathlib.Core.List.{List, [], _∷_}
-use lib.Dec.{eqb}
-use lib.ListN.{length}
+use Rattle.basis.specs.Names.{ℕ, zero, suc, _≡_, refl, Bool, false, not, cond, List, [], _∷_, eqb, length}
 use Rattle.codec.specs.Refusals.{codeEnds, prefixed, notListed}
 use Rattle.codec.specs.Opcodes.{formAt}
 use Rattle.codec.specs.Reads.{readPart, immediateReader, modrmReader, formReader, refusalOf, secondReader, instructionReader}

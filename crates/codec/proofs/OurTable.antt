@@ -1,13 +1,6 @@
 -- Reading with our table: what is found at a position, less that position, is the defined reading. Rules for `read`.
-use Prim.Native.Nat.{ℕ, _+_, _-_, _≤_, _<_}
-use mathlib.Core.Path.{_≡_, refl, sym, ap, _∙_}
-use mathlib.Core.Bool.{Bool, cond}
-use mathlib.Core.List.{List}
-use native.Mathlib.Omega.{arith}
-use native.Mathlib.Nat.{add-zero}
-use borrow.Author.Needs.{needs}
-use borrow.Author.Tests.{lt-ltb, le-ltb}
-use lib.ListN.{length, drop}
+use Rattle.basis.specs.Names.{ℕ, _+_, _-_, _≤_, _<_, _≡_, refl, Bool, cond, List, length, drop}
+use Rattle.basis.proofs.Names.{sym, ap, _∙_, arith, add-zero, needs, lt-ltb, le-ltb}
 use Rattle.codec.specs.Refusals.{codeTooLong}
 use Rattle.codec.specs.Opcodes.{formAt}
 use Rattle.codec.specs.Table.{opcodeTable}

@@ -1,14 +1,6 @@
 -- What the writer's stores leave, part by part: rules for the functions that put bytes.
-use Prim.Native.Nat.{ℕ, suc, _+_, _/_, _%_, _≤_, _<_}
-use mathlib.Core.Path.{_≡_, sym, ap, ap₂, _∙_}
-use mathlib.Core.Bool.{Bool, true, false}
-use mathlib.Core.List.{List, [], _∷_, _++_}
-use native.Mathlib.Numerals.{towards-suc}
-use native.Mathlib.Omega.{arith}
-use borrow.Author.Needs.{needs}
-use borrow.Author.Tests.{le-leb, lt-leb}
-use lib.ListN.{length, set, drop, length-append, length-set}
-use lib.Seq.{sets, sets-eq}
+use Rattle.basis.specs.Names.{ℕ, suc, _+_, _/_, _%_, _≤_, _<_, _≡_, Bool, true, false, List, [], _∷_, _++_, length, set, drop, sets}
+use Rattle.basis.proofs.Names.{sym, ap, ap₂, _∙_, towards-suc, arith, needs, le-leb, lt-leb, length-append, length-set, sets-eq}
 use Rattle.words.specs.Number.{bytes}
 use Rattle.codec.specs.Refusals.{noBytes, bufferEnds}
 use Rattle.codec.specs.Answers.{wrote, refusedWith}

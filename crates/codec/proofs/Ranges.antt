@@ -1,8 +1,6 @@
 -- A record that has bytes is in range: its fields fit their places, and a place has its bits.
-use Prim.Native.Nat.{ℕ, _^_, _<_}
-use mathlib.Core.Path.{_≡_, refl, sym, subst}
-use mathlib.Core.Bool.{Bool, true, false}
-use native.Mathlib.Omega.{arith}
+use Rattle.basis.specs.Names.{ℕ, _^_, _<_, _≡_, refl, Bool, true, false}
+use Rattle.basis.proofs.Names.{sym, subst, arith}
 use Rattle.codec.specs.Forms.{Form, hasOperand, allows, immediateSize}
 use Rattle.codec.specs.Opcodes.{formAt, escape}
 use Rattle.codec.specs.Operands.{hasSib, displacementSize}

@@ -1,15 +1,6 @@
 -- Laws of every reader, whatever it asks for: it reads its own bytes alone, wherever they stand. By cases of what is still to be read.
-use Prim.Native.Nat.{ℕ, suc, _+_, _-_, _≤_, _<_}
-use mathlib.Core.Path.{_≡_, refl, sym, ap, ap₂, _∙_}
-use mathlib.Core.Bool.{Bool, true, false, cond, false≢true}
-use mathlib.Core.List.{List, [], _∷_, _++_, append-assoc}
-use native.Mathlib.Numerals.{add-one}
-use native.Mathlib.Omega.{arith}
-use native.Mathlib.Nat.{add-assoc, add-zero}
-use borrow.Author.Tests.{leb-true, le-leb, lt-leb}
-use lib.Dec.{leb}
-use lib.ListN.{length, getD, take, drop, length-append, length-drop}
-use lib.Seq.{drop-cons, length-take-le, take-add, take-at, drop-at, drop-drop}
+use Rattle.basis.specs.Names.{ℕ, suc, _+_, _-_, _≤_, _<_, _≡_, refl, Bool, true, false, cond, List, [], _∷_, _++_, leb, length, getD, take, drop}
+use Rattle.basis.proofs.Names.{sym, ap, ap₂, _∙_, false≢true, append-assoc, add-one, arith, add-assoc, add-zero, leb-true, le-leb, lt-leb, length-append, length-drop, drop-cons, length-take-le, take-add, take-at, drop-at, drop-drop}
 use Rattle.words.specs.Number.{number}
 use Rattle.codec.specs.Refusals.{codeEnds}
 use Rattle.codec.specs.Reader.{Reader, whole, refuse, byte, field, reads}

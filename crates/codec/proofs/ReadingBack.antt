@@ -1,12 +1,6 @@
 -- A record that has bytes is read from them, whatever follows: part by part, each reader finds the bytes of its part.
-use Prim.Native.Nat.{ℕ, suc, _+_, _^_, _<_}
-use mathlib.Core.Path.{_≡_, refl, sym, ap, ap₂, _∙_}
-use mathlib.Core.Bool.{Bool, true, false, cond}
-use mathlib.Core.List.{List, [], _∷_, _++_, append-assoc}
-use native.Mathlib.Omega.{arith}
-use native.Mathlib.Nat.{add-zero}
-use borrow.Author.Tests.{eq-eqb}
-use lib.ListN.{length, length-append}
+use Rattle.basis.specs.Names.{ℕ, suc, _+_, _^_, _<_, _≡_, refl, Bool, true, false, cond, List, [], _∷_, _++_, length}
+use Rattle.basis.proofs.Names.{sym, ap, ap₂, _∙_, append-assoc, arith, add-zero, eq-eqb, length-append}
 use Rattle.words.specs.Number.{AllBytes, bytes}
 use Rattle.codec.specs.Forms.{Form, hasOperand, allows, immediateSize}
 use Rattle.codec.specs.Opcodes.{formAt, escape}

@@ -1,11 +1,6 @@
 -- Refusal 6 in document 01's words: 71, 72 or 73 with mod not 11, or with a digit that is not listed; and nothing else.
-use Prim.Native.Nat.{ℕ}
-use mathlib.Core.Path.{_≡_, refl, sym, ap, subst, _∙_}
-use mathlib.Core.Logic.{_↔_, inl, inr, _⊎_}
-use mathlib.Core.Bool.{Bool, true, false, _&&_, _||_, false≢true}
-use mathlib.Core.List.{List, [], _∷_}
-use borrow.Author.Tests.{eqb-true}
-use lib.Dec.{eqb}
+use Rattle.basis.specs.Names.{ℕ, _≡_, refl, _⊎_, Bool, true, false, _&&_, _||_, List, [], _∷_, eqb}
+use Rattle.basis.proofs.Names.{sym, ap, subst, _∙_, _↔_, inl, inr, false≢true, eqb-true}
 use Rattle.codec.specs.Forms.{absent, isAmong, isAbsent, hasOperand, allows}
 use Rattle.codec.specs.Contents.{lines}
 use Rattle.codec.specs.Opcodes.{formAt, escape}

@@ -1,9 +1,6 @@
 -- The sizes of displacements and immediates, 0, 1 or 4 bytes, and how far a number of four bytes reaches.
-use Prim.Native.Nat.{ℕ, _+_, _≤_, _<_}
-use mathlib.Core.Path.{_≡_, refl}
-use mathlib.Core.List.{List}
-use native.Mathlib.Omega.{arith}
-use lib.ListN.{length}
+use Rattle.basis.specs.Names.{ℕ, _+_, _≤_, _<_, _≡_, refl, List, length}
+use Rattle.basis.proofs.Names.{arith}
 use Rattle.codec.specs.inner.Fields.{Sized}
 use Rattle.codec.proofs.Tests.{tests}
 

@@ -1,13 +1,6 @@
 -- What is read spells the bytes that it was read from: each part that a reader asks for is a part of the record's bytes.
-use Prim.Native.Nat.{ℕ, suc, _+_, _^_, _<_}
-use mathlib.Core.Path.{_≡_, refl, sym, ap, subst, _∙_}
-use mathlib.Core.Bool.{Bool, true, false, cond, _&&_, false≢true}
-use mathlib.Core.List.{List, [], _∷_, _++_, append-assoc, append-nil}
-use native.Mathlib.Omega.{arith}
-use borrow.Author.Tests.{eqb-true}
-use lib.Dec.{eqb}
-use lib.ListN.{take, drop}
-use lib.Seq.{take-add}
+use Rattle.basis.specs.Names.{ℕ, suc, _+_, _^_, _<_, _≡_, refl, Bool, true, false, cond, _&&_, List, [], _∷_, _++_, eqb, take, drop}
+use Rattle.basis.proofs.Names.{sym, ap, subst, _∙_, false≢true, append-assoc, append-nil, arith, eqb-true, take-add}
 use Rattle.words.specs.Number.{AllBytes, number, bytes}
 use Rattle.codec.specs.Forms.{Form, isAbsent, hasOperand, allows, immediateSize}
 use Rattle.codec.specs.Opcodes.{formAt, escape}

@@ -1,14 +1,6 @@
 -- The reader at a position of a code: what each part gives, from what the code has found there. Rules for the reader's functions.
-use Prim.Native.Nat.{ℕ, _+_, _-_, _*_, _/_, _^_, _≤_, _<_}
-use mathlib.Core.Path.{_≡_, refl, sym, ap, _∙_}
-use mathlib.Core.Bool.{Bool, true, false, cond}
-use mathlib.Core.List.{List}
-use native.Mathlib.Omega.{arith}
-use native.Mathlib.Nat.{add-zero, mul-zero}
-use borrow.Author.Needs.{needs}
-use borrow.Author.Tests.{eq-eqb, ne-eqb}
-use lib.Dec.{eqb}
-use lib.ListN.{length, getD, take, drop, drop-of-length-le}
+use Rattle.basis.specs.Names.{ℕ, _+_, _-_, _*_, _/_, _^_, _≤_, _<_, _≡_, refl, Bool, true, false, cond, List, eqb, length, getD, take, drop}
+use Rattle.basis.proofs.Names.{sym, ap, _∙_, arith, add-zero, mul-zero, needs, eq-eqb, ne-eqb, drop-of-length-le}
 use Rattle.words.specs.Number.{number}
 use Rattle.codec.specs.Refusals.{codeEnds, notListed, notAllowed}
 use Rattle.codec.specs.Forms.{Form, isAbsent, hasOperand, allows, immediateSize}

@@ -1,13 +1,6 @@
 -- The theorems of the codec: bytes and records match one to one, reading is local, and what is read is in range.
-use Prim.Native.Nat.{ℕ, _≤_}
-use mathlib.Core.Path.{_≡_, refl, sym, ap, _∙_}
-use mathlib.Core.Bool.{Bool, true, false, cond, false≢true}
-use mathlib.Core.Logic.{_↔_}
-use mathlib.Core.List.{List, [], _++_, append-nil}
-use native.Mathlib.Omega.{arith}
-use borrow.Author.Tests.{le-ltb}
-use lib.Dec.{eqb, ltb, leb}
-use lib.ListN.{length, take, drop}
+use Rattle.basis.specs.Names.{ℕ, _≤_, _≡_, refl, Bool, true, false, cond, List, [], _++_, eqb, ltb, leb, length, take, drop}
+use Rattle.basis.proofs.Names.{sym, ap, _∙_, false≢true, _↔_, append-nil, arith, le-ltb}
 use Rattle.words.specs.Number.{AllBytes}
 use Rattle.codec.specs.Refusals.{codeTooLong, noBytes, bufferEnds}
 use Rattle.codec.specs.Opcodes.{formAt, escape}

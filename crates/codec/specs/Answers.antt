@@ -1,6 +1,5 @@
 -- What reading and writing come to, in document 01's numbers, and what each case of the code's answers says of it.
-use Prim.Native.Nat.{ℕ}
-use mathlib.Core.List.{List}
+use Rattle.basis.specs.Names.{ℕ, List}
 use Rattle.codec.specs.declared.Instruction.{Instruction}
 use Rattle.codec.specs.declared.Reading.{Reading}
 use Rattle.codec.specs.declared.Reading.the-variants as reading

@@ -1,9 +1,6 @@
 -- The instructions: the manual's 47 headings in the order of its table of contents, each with its opcode bytes, forms and operations. Reading, writing,
 -- effects and footprints all go by this list.
-use Prim.Native.Nat.{ℕ}
-use Prim.Native.String.{String}
-use mathlib.Core.List.{List, [], _∷_, _++_}
-use mathlib.Core.Option.{Option, none, some}
+use Rattle.basis.specs.Names.{ℕ, String, List, [], _∷_, _++_, Option, none, some}
 use Rattle.lanes.specs.Operations.{Operation, PUNPCKLBW, PUNPCKLWD, PUNPCKLDQ, PACKSSWB, PACKUSWB, PACKSSDW, PCMPGTB, PCMPGTW, PCMPGTD, PUNPCKHBW, PUNPCKHWD, PUNPCKHDQ, MOVE, PCMPEQB, PCMPEQW, PCMPEQD, PSRLW, PSRLD, PSRLQ, PSRAW, PSRAD, PSLLW, PSLLD, PSLLQ, PMULLW, PMULHW, PMADDWD, PSUBUSB, PSUBUSW, PADDUSB, PADDUSW, PSUBSB, PSUBSW, PADDSB, PADDSW, PAND, PANDN, POR, PXOR, PSUBB, PSUBW, PSUBD, PADDB, PADDW, PADDD, KEEP}
 use Rattle.codec.specs.Forms.{Form, alone, mmreg2·imm8/642, mmreg2·imm8/62, reg32/mem32←mmreg1, mmreg1←reg32/mem32, mmreg2/mem64←mmreg1, mmreg1·mmreg2/mem32, mmreg1·mmreg2/mem64, mmreg1←mmreg2/mem64}
 

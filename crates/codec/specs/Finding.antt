@@ -1,7 +1,5 @@
 -- Reading with a table that is lent, as plain numbers: the refusal, or 0 with the table's number, the instruction and the position after it.
-use Prim.Native.Nat.{ℕ}
-use mathlib.Core.List.{List}
-use lib.ListN.{getD, drop}
+use Rattle.basis.specs.Names.{ℕ, List, getD, drop}
 use Rattle.codec.specs.Table.{formIn}
 use Rattle.codec.specs.Operands.{noOperand}
 use Rattle.codec.specs.Reader.{reads}

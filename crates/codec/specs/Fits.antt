@@ -1,8 +1,5 @@
 -- Which records have bytes: each field fits its place, and one that has no place is 0.
-use Prim.Native.Nat.{ℕ, _^_}
-use mathlib.Core.List.{List, [], _∷_}
-use mathlib.Core.Bool.{Bool, true, not, _&&_, cond}
-use lib.Dec.{eqb, ltb}
+use Rattle.basis.specs.Names.{ℕ, _^_, List, [], _∷_, Bool, true, not, _&&_, cond, eqb, ltb}
 use Rattle.codec.specs.Forms.{Form, isAbsent, hasOperand, allows, immediateSize}
 use Rattle.codec.specs.Opcodes.{formAt, escape}
 use Rattle.codec.specs.Operands.{hasSib, displacementSize}

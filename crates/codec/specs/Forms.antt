@@ -1,8 +1,5 @@
 -- The forms of instructions: the operands as the manual writes them, with what each is used for; and what a form says of the bytes after the opcode.
-use Prim.Native.Nat.{ℕ}
-use mathlib.Core.List.{List, [], _∷_}
-use mathlib.Core.Bool.{Bool, true, false, _&&_, _||_}
-use lib.Dec.{eqb}
+use Rattle.basis.specs.Names.{ℕ, List, [], _∷_, Bool, true, false, _&&_, _||_, eqb}
 use Rattle.codec.specs.declared.Kind.{Kind}
 use Rattle.codec.specs.declared.Kind.the-variants.{Ordinary, Emms}
 

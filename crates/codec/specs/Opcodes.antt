@@ -1,9 +1,5 @@
 -- The opcode bytes: the prefixes and 0F before them, and what the list says of the byte after 0F.
-use Prim.Native.Nat.{ℕ}
-use mathlib.Core.List.{List, [], _∷_}
-use mathlib.Core.Bool.{Bool, true, _&&_, cond}
-use mathlib.Core.Option.{Option, none, some}
-use lib.Dec.{eqb}
+use Rattle.basis.specs.Names.{ℕ, List, [], _∷_, Bool, true, _&&_, cond, Option, none, some, eqb}
 use Rattle.lanes.specs.Operations.{Operation, KEEP}
 use Rattle.codec.specs.Forms.{Form, absent}
 use Rattle.codec.specs.Contents.{lines}

@@ -1,7 +1,5 @@
 -- Where an operand is: the fields of the ModRM and SIB bytes, and which parts a mode has.
-use Prim.Native.Nat.{ℕ, _+_, _*_, _/_, _%_}
-use mathlib.Core.Bool.{Bool, not, _&&_, _||_, cond}
-use lib.Dec.{eqb}
+use Rattle.basis.specs.Names.{ℕ, _+_, _*_, _/_, _%_, Bool, not, _&&_, _||_, cond, eqb}
 use Rattle.codec.specs.declared.Operand.{Operand}
 
 -- a ModRM byte is mod, reg and rm, and an SIB byte scale, index and base, of 2, 3 and 3 bits

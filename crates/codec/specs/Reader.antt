@@ -1,9 +1,5 @@
 -- Reading bytes from left to right: what is still to be read, and what it gives on the bytes that are left.
-use Prim.Native.Nat.{ℕ, _+_}
-use mathlib.Core.List.{List, [], _∷_}
-use mathlib.Core.Bool.{cond}
-use lib.Dec.{leb}
-use lib.ListN.{length, take, drop}
+use Rattle.basis.specs.Names.{ℕ, _+_, List, [], _∷_, cond, leb, length, take, drop}
 use Rattle.words.specs.Number.{number}
 use Rattle.codec.specs.Refusals.{codeEnds}
 use Rattle.codec.specs.declared.Instruction.{Instruction}

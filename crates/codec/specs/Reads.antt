@@ -1,9 +1,5 @@
 -- What reading an instruction gives: its bytes from left to right, the first refusal that is met, and the limit of the code.
-use Prim.Native.Nat.{ℕ}
-use mathlib.Core.List.{List}
-use mathlib.Core.Bool.{cond}
-use lib.Dec.{eqb, ltb}
-use lib.ListN.{length, drop}
+use Rattle.basis.specs.Names.{ℕ, List, cond, eqb, ltb, length, drop}
 use Rattle.codec.specs.Refusals.{codeTooLong, prefixed, notListed, notAllowed}
 use Rattle.codec.specs.Forms.{Form, isAmong, isAbsent, hasOperand, allows, immediateSize}
 use Rattle.codec.specs.Opcodes.{formAt, escape, prefixes}

@@ -1,11 +1,5 @@
 -- When each refusal of reading is due, in document 01's words, of what is left of a code from the position on.
-use Prim.Native.Nat.{ℕ, _≤_, _<_}
-use mathlib.Core.Path.{_≡_}
-use mathlib.Core.Logic.{_⊎_}
-use mathlib.Core.Bool.{true, false}
-use mathlib.Core.List.{List, [], _∷_, _++_}
-use lib.Dec.{eqb}
-use lib.ListN.{length, drop}
+use Rattle.basis.specs.Names.{ℕ, _≤_, _<_, _≡_, _⊎_, true, false, List, [], _∷_, _++_, eqb, length, drop}
 use Rattle.words.specs.Number.{AllBytes}
 use Rattle.codec.specs.Refusals.{codeTooLong, codeEnds, prefixed, notListed, notAllowed}
 use Rattle.codec.specs.Forms.{isAmong, isAbsent, hasOperand, allows}

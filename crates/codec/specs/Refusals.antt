@@ -1,5 +1,5 @@
 -- The refusal numbers of reading and writing, from document 01's table of them.
-use Prim.Native.Nat.{ℕ}
+use Rattle.basis.specs.Names.{ℕ}
 
 -- the code is longer than 4,096 bytes
 abbrev pub codeTooLong : ℕ

@@ -1,10 +1,6 @@
 -- The code's table: a number for each second byte. From the highest byte down it has the form's number, the operand's size in memory, nothing and
 -- the operation's number; for the shifts by an immediate, the form's number and the operations of /2, /4 and /6.
-use Prim.Native.Nat.{ℕ, zero, suc, _+_, _*_, _/_, _^_}
-use mathlib.Core.List.{List, [], _∷_}
-use mathlib.Core.Bool.{cond}
-use lib.Dec.{eqb}
-use lib.ListN.{getD}
+use Rattle.basis.specs.Names.{ℕ, zero, suc, _+_, _*_, _/_, _^_, List, [], _∷_, cond, eqb, getD}
 use Rattle.lanes.specs.Operations.{numbered}
 use Rattle.codec.specs.Forms.{Form, mmreg1·mmreg2/mem64, forms, hasDigits, memorySize}
 use Rattle.codec.specs.Opcodes.{find, formAt, operationAt}

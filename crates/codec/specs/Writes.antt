@@ -1,9 +1,5 @@
 -- The bytes of a record, and what the writer answers and leaves in its buffer.
-use Prim.Native.Nat.{ℕ, _+_}
-use mathlib.Core.List.{List, [], _∷_, _++_}
-use mathlib.Core.Bool.{cond}
-use lib.Dec.{leb}
-use lib.ListN.{length, drop}
+use Rattle.basis.specs.Names.{ℕ, _+_, List, [], _∷_, _++_, cond, leb, length, drop}
 use Rattle.words.specs.Number.{bytes}
 use Rattle.codec.specs.Refusals.{noBytes, bufferEnds}
 use Rattle.codec.specs.Answers.{Written, wrote, refusedWith}

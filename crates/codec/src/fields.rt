@@ -10,7 +10,7 @@ use crate::modes::NO_BASE;
 use crate::modes::NO_DISPLACEMENT;
 use crate::modes::REGISTER;
 use crate::modes::SIB;
-ghost use mathlib.Core.Path.{_≡_};
+ghost use Rattle.basis.specs.Names.{_≡_};
 ghost use Rattle.codec.specs.Forms.{allows, immediateSize};
 ghost use Rattle.codec.specs.Table.{formOf};
 ghost use Rattle.codec.specs.Operands.{hasSib, displacementSize};

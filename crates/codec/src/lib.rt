@@ -1,5 +1,5 @@
 // MMX instruction bytes to records and back: the records, the answers, and the table, the reader and the writer for other crates.
-ghost use mathlib.Core.Path.{_≡_};
+ghost use Rattle.basis.specs.Names.{_≡_};
 ghost use Rattle.codec.specs.Answers.{paperOfReading, paperOfWriting};
 ghost use Rattle.codec.specs.Table.{opcodeTable};
 ghost use Rattle.codec.specs.Reads.{readAt};

@@ -13,8 +13,7 @@ use crate::forms::SIZE;
 use crate::forms::STORE_D;
 use crate::forms::STORE_Q;
 use crate::forms::USUAL;
-ghost use mathlib.Core.Path.{_≡_};
-ghost use lib.ListN.{getD};
+ghost use Rattle.basis.specs.Names.{_≡_, getD};
 ghost use Rattle.codec.specs.Opcodes.{formAt};
 ghost use Rattle.codec.specs.Table.{formOf};
 

@@ -1,7 +1,7 @@
 // The first byte: 0F, or why another is refused, the prefixes by 4, every other by 5.
 use crate::refusals::NOT_LISTED;
 use crate::refusals::PREFIXED;
-ghost use mathlib.Core.Path.{_≡_};
+ghost use Rattle.basis.specs.Names.{_≡_};
 ghost use Rattle.codec.specs.Reads.{refusalOf};
 
 // The first byte of every opcode.

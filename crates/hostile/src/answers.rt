@@ -1,5 +1,5 @@
 // Which answer the first line of a text gives.
-ghost use Prim.Native.Nat.{_<_, _≤_};
+ghost use Rattle.basis.specs.Names.{_<_, _≤_};
 
 // The answers: a refusal is its own number.
 pub(crate) const DONE: usize = 0;

@@ -1,6 +1,5 @@
 // Likely code: mostly instructions of the table, with operands that may lie in the memory.
-ghost use Prim.Native.Nat.{_≤_};
-ghost use lib.ListN.{length};
+ghost use Rattle.basis.specs.Names.{_≤_, length};
 use crate::dice::any_byte;
 use crate::dice::is_rare;
 use crate::dice::roll;

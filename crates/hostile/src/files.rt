@@ -1,6 +1,5 @@
 // Three sorts of files: plain random bytes; right headings with random contents; and the same with likely code.
-ghost use Prim.Native.Nat.{_<_, _≤_};
-ghost use lib.ListN.{length};
+ghost use Rattle.basis.specs.Names.{_<_, _≤_, length};
 use crate::code::put_instructions;
 use crate::dice::is_half;
 use crate::dice::is_rare;

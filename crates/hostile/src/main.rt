@@ -1,7 +1,7 @@
 // Plays 10,000 generated files, and prints how many of each sort gave each answer. All answers occur but three: 11 and 12 are the writer's, and
 // no page is `spent`, since 4,096 bytes of code have fewer instructions than the budget. The last line counts what must never be: a text that
 // is none of these, or a byte changed behind the text.
-ghost use Prim.Native.Nat.{_<_};
+ghost use Rattle.basis.specs.Names.{_<_};
 use answers::ANSWERS;
 use answers::DONE;
 use answers::NONE;

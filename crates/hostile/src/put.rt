@@ -1,6 +1,5 @@
 // Bytes put into a file, one after another.
-ghost use Prim.Native.Nat.{_≤_};
-ghost use lib.ListN.{length};
+ghost use Rattle.basis.specs.Names.{_≤_, length};
 use crate::dice::any_byte;
 
 // Puts a byte at a place, and answers the place after it. Nothing is put behind the end.

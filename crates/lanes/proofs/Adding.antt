@@ -1,12 +1,6 @@
 -- What PADD's lanes are, from the lanes that the code takes out: in natural numbers, and for S forms with their top bits turned over.
-use mathlib.Core.Path.{_≡_, sym, ap, ap₂, _∙_}
-use Prim.Native.Nat.{ℕ, _+_, _-_, _*_, _/_, _%_, _^_, _≤_, _<_}
-use native.Mathlib.Nat.{div-one}
-use native.Mathlib.Omega.{arith}
-use borrow.Author.Needs.{needs}
-use lib.Bits.{bitXor}
-use lib.IntN.{ℤ, subℕ, _+ℤ_}
-use lib.Pow.{pow-mono, shr-mod}
+use Rattle.basis.specs.Names.{_≡_, ℕ, _+_, _-_, _*_, _/_, _%_, _^_, _≤_, _<_, bitXor, ℤ, subℕ, _+ℤ_}
+use Rattle.basis.proofs.Names.{sym, ap, ap₂, _∙_, div-one, arith, needs, pow-mono, shr-mod}
 use Rattle.lanes.specs.Lane.{lane, build, register}
 use Rattle.lanes.specs.Signed.{signed, wrap, clampSigned, clampUnsigned}
 use Rattle.lanes.specs.Rules.{packed, pairwise, sum, sumSigned, sumUnsigned}

@@ -1,5 +1,6 @@
 -- Any two answers that the contract of `operate` allows at one input are equal: both are what the definition says.
-use mathlib.Core.Path.{_≡_, sym, _∙_}
+use Rattle.basis.specs.Names.{_≡_}
+use Rattle.basis.proofs.Names.{sym, _∙_}
 use contract.Lifetimes.{Lfts}
 use borrow.Fn.Kinds.{Dens, resT, endedOf}
 use denote.Triple.Clauses.{AtExit}

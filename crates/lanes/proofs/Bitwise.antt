@@ -1,10 +1,6 @@
 -- The bitwise operations act lane by lane, at every width.
-use mathlib.Core.Path.{_≡_, sym, ap, _∙_, subst}
-use Prim.Native.Nat.{ℕ, _+_, _-_, _*_, _/_, _%_, _^_, _≤_, _<_}
-use native.Mathlib.Nat.{mod-lt, mod-eq-of-lt, div-add-mod', add-mul, one-mul}
-use native.Mathlib.Omega.{arith}
-use lib.Bits.{bitAnd, bitOr, bitXor, and-shr, or-shr, xor-shr, and-mod, or-mod, xor-mod, and-mask, xor-add-and}
-use lib.Pow.{pow-pos, pow-add, high, low, shr-lt}
+use Rattle.basis.specs.Names.{_≡_, ℕ, _+_, _-_, _*_, _/_, _%_, _^_, _≤_, _<_, bitAnd, bitOr, bitXor}
+use Rattle.basis.proofs.Names.{sym, ap, _∙_, subst, mod-lt, mod-eq-of-lt, div-add-mod', add-mul, one-mul, arith, and-shr, or-shr, xor-shr, and-mod, or-mod, xor-mod, and-mask, xor-add-and, pow-pos, pow-add, high, low, shr-lt}
 use Rattle.lanes.specs.Lane.{lane}
 use Rattle.lanes.specs.Rules.{andNot}
 

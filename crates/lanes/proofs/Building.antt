@@ -1,10 +1,6 @@
 -- Building a register lane by lane, for any rule whose lanes fit: what each turn of the loop asks and leaves.
-use mathlib.Core.Path.{_≡_, refl, sym, ap, ap₂, _∙_}
-use Prim.Native.Nat.{ℕ, suc, _+_, _*_, _/_, _^_, _≤_, _<_}
-use native.Mathlib.Nat.{le-div-iff-mul-le, le-trans, le-of-eq, add-comm, mul-comm, mul-suc, div-le-self}
-use native.Mathlib.Numerals.{add-one}
-use native.Mathlib.Omega.{arith}
-use borrow.Author.Needs.{needs}
+use Rattle.basis.specs.Names.{_≡_, refl, ℕ, suc, _+_, _*_, _/_, _^_, _≤_, _<_}
+use Rattle.basis.proofs.Names.{sym, ap, ap₂, _∙_, le-div-iff-mul-le, le-trans, le-of-eq, add-comm, mul-comm, mul-suc, div-le-self, add-one, arith, needs}
 use Rattle.lanes.specs.Lane.{lane, build, register}
 use Rattle.lanes.specs.Rules.{packed, pairwise}
 use Rattle.lanes.proofs.Registers.{build-lt, register-lt, lane-build}

@@ -1,11 +1,6 @@
 -- What PCMPEQ's and PCMPGT's lanes are, from the lanes that the code takes out; PCMPGT's with their top bits turned over.
-use mathlib.Core.Path.{_≡_, sym, ap, ap₂, _∙_}
-use mathlib.Core.Bool.{Bool, true, false}
-use Prim.Native.Nat.{ℕ, _+_, _-_, _^_, _≤_, _<_}
-use borrow.Author.Needs.{needs}
-use lib.Bits.{bitXor}
-use lib.Dec.{eqb, ltb}
-use lib.Signed.{ltZ}
+use Rattle.basis.specs.Names.{_≡_, Bool, true, false, ℕ, _+_, _-_, _^_, _≤_, _<_, bitXor, eqb, ltb, ltZ}
+use Rattle.basis.proofs.Names.{sym, ap, ap₂, _∙_, needs}
 use Rattle.lanes.specs.Lane.{lane}
 use Rattle.lanes.specs.Signed.{signed}
 use Rattle.lanes.specs.Rules.{pairwise, mask, equal, greater}

@@ -1,15 +1,7 @@
 -- A subtraction is its addition from the other side, a - b = not (not a + b): wrapping, clamped without sign, and clamped with sign. In a
 -- lane, not x is 2 ^ w - 1 - x; the range of each clamp is its own mirror image.
-use mathlib.Core.Path.{_≡_, refl, sym, ap, ap₂, _∙_}
-use mathlib.Core.Logic.{dite}
-use Prim.Native.Nat.{ℕ, suc, _+_, _-_, _*_, _/_, _%_, _^_, _≤_, _<_}
-use native.Mathlib.Nat.{mod-eq-of-lt, add-mod-right}
-use native.Mathlib.Decide.{decLe}
-use native.Mathlib.Omega.{arith}
-use borrow.Author.Needs.{needs}
-use lib.Bits.{bitXor}
-use lib.IntN.{ℤ, pos, subℕ, _+ℤ_, _-ℤ_}
-use lib.Pow.{pow-pos, ones-sub-lt}
+use Rattle.basis.specs.Names.{_≡_, refl, ℕ, suc, _+_, _-_, _*_, _/_, _%_, _^_, _≤_, _<_, bitXor, ℤ, pos, subℕ, _+ℤ_, _-ℤ_}
+use Rattle.basis.proofs.Names.{sym, ap, ap₂, _∙_, dite, mod-eq-of-lt, add-mod-right, decLe, arith, needs, pow-pos, ones-sub-lt}
 use Rattle.lanes.specs.Lane.{lane}
 use Rattle.lanes.specs.Signed.{signed, wrap, clampSigned, clampUnsigned}
 use Rattle.lanes.specs.Rules.{packed, pairwise, sum, difference, sumSigned, differenceSigned, sumUnsigned, differenceUnsigned}

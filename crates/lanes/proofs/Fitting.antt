@@ -1,12 +1,6 @@
 -- Every lane of every rule fits its width: what is wrapped does, and so do ones, lanes and what a shift leaves of them.
-use Prim.Native.Nat.{ℕ, _+_, _*_, _/_, _^_, _<_, min}
-use mathlib.Core.Bool.{Bool, true, false}
-use native.Mathlib.Nat.{mod-lt, div-le-self, lt-of-le-of-lt}
-use native.Mathlib.Omega.{arith}
-use lib.Dec.{eqb}
-use lib.IntN.{ℤ, pos, negsuc}
-use lib.Signed.{ltZ}
-use lib.Pow.{pow-pos}
+use Rattle.basis.specs.Names.{ℕ, _+_, _*_, _/_, _^_, _<_, min, Bool, true, false, eqb, ℤ, pos, negsuc, ltZ}
+use Rattle.basis.proofs.Names.{mod-lt, div-le-self, lt-of-le-of-lt, arith, pow-pos}
 use Rattle.lanes.specs.Lane.{lane}
 use Rattle.lanes.specs.Signed.{signed, wrap, clampSigned, clampUnsigned}
 use Rattle.lanes.specs.Rules.{pairwise, sum, difference, sumSigned, differenceSigned, sumUnsigned, differenceUnsigned, mask, equal, greater, productLow, productHigh, productSum, pack, unpack, shift, left, right, rightSigned}

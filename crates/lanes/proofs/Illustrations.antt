@@ -1,5 +1,5 @@
 -- The illustrations hold: the definitions compute them.
-use lib.Dec.{T}
+use Rattle.basis.proofs.Names.{T}
 use Rattle.lanes.specs.Lane.{lane, build, register}
 use Rattle.lanes.specs.Signed.{signed, wrap, clamp, clampSigned, clampUnsigned}
 use Rattle.lanes.specs.Rules.{packed, pairwise, difference, differenceSigned, sumUnsigned, differenceUnsigned, equal, greater, productLow, productHigh, productSum, pack, unpack, andNot, shift, left, right, rightSigned}

@@ -1,17 +1,7 @@
 -- Integers as differences of two natural numbers, which is how the code holds them: sum, difference, product, order, the clamps and the
 -- low bits of `subℕ m n` (the integer m - n), in natural numbers. Each by the two cases of a difference.
-use mathlib.Core.Path.{_≡_, refl, sym, ap, _∙_, subst}
-use mathlib.Core.Logic.{dite}
-use Prim.Native.Nat.{ℕ, zero, suc, _+_, _-_, _*_, _/_, _%_, _^_, _≤_, _<_}
-use native.Mathlib.Nat.{add-mul, mul-add, one-mul, mod-lt, mod-eq-of-lt, add-mul-mod-self-right, div-lt-iff-lt-mul, div-add-mod'}
-use native.Mathlib.Decide.{decLe}
-use native.Mathlib.Omega.{arith}
-use borrow.Author.Needs.{needs}
-use borrow.Author.Tests.{le-ltb, lt-ltb, le-leb, lt-leb}
-use lib.Dec.{leb, ltb}
-use lib.IntN.{ℤ, pos, negsuc, negℤ, subℕ, _+ℤ_, _-ℤ_, _*ℤ_}
-use lib.Signed.{leZ, ltZ}
-use lib.Pow.{pow-pos, low}
+use Rattle.basis.specs.Names.{_≡_, refl, ℕ, zero, suc, _+_, _-_, _*_, _/_, _%_, _^_, _≤_, _<_, leb, ltb, ℤ, pos, negsuc, subℕ, _+ℤ_, _-ℤ_, _*ℤ_, leZ, ltZ}
+use Rattle.basis.proofs.Names.{sym, ap, _∙_, subst, dite, add-mul, mul-add, one-mul, mod-lt, mod-eq-of-lt, add-mul-mod-self-right, div-lt-iff-lt-mul, div-add-mod', decLe, arith, needs, le-ltb, lt-ltb, le-leb, lt-leb, negℤ, pow-pos, low}
 use Rattle.lanes.specs.Signed.{wrap, clamp, clampUnsigned}
 
 pub is-ge : (m n : ℕ) → n ≤ m → subℕ m n ≡ pos (m - n)

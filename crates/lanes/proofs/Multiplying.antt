@@ -1,13 +1,6 @@
 -- What the lanes of the three multiplications are, from a product that 2 ^ 32 is added to.
-use mathlib.Core.Path.{_≡_, refl, sym, ap, ap₂, _∙_}
-use Prim.Native.Nat.{ℕ, _+_, _-_, _*_, _/_, _%_, _^_, _<_}
-use native.Mathlib.Nat.{mod-lt, mul-le-mul}
-use native.Mathlib.Omega.{arith}
-use borrow.Author.Needs.{needs}
-use lib.Bits.{bitXor}
-use lib.IntN.{ℤ, pos, negsuc, subℕ, _+ℤ_, _*ℤ_}
-use lib.Signed.{shrZ}
-use lib.Pow.{pow-pos, field}
+use Rattle.basis.specs.Names.{_≡_, refl, ℕ, _+_, _-_, _*_, _/_, _%_, _^_, _<_, bitXor, ℤ, pos, negsuc, subℕ, _+ℤ_, _*ℤ_, shrZ}
+use Rattle.basis.proofs.Names.{sym, ap, ap₂, _∙_, mod-lt, mul-le-mul, arith, needs, pow-pos, field}
 use Rattle.lanes.specs.Lane.{lane}
 use Rattle.lanes.specs.Signed.{wrap}
 use Rattle.lanes.specs.Rules.{pairwise, product, productLow, productHigh, productSum}

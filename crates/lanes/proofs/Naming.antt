@@ -1,9 +1,6 @@
 -- What `operate` leaves by number: a number's operation is its place in the list of operations, and past the list the destination is kept.
-use mathlib.Core.Path.{_≡_, sym, ap}
-use Prim.Native.Nat.{ℕ, zero, suc, _/_, _≤_, zero-le}
-use native.Mathlib.Omega.{arith}
-use borrow.Author.Needs.{needs}
-use lib.ListN.{length, List·getD-eq-default}
+use Rattle.basis.specs.Names.{_≡_, ℕ, zero, suc, _/_, _≤_, length}
+use Rattle.basis.proofs.Names.{sym, ap, zero-le, arith, needs, List·getD-eq-default}
 use Rattle.lanes.specs.Rules.{packed, unpack, unpackHigh}
 use Rattle.lanes.specs.Operations.{Operation, KEEP, operate, operations, operationOf}
 

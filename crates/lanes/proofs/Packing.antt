@@ -1,15 +1,6 @@
 -- What a pack's and an unpack's lanes are, from the lanes that the code takes out.
-use mathlib.Core.Path.{_≡_, refl, sym, ap, _∙_}
-use mathlib.Core.Bool.{cond}
-use Prim.Native.Nat.{ℕ, _+_, _-_, _*_, _/_, _%_, _^_, _≤_, _<_}
-use native.Mathlib.Nat.{mod-lt, add-mul, one-mul, le-div-iff-mul-le, le-of-eq, div-le-self}
-use native.Mathlib.Omega.{arith}
-use borrow.Author.Needs.{needs}
-use borrow.Author.Tests.{lt-ltb, le-ltb, eq-eqb, ne-eqb}
-use lib.Bits.{bitXor}
-use lib.Dec.{ltb}
-use lib.IntN.{ℤ, subℕ}
-use lib.Pow.{pow-mono}
+use Rattle.basis.specs.Names.{_≡_, refl, cond, ℕ, _+_, _-_, _*_, _/_, _%_, _^_, _≤_, _<_, bitXor, ltb, ℤ, subℕ}
+use Rattle.basis.proofs.Names.{sym, ap, _∙_, mod-lt, add-mul, one-mul, le-div-iff-mul-le, le-of-eq, div-le-self, arith, needs, lt-ltb, le-ltb, eq-eqb, ne-eqb, pow-mono}
 use Rattle.lanes.specs.Lane.{lane}
 use Rattle.lanes.specs.Signed.{signed, wrap, clampSigned, clampUnsigned}
 use Rattle.lanes.specs.Rules.{pack, unpack}

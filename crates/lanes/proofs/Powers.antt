@@ -1,10 +1,6 @@
 -- The code's shifts and powers of two, as the definitions write them.
-use mathlib.Core.Path.{_≡_, sym, ap, _∙_}
-use Prim.Native.Nat.{ℕ, _+_, _-_, _*_, _/_, _%_, _^_, _≤_, _<_}
-use native.Mathlib.Nat.{one-mul, two-pow-succ, mod-eq-of-lt, le-trans}
-use native.Mathlib.Omega.{arith}
-use lib.Pow.{pow-lt, pow-mono, pow-add, shl-shr, shl-exact, field}
-use lib.Arith.{digits-lt}
+use Rattle.basis.specs.Names.{_≡_, ℕ, _+_, _-_, _*_, _/_, _%_, _^_, _≤_, _<_}
+use Rattle.basis.proofs.Names.{sym, ap, _∙_, one-mul, two-pow-succ, mod-eq-of-lt, le-trans, arith, pow-lt, pow-mono, pow-add, shl-shr, shl-exact, field, digits-lt}
 
 -- x shifted up and down again by 64 - w
 pub low-bits : (x w : ℕ) → w ≤ 64 → x * 2 ^ (64 - w) % 2 ^ 64 / 2 ^ (64 - w) ≡ x % 2 ^ w

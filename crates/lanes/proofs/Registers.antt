@@ -1,12 +1,7 @@
 -- The laws of lanes, once over the width: what the lanes of a built number are, and that lanes decide a number. By division with rest
 -- at powers of two.
-use mathlib.Core.Path.{_≡_, refl, sym, ap, ap₂, _∙_}
-use mathlib.Core.Logic.{⊎-elim}
-use Prim.Native.Nat.{ℕ, zero, suc, _+_, _-_, _*_, _/_, _%_, _^_, _≤_, _<_}
-use native.Mathlib.Nat.{zero-div, zero-mod, add-mul, mul-add, mul-one, div-one, mod-mod, mul-suc, mul-zero, mul-comm, mul-assoc, add-comm, mod-eq-of-lt, mod-lt, mod-one, mul-add-mod-self-right, le-of-suc-le-suc, eq-or-lt-of-le, mul-le-mul-left, lt-suc-self, lt-trans, not-suc-le-zero, le-of-eq, le-trans, div-mul-le-self}
-use native.Mathlib.Omega.{arith}
-use lib.Pow.{pow-pos, pow-mono, pow-add, high, field, shr-shr, mod-mod-pow, mod-pow-add}
-use lib.Arith.{digits-lt}
+use Rattle.basis.specs.Names.{_≡_, refl, ℕ, zero, suc, _+_, _-_, _*_, _/_, _%_, _^_, _≤_, _<_}
+use Rattle.basis.proofs.Names.{sym, ap, ap₂, _∙_, ⊎-elim, zero-div, zero-mod, add-mul, mul-add, mul-one, div-one, mod-mod, mul-suc, mul-zero, mul-comm, mul-assoc, add-comm, mod-eq-of-lt, mod-lt, mod-one, mul-add-mod-self-right, le-of-suc-le-suc, eq-or-lt-of-le, mul-le-mul-left, lt-suc-self, lt-trans, not-suc-le-zero, le-of-eq, le-trans, div-mul-le-self, arith, pow-pos, pow-mono, pow-add, high, field, shr-shr, mod-mod-pow, mod-pow-add, digits-lt}
 use Rattle.lanes.specs.Lane.{lane, build, register}
 
 -- w * suc n bits are w bits on top of w * n

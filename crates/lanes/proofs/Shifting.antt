@@ -1,17 +1,6 @@
 -- What PSLL's and PSRL's lanes are, for a count below the width and for any other.
-use mathlib.Core.Path.{_≡_, refl, sym, ap, ap₂, _∙_}
-use mathlib.Core.Logic.{dite}
-use Prim.Native.Nat.{ℕ, suc, _+_, _-_, _*_, _/_, _%_, _^_, _≤_, _<_, min}
-use native.Mathlib.Nat.{min-eq-left, min-eq-right, le-of-lt, mul-mod-left, div-eq-of-lt, div-le-self, lt-of-le-of-lt, mod-eq-of-lt}
-use native.Mathlib.Decide.{decLe}
-use native.Mathlib.Omega.{arith}
-use borrow.Author.Needs.{needs}
-use borrow.Author.Tests.{lt-ltb, le-ltb}
-use lib.Bits.{bitXor, xor-zero-l, xor-zero-r, xor-lt}
-use lib.Dec.{ltb}
-use lib.IntN.{ℤ}
-use lib.Pow.{pow-pos, ones-sub-lt, mod-mod-pow}
-use lib.Signed.{ltZ, shrZ}
+use Rattle.basis.specs.Names.{_≡_, refl, ℕ, suc, _+_, _-_, _*_, _/_, _%_, _^_, _≤_, _<_, min, bitXor, ltb, ℤ, ltZ, shrZ}
+use Rattle.basis.proofs.Names.{sym, ap, ap₂, _∙_, dite, min-eq-left, min-eq-right, le-of-lt, mul-mod-left, div-eq-of-lt, div-le-self, lt-of-le-of-lt, mod-eq-of-lt, decLe, arith, needs, lt-ltb, le-ltb, xor-zero-l, xor-zero-r, xor-lt, pow-pos, ones-sub-lt, mod-mod-pow}
 use Rattle.lanes.specs.Lane.{lane}
 use Rattle.lanes.specs.Signed.{signed, wrap}
 use Rattle.lanes.specs.Rules.{packed, pairwise, greater, shift, left, right, rightSigned}

@@ -1,14 +1,6 @@
 -- A signed lane with its top bit turned over is its number plus half the range: signed sums, clamps and comparisons become unsigned ones.
-use mathlib.Core.Path.{_≡_, refl, sym, ap, _∙_}
-use mathlib.Core.Logic.{dite}
-use Prim.Native.Nat.{ℕ, _+_, _-_, _^_, _≤_, _<_}
-use native.Mathlib.Nat.{one-mul, zero-mul, add-zero, zero-add, add-comm}
-use native.Mathlib.Decide.{decLe}
-use native.Mathlib.Omega.{arith}
-use borrow.Author.Tests.{le-ltb, lt-ltb}
-use lib.Bits.{bitXor, xor-comm, xor-shifted, xor-block, xor-zero-r}
-use lib.Pow.{pow-pos}
-use lib.IntN.{subℕ}
+use Rattle.basis.specs.Names.{_≡_, refl, ℕ, _+_, _-_, _^_, _≤_, _<_, bitXor, subℕ}
+use Rattle.basis.proofs.Names.{sym, ap, _∙_, dite, one-mul, zero-mul, add-zero, zero-add, add-comm, decLe, arith, le-ltb, lt-ltb, xor-comm, xor-shifted, xor-block, xor-zero-r, pow-pos}
 use Rattle.lanes.specs.Signed.{signed, wrap, clamp, clampSigned, clampUnsigned}
 use Rattle.lanes.proofs.Integers.{is-pos, same, wrap-ge, wrap-below, clamp-below, clamp-above, clamp-within, unsigned-below, unsigned-above, unsigned-within}
 

@@ -1,15 +1,7 @@
 -- PMADDWD wraps only when all four words are 8000h: any other two products have a sum between -2^31 and 2^31. With their top bits turned over, words
 -- are u and v, and u * v is at most 2^15 (u + v), since both are below 2^16; only where all are 0 is it no less.
-use mathlib.Core.Path.{_≡_, refl, ap₂, _∙_}
-use mathlib.Core.Bool.{Bool, true, false}
-use Prim.Native.Nat.{ℕ, _+_, _*_, _^_, _≤_, _<_}
-use native.Mathlib.Nat.{mul-le-mul}
-use native.Mathlib.Omega.{arith}
-use borrow.Author.Tests.{leb-true, leb-false, lt-ltb}
-use lib.Bits.{bitXor}
-use lib.Dec.{leb}
-use lib.IntN.{ℤ, subℕ, _+ℤ_, _*ℤ_}
-use lib.Signed.{ltZ}
+use Rattle.basis.specs.Names.{_≡_, refl, Bool, true, false, ℕ, _+_, _*_, _^_, _≤_, _<_, bitXor, leb, ℤ, subℕ, _+ℤ_, _*ℤ_, ltZ}
+use Rattle.basis.proofs.Names.{ap₂, _∙_, mul-le-mul, arith, leb-true, leb-false, lt-ltb}
 use Rattle.lanes.specs.Rules.{product}
 use Rattle.lanes.proofs.Integers.{same, plus, times, lt-same}
 use Rattle.lanes.proofs.TopBits.{turn-low, turn-high, turned-lt, signed-is}

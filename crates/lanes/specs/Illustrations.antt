@@ -1,8 +1,5 @@
 -- Illustrations of manual 004, for what document 01's plates leave out, and examples of our own where 004's numbers tell too little or are none.
-use Prim.Native.Nat.{ℕ}
-use mathlib.Core.Bool.{Bool, true, _&&_}
-use mathlib.Core.List.{List, [], _∷_}
-use lib.Dec.{eqb}
+use Rattle.basis.specs.Names.{ℕ, Bool, true, _&&_, List, [], _∷_, eqb}
 use Rattle.lanes.specs.Operations.{Operation, PUNPCKLWD, PACKSSWB, PACKSSDW, PCMPGTW, PUNPCKHBW, PUNPCKHWD, PUNPCKHDQ, MOVE, PCMPEQB, PSRLW, PSRLQ, PSRAD, PSLLD, PMULLW, PMULHW, PMADDWD, PSUBUSB, PSUBUSW, PADDUSB, PADDUSW, PSUBSB, PSUBSW, PANDN, PSUBB, KEEP, operate}
 
 -- an operation, its destination, its source, and what it leaves

@@ -1,9 +1,5 @@
 -- The packed operations by the manual's headings, in the order of document 01's table of opcode bytes, what each leaves, and their numbers.
-use Prim.Native.Nat.{ℕ}
-use mathlib.Core.Path.{_≡_, refl}
-use mathlib.Core.List.{List, [], _∷_}
-use lib.ListN.{getD}
-use lib.Bits.{bitAnd, bitOr, bitXor}
+use Rattle.basis.specs.Names.{ℕ, _≡_, refl, List, [], _∷_, getD, bitAnd, bitOr, bitXor}
 use Rattle.lanes.specs.Signed.{clampSigned, clampUnsigned}
 use Rattle.lanes.specs.Rules.{packed, pairwise, sum, difference, sumSigned, differenceSigned, sumUnsigned, differenceUnsigned, equal, greater, productLow, productHigh, productSum, pack, unpackLow, unpackHigh, andNot, shift, left, right, rightSigned}
 

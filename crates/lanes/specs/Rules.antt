@@ -1,10 +1,5 @@
 -- What each family of packed instructions leaves, once over the lane width w, in the order of document 01's section of that name.
-use Prim.Native.Nat.{ℕ, _+_, _-_, _*_, _/_, _%_, _^_, min}
-use mathlib.Core.Bool.{Bool, cond}
-use lib.Dec.{ltb, eqb}
-use lib.IntN.{ℤ, pos, _+ℤ_, _-ℤ_, _*ℤ_}
-use lib.Signed.{ltZ, shrZ}
-use lib.Bits.{bitAnd}
+use Rattle.basis.specs.Names.{ℕ, _+_, _-_, _*_, _/_, _%_, _^_, min, Bool, cond, ltb, eqb, ℤ, pos, _+ℤ_, _-ℤ_, _*ℤ_, ltZ, shrZ, bitAnd}
 use Rattle.lanes.specs.Lane.{lane, register}
 use Rattle.lanes.specs.Signed.{signed, wrap, clampSigned, clampUnsigned}
 

@@ -1,9 +1,5 @@
 -- A lane read as a signed number, and an integer put into a lane: wrapped, or clamped to what the lane holds.
-use Prim.Native.Nat.{ℕ, _-_, _%_, _^_}
-use mathlib.Core.Bool.{cond}
-use lib.Dec.{ltb}
-use lib.IntN.{ℤ, pos, negsuc, subℕ}
-use lib.Signed.{leZ}
+use Rattle.basis.specs.Names.{ℕ, _-_, _%_, _^_, cond, ltb, ℤ, pos, negsuc, subℕ, leZ}
 
 -- two's complement: from 2 ^ (w - 1) on, a lane of w bits stands for itself less 2 ^ w
 unfoldable pub signed : ℕ → ℕ → ℤ

@@ -1,6 +1,5 @@
 // PCMPEQ and PCMPGT: all ones or all zeros.
-ghost use mathlib.Core.Path.{_≡_};
-ghost use Prim.Native.Nat.{_≤_};
+ghost use Rattle.basis.specs.Names.{_≡_, _≤_};
 ghost use Rattle.lanes.specs.Rules.{packed, pairwise, mask, equal, greater};
 ghost use Rattle.lanes.specs.inner.Widths.{Within, Fills};
 use crate::lane::QUADWORD;

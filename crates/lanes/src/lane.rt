@@ -1,7 +1,5 @@
 // Taking a lane out of a register, putting lanes together, and clamping a number to a lane.
-ghost use mathlib.Core.Path.{_≡_};
-ghost use Prim.Native.Nat.{_+_, _-_, _*_, _%_, _^_, _<_, _≤_};
-ghost use lib.IntN.{subℕ};
+ghost use Rattle.basis.specs.Names.{_≡_, _+_, _-_, _*_, _%_, _^_, _<_, _≤_, subℕ};
 ghost use Rattle.lanes.specs.Lane.{lane};
 ghost use Rattle.lanes.specs.Signed.{wrap, clampUnsigned};
 ghost use Rattle.lanes.specs.inner.Widths.{Within};

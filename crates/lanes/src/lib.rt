@@ -6,7 +6,7 @@ mod products;
 mod shifts;
 mod sums;
 
-ghost use mathlib.Core.Path.{_≡_};
+ghost use Rattle.basis.specs.Names.{_≡_};
 ghost use Rattle.lanes.specs.Operations.{operate, operationOf};
 use compares::equals;
 use compares::exceeds;

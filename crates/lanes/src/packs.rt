@@ -1,8 +1,5 @@
 // The packs, which clamp lanes of twice the width, and the unpacks, which alternate lanes.
-ghost use mathlib.Core.Path.{_≡_};
-ghost use mathlib.Core.Bool.{cond};
-ghost use Prim.Native.Nat.{_+_, _/_, _%_, _^_, _<_, _≤_};
-ghost use lib.Dec.{ltb};
+ghost use Rattle.basis.specs.Names.{_≡_, cond, _+_, _/_, _%_, _^_, _<_, _≤_, ltb};
 ghost use Rattle.lanes.specs.Lane.{lane};
 ghost use Rattle.lanes.specs.Signed.{clampSigned, clampUnsigned};
 ghost use Rattle.lanes.specs.Rules.{packed, pack, unpack};

@@ -1,7 +1,5 @@
 // PMULLW, PMULHW and PMADDWD: signed products of words.
-ghost use mathlib.Core.Path.{_≡_};
-ghost use Prim.Native.Nat.{_^_, _<_};
-ghost use lib.IntN.{subℕ};
+ghost use Rattle.basis.specs.Names.{_≡_, _^_, _<_, subℕ};
 ghost use Rattle.lanes.specs.Lane.{lane};
 ghost use Rattle.lanes.specs.Rules.{packed, pairwise, product, productLow, productHigh, productSum};
 use crate::lane::DOUBLEWORD;

@@ -1,6 +1,5 @@
 // PSLL, PSRL and PSRA: the count is the whole source.
-ghost use mathlib.Core.Path.{_≡_};
-ghost use Prim.Native.Nat.{_≤_};
+ghost use Rattle.basis.specs.Names.{_≡_, _≤_};
 ghost use Rattle.lanes.specs.Rules.{packed, shift, left, right, rightSigned};
 ghost use Rattle.lanes.specs.inner.Widths.{Within, Fills};
 use crate::compares::exceeds;

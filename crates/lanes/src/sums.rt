@@ -1,6 +1,5 @@
 // PADD and PSUB: the plain ones wrap in their lane, S and US forms clamp.
-ghost use mathlib.Core.Path.{_≡_};
-ghost use Prim.Native.Nat.{_≤_};
+ghost use Rattle.basis.specs.Names.{_≡_, _≤_};
 ghost use Rattle.lanes.specs.Rules.{packed, pairwise, sum, difference, sumSigned, differenceSigned, sumUnsigned, differenceUnsigned};
 ghost use Rattle.lanes.specs.inner.Widths.{Within, Fills};
 use crate::lane::DOUBLEWORD_RANGE;

@@ -1,9 +1,6 @@
 -- What reading, step, run and footprint hand back agrees: one number for one refusal, whichever of them was asked.
-use mathlib.Core.Path.{_≡_, sym, ap, subst, _∙_}
-use mathlib.Core.Bool.{false, false≢true}
-use mathlib.Core.Logic.{_↔_}
-use mathlib.Core.List.{List}
-use Prim.Native.Nat.{ℕ}
+use Rattle.basis.specs.Names.{_≡_, false, List, ℕ}
+use Rattle.basis.proofs.Names.{sym, ap, subst, _∙_, false≢true, _↔_}
 use Rattle.reorder.specs.Result.{Result, done, refused, mapResult}
 use Rattle.reorder.specs.Run.{stopped}
 use Rattle.reorder.specs.Footprint as places

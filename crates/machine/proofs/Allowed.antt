@@ -1,8 +1,7 @@
 -- Any two answers that a public contract allows at one input are equal, and so is what they leave in the lent memory: each contract is one
 -- equation, and the paper's answer gives back the code's, with the memory.
-use mathlib.Core.Path.{_≡_, refl, sym, ap, _∙_}
-use mathlib.Core.List.{List}
-use Prim.Native.Nat.{ℕ}
+use Rattle.basis.specs.Names.{_≡_, refl, List, ℕ}
+use Rattle.basis.proofs.Names.{sym, ap, _∙_}
 use contract.Lifetimes.{Lfts}
 use borrow.Fn.Kinds.{Dens, resT, endedOf}
 use denote.Triple.Clauses.{AtExit}

@@ -1,9 +1,7 @@
 -- Calls of the program's functions: what was handed in, what was handed back and what is then in the lent memory. That the contract was met is what
 -- the proof of each function shows of every call; and such calls can be had.
-use mathlib.Core.Path.{_≡_, refl, sym, ap, ap₂, _∙_}
-use mathlib.Core.Bool.{Bool}
-use mathlib.Core.List.{List, []}
-use Prim.Native.Nat.{ℕ}
+use Rattle.basis.specs.Names.{_≡_, refl, Bool, List, [], ℕ}
+use Rattle.basis.proofs.Names.{sym, ap, ap₂, _∙_}
 use contract.Lifetimes.{Lfts}
 use borrow.Fn.Kinds.{Dens, endedOf}
 use denote.Triple.Clauses.{AtExit}

@@ -1,10 +1,7 @@
 -- The example block by the program's test: the pairs that meet in its run, an order that keeps them, to which demand 3 applies, and one that does
 -- not. Computed.
-use mathlib.Core.Path.{_≡_, refl}
-use mathlib.Core.Bool.{Bool, true, false, cond}
-use mathlib.Core.List.{List, [], _∷_, _++_}
-use Prim.Native.Nat.{ℕ, zero, suc}
-use native.Mathlib.Omega.{arith}
+use Rattle.basis.specs.Names.{_≡_, refl, Bool, true, false, cond, List, [], _∷_, _++_, ℕ, zero, suc}
+use Rattle.basis.proofs.Names.{arith}
 use Rattle.lanes.specs.Lane.{lane, build, register}
 use Rattle.lanes.specs.Signed.{clamp, clampUnsigned}
 use Rattle.lanes.specs.Rules.{packed, pairwise, sumUnsigned}

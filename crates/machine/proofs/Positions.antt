@@ -1,10 +1,7 @@
 -- The footprint of the step at a position, with nothing assumed of it: its ranges say which bytes it reads and writes, and the program's test of
 -- two is true exactly where they meet.
-use mathlib.Core.Path.{_≡_, subst}
-use mathlib.Core.Logic.{_↔_}
-use mathlib.Core.Bool.{true}
-use mathlib.Core.List.{List, List·Memᴰ as In}
-use Prim.Native.Nat.{ℕ, _+_, _≤_, _<_}
+use Rattle.basis.specs.Names.{_≡_, true, List, List·Memᴰ as In, ℕ, _+_, _≤_, _<_}
+use Rattle.basis.proofs.Names.{subst, _↔_}
 use Rattle.reorder.specs.Result.{Result, done, refused, andThen}
 use Rattle.reorder.specs.Footprint as places
 use Rattle.reorder.specs.Run.{Fetched, positionReached, stateReached}

@@ -1,9 +1,6 @@
 -- Demand 3 of the program itself: over calls of Machine::run, Machine::footprint and meets, by what they hand back; and such calls can be had.
-use mathlib.Core.Path.{_≡_, refl, sym, ap, ap₂, _∙_}
-use mathlib.Core.Bool.{Bool, true, false≢true}
-use mathlib.Core.List.{List, [], map, flatten}
-use Prim.Native.Nat.{ℕ, suc, _≤_, _<_}
-use native.Mathlib.Omega.{arith}
+use Rattle.basis.specs.Names.{_≡_, refl, Bool, true, List, [], map, flatten, ℕ, suc, _≤_, _<_}
+use Rattle.basis.proofs.Names.{sym, ap, ap₂, _∙_, false≢true, arith}
 use Rattle.reorder.specs.Result.{Result, done, refused, mapResult}
 use Rattle.reorder.specs.Order.{NewOrder, Keeps}
 use Rattle.reorder.specs.Footprint as places

@@ -1,8 +1,5 @@
 -- Demand 3 with the test that the program computes: the order need keep the pairs that it finds to meet, and no other.
-use mathlib.Core.Path.{_≡_}
-use mathlib.Core.Bool.{true}
-use mathlib.Core.List.{List}
-use Prim.Native.Nat.{ℕ}
+use Rattle.basis.specs.Names.{_≡_, true, List, ℕ}
 use Rattle.reorder.specs.Order.{NewOrder, Keeps}
 use Rattle.reorder.specs.Run.{finished}
 use Rattle.reorder.specs.Block.{rearranged}

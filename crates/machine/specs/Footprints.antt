@@ -1,10 +1,5 @@
 -- A footprint in the form that the program hands out: registers as masks, memory bytes as a range; and the test whether two of them meet.
-use mathlib.Core.Bool.{Bool, false, not, _&&_, _||_}
-use mathlib.Core.List.{List, [], _∷_, _++_}
-use Prim.Native.Nat.{ℕ, _+_, _^_}
-use lib.Bits.{bitAnd, bitOr}
-use lib.Dec.{eqb, ltb}
-use lib.ListN.{length, getD}
+use Rattle.basis.specs.Names.{Bool, false, not, _&&_, _||_, List, [], _∷_, _++_, ℕ, _+_, _^_, bitAnd, bitOr, eqb, ltb, length, getD}
 use Rattle.reorder.specs.Result.{Result, done, refused, mapResult}
 use Rattle.reorder.specs.Footprint as places
 use Rattle.codec.specs.declared.Kind.{Kind}

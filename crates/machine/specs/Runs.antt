@@ -1,6 +1,5 @@
 -- The paper's answer for what a run hands back.
-use mathlib.Core.List.{List}
-use Prim.Native.Nat.{ℕ}
+use Rattle.basis.specs.Names.{List, ℕ}
 use Rattle.reorder.specs.Run.{Answer, finished, spent, stopped}
 use Rattle.manual.specs.State.{State}
 use Rattle.machine.specs.declared.End.{End}

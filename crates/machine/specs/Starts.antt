@@ -1,8 +1,5 @@
 -- The machine that a page starts from: registers from the bytes of its fields, marks from its marks byte.
-use mathlib.Core.List.{List, [], _∷_}
-use Prim.Native.Nat.{ℕ, _*_, _/_, _%_, _^_}
-use mathlib.Core.Bool.{Bool}
-use lib.Dec.{eqb}
+use Rattle.basis.specs.Names.{List, [], _∷_, ℕ, _*_, _/_, _%_, _^_, Bool, eqb}
 use Rattle.words.specs.Buffer.{loaded}
 use Rattle.manual.specs.declared.Marks.{Marks}
 use Rattle.machine.specs.declared.Machine.{Machine}

@@ -1,6 +1,5 @@
 -- The state that a machine is, with the bytes of the memory that is lent beside it.
-use mathlib.Core.List.{List}
-use Prim.Native.Nat.{ℕ}
+use Rattle.basis.specs.Names.{List, ℕ}
 use Rattle.manual.specs.State.{State}
 use Rattle.machine.specs.declared.Machine.{Machine}
 

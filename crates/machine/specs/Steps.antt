@@ -1,6 +1,5 @@
 -- The paper's answer for what a step hands back.
-use mathlib.Core.List.{List}
-use Prim.Native.Nat.{ℕ}
+use Rattle.basis.specs.Names.{List, ℕ}
 use Rattle.manual.specs.State.{State}
 use Rattle.manual.specs.Steps.{Outcome, completed, refusedWith}
 use Rattle.machine.specs.declared.Taken.{Taken}

@@ -5,8 +5,7 @@ use codec::modes::NO_BASE;
 use codec::modes::NO_DISPLACEMENT;
 use codec::modes::NO_INDEX;
 use codec::modes::SIB;
-ghost use mathlib.Core.Path.{_≡_};
-ghost use Prim.Native.Nat.{_*_, _^_, _%_, _<_};
+ghost use Rattle.basis.specs.Names.{_≡_, _*_, _^_, _%_, _<_};
 ghost use Rattle.codec.specs.inner.Fields.{Registers};
 ghost use Rattle.manual.specs.Addresses.{displacementOf, baseOf, indexOf, addressOf, registerPart, address};
 

@@ -2,7 +2,7 @@
 use crate::Footprint;
 use crate::Places;
 use codec::Kind;
-ghost use mathlib.Core.Path.{_≡_};
+ghost use Rattle.basis.specs.Names.{_≡_};
 ghost use Rattle.manual.specs.Kinds.{kindsMeet};
 ghost use Rattle.machine.specs.Footprints.{overlap, share, meet};
 

@@ -8,7 +8,7 @@ use crate::refusals::MEMORY_TOO_LONG;
 use crate::stepping;
 use codec::refusals::CODE_TOO_LONG;
 use codec::refusals::LONGEST_CODE;
-ghost use mathlib.Core.Path.{_≡_};
+ghost use Rattle.basis.specs.Names.{_≡_};
 ghost use Rattle.manual.specs.Runs.{runOf};
 ghost use Rattle.machine.specs.State.{stateOf};
 ghost use Rattle.machine.specs.Runs.{paperOfRun};

@@ -6,7 +6,7 @@ use codec::forms::RIGHT_PLACE;
 use codec::forms::RIGHT_SIGNED;
 use codec::forms::SIGNED_PLACE;
 use lanes::KEEP;
-ghost use mathlib.Core.Path.{_≡_};
+ghost use Rattle.basis.specs.Names.{_≡_};
 ghost use Rattle.lanes.specs.Operations.{operationOf};
 ghost use Rattle.codec.specs.inner.Entries.{shiftIn};
 

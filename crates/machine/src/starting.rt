@@ -1,6 +1,5 @@
 // The machine that a page starts from.
-ghost use mathlib.Core.Path.{_≡_};
-ghost use Prim.Native.Nat.{_<_};
+ghost use Rattle.basis.specs.Names.{_≡_, _<_};
 ghost use Rattle.machine.specs.Starts.{nth, eight, startOf};
 use crate::Machine;
 use manual::Marks;

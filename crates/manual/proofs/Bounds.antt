@@ -1,12 +1,7 @@
 -- A run stays within its bounds: its position within the code, its count within the budget, its refusal at most 10; and it changes nothing that is
 -- frozen. By its turns: so does each step.
-use mathlib.Core.Path.{_≡_, refl, sym, ap, subst, _∙_}
-use mathlib.Core.Bool.{Bool, true, false, cond, false≢true}
-use mathlib.Core.List.{List}
-use Prim.Native.Nat.{ℕ, zero, suc, _+_, _≤_, _<_}
-use native.Mathlib.Omega.{arith}
-use lib.Dec.{eqb, ltb}
-use lib.ListN.{length, drop, length-drop}
+use Rattle.basis.specs.Names.{_≡_, refl, Bool, true, false, cond, List, ℕ, zero, suc, _+_, _≤_, _<_, eqb, ltb, length, drop}
+use Rattle.basis.proofs.Names.{sym, ap, subst, _∙_, false≢true, arith, length-drop}
 use Rattle.reorder.specs.Result.{Result, done, refused, caseOf}
 use Rattle.reorder.specs.Run.{Answer, finished, spent, stopped, runFrom, run}
 use Rattle.codec.specs.Refusals.{codeTooLong}

@@ -1,9 +1,6 @@
 -- The examples hold: the definitions compute them.
-use mathlib.Core.Path.{_≡_, refl}
-use mathlib.Core.Bool.{true, false}
-use mathlib.Core.List.{[], _∷_, flatten, map}
-use native.Mathlib.Omega.{arith}
-use lib.Dec.{T}
+use Rattle.basis.specs.Names.{_≡_, refl, true, false, [], _∷_, flatten, map}
+use Rattle.basis.proofs.Names.{arith, T}
 use Rattle.lanes.specs.Lane.{lane, build, register}
 use Rattle.lanes.specs.Signed.{signed, wrap, clamp, clampSigned, clampUnsigned}
 use Rattle.lanes.specs.Rules.{packed, pairwise, sum, sumSigned, sumUnsigned, greater, productHigh, productSum, pack, unpack, shift, left, right, rightSigned}

@@ -1,11 +1,6 @@
 -- Demand 3, from the reordering theorem: the machine obeys the laws of places, and reading is local.
-use mathlib.Core.Path.{_≡_, refl, sym, ap, ap₂, subst, subst₂, _∙_}
-use mathlib.Core.Bool.{Bool, true, false, cond, false≢true}
-use mathlib.Core.List.{List, [], _∷_, map, flatten, List·Memᴰ as In, List·Memᴰ·head as here, List·Memᴰ·tail as later}
-use Prim.Native.Nat.{ℕ, suc, _+_, _-_, _<_}
-use native.Mathlib.Omega.{arith}
-use lib.Dec.{ltb}
-use lib.ListN.{length, getD, take, drop}
+use Rattle.basis.specs.Names.{_≡_, refl, Bool, true, false, cond, List, [], _∷_, map, flatten, List·Memᴰ as In, ℕ, suc, _+_, _-_, _<_, ltb, length, getD, take, drop}
+use Rattle.basis.proofs.Names.{sym, ap, ap₂, subst, subst₂, _∙_, false≢true, List·Memᴰ·head as here, List·Memᴰ·tail as later, arith}
 use Rattle.reorder.specs.Result.{Result, done, andThen}
 use Rattle.reorder.specs.Order.{NewOrder, Keeps}
 use Rattle.reorder.specs.Footprint.{Footprint}

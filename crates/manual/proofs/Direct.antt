@@ -1,12 +1,6 @@
 -- What an effect of each shape comes to once the control marks are passed, said by its operands' numbers: by cases on where the operands are.
-use mathlib.Core.Path.{_≡_, refl, sym, ap, ap₂, _∙_}
-use mathlib.Core.Bool.{Bool, true, false, cond}
-use mathlib.Core.List.{List, [], _∷_, _++_, append-nil}
-use Prim.Native.Nat.{ℕ, zero, suc, _+_, _/_, _%_}
-use native.Mathlib.Numerals.{add-one}
-use native.Mathlib.Omega.{arith}
-use lib.ListN.{length, getD, take}
-use lib.Seq.{sets, take-all}
+use Rattle.basis.specs.Names.{_≡_, refl, Bool, true, false, cond, List, [], _∷_, _++_, ℕ, zero, suc, _+_, _/_, _%_, length, getD, take, sets}
+use Rattle.basis.proofs.Names.{sym, ap, ap₂, _∙_, append-nil, add-one, arith, take-all}
 use Rattle.words.specs.Number.{number, bytes}
 use Rattle.words.specs.inner.Bytewise.{gets}
 use Rattle.words.proofs.Laws.{length-gets}

@@ -1,9 +1,5 @@
 -- The edges of steps and runs: each a block, run from a state over eight bytes of memory, and how it ends.
-use mathlib.Core.Bool.{Bool, true, false, not, _&&_}
-use mathlib.Core.List.{List, [], _∷_}
-use Prim.Native.Nat.{ℕ}
-use lib.Dec.{eqb}
-use lib.ListN.{getD, replicate}
+use Rattle.basis.specs.Names.{Bool, true, false, not, _&&_, List, [], _∷_, ℕ, eqb, getD, replicate}
 use Rattle.words.specs.Number.{number}
 use Rattle.reorder.specs.Run.{Answer, finished, spent, stopped}
 use Rattle.manual.specs.State.{State}

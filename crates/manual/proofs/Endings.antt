@@ -1,14 +1,7 @@
 -- How a run of a block ends: done means at the code's end, spent means the whole budget; a larger budget changes no run that was not spent, and a
 -- budget of half the code's bytes is never spent.
-use mathlib.Core.Path.{_≡_, refl, subst}
-use mathlib.Core.Bool.{Bool, true, false, cond}
-use mathlib.Core.List.{List}
-use Prim.Native.Nat.{ℕ, _*_, _≤_, _<_}
-use native.Mathlib.Nat.{zero-add}
-use native.Mathlib.Omega.{arith}
-use borrow.Author.Tests.{ltb-false}
-use lib.Dec.{ltb}
-use lib.ListN.{length, drop}
+use Rattle.basis.specs.Names.{_≡_, refl, Bool, true, false, cond, List, ℕ, _*_, _≤_, _<_, ltb, length, drop}
+use Rattle.basis.proofs.Names.{subst, zero-add, arith, ltb-false}
 use Rattle.reorder.specs.Run.{Answer, finished, spent, stopped, runFrom, run}
 use Rattle.reorder.specs.Block.{rearranged}
 use Rattle.reorder.proofs.Permutation.{from}

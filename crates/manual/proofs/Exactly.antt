@@ -1,11 +1,6 @@
 -- Each refusal of a step is given exactly when there is its reason: the tests stand in document 01's order, and the operand test is the last.
-use mathlib.Core.Path.{_≡_, refl, sym, ap, subst, _∙_}
-use mathlib.Core.Logic.{_↔_, _⊎_, inl, inr}
-use mathlib.Core.Bool.{Bool, true, false, cond, false≢true}
-use mathlib.Core.List.{List, [], _∷_, _++_, List·Memᴰ as In, List·Memᴰ·head as here, List·Memᴰ·tail as there}
-use Prim.Native.Nat.{ℕ, _+_}
-use borrow.Author.Tests.{leb-false, lt-leb}
-use lib.ListN.{length}
+use Rattle.basis.specs.Names.{_≡_, refl, _⊎_, Bool, true, false, cond, List, [], _∷_, _++_, List·Memᴰ as In, ℕ, _+_, length}
+use Rattle.basis.proofs.Names.{sym, ap, subst, _∙_, _↔_, inl, inr, false≢true, List·Memᴰ·head as here, List·Memᴰ·tail as there, leb-false, lt-leb}
 use Rattle.reorder.specs.Result.{Result, done, refused, andThen, mapResult, caseOf}
 use Rattle.reorder.specs.Plan.{perform}
 use Rattle.codec.specs.Answers as decoded

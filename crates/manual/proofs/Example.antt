@@ -1,8 +1,5 @@
 -- A block of five instructions, an order that keeps the pairs which meet in its run, and an order that does not.
-use mathlib.Core.Bool.{Bool, true, false}
-use mathlib.Core.List.{List, [], _∷_, _++_}
-use Prim.Native.Nat.{ℕ}
-use lib.ListN.{replicate}
+use Rattle.basis.specs.Names.{Bool, true, false, List, [], _∷_, _++_, ℕ, replicate}
 use Rattle.manual.specs.State.{State}
 use Rattle.manual.proofs.Marking.{clear}
 

@@ -1,8 +1,5 @@
 -- The table of footprints: for each form of instruction, which places its step reads and writes; and the footprints of instructions in a run.
-use mathlib.Core.Bool.{false}
-use mathlib.Core.List.{List, [], _∷_}
-use Prim.Native.Nat.{ℕ}
-use lib.ListN.{replicate}
+use Rattle.basis.specs.Names.{false, List, [], _∷_, ℕ, replicate}
 use Rattle.reorder.specs.Result.{Result, done, refused}
 use Rattle.reorder.specs.Footprint.{Footprint}
 use Rattle.codec.specs.declared.Kind.{Kind}

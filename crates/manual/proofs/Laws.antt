@@ -1,10 +1,6 @@
 -- The machine obeys the laws of places, since its places are entries of lists; and its plans go by the address registers alone.
-use mathlib.Core.Path.{_≡_, refl, sym, ap}
-use mathlib.Core.Option.{Option, none, some}
-use mathlib.Core.List.{List, [], _∷_, _++_, List·Memᴰ as In, List·Memᴰ·head as here, Memᴰ·append-left, Memᴰ·append-right, Memᴰ·map}
-use Prim.Native.Nat.{ℕ}
-use lib.ListN.{getD, length-set}
-use lib.Seq.{getD-set-other, set-comm}
+use Rattle.basis.specs.Names.{_≡_, refl, Option, none, some, List, [], _∷_, _++_, List·Memᴰ as In, ℕ, getD}
+use Rattle.basis.proofs.Names.{sym, ap, List·Memᴰ·head as here, Memᴰ·append-left, Memᴰ·append-right, Memᴰ·map, length-set, getD-set-other, set-comm}
 use Rattle.reorder.specs.Result.{andThen, mapResult}
 use Rattle.reorder.proofs.Places.{Laws, Local}
 use Rattle.codec.specs.declared.Kind.{Kind}

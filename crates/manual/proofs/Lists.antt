@@ -1,9 +1,6 @@
 -- What is set in a list is seen alike in another list as long; by induction on both.
-use mathlib.Core.Path.{_≡_, refl}
-use mathlib.Core.List.{List, [], _∷_}
-use Prim.Native.Nat.{ℕ, zero, suc}
-use native.Mathlib.Omega.{arith}
-use lib.ListN.{length, getD, set}
+use Rattle.basis.specs.Names.{_≡_, refl, List, [], _∷_, ℕ, zero, suc, length, getD, set}
+use Rattle.basis.proofs.Names.{arith}
 
 -- where it is set
 pub set-same : (l m : List ℕ) (i v : ℕ) → length l ≡ length m → getD (set l i v) i 0 ≡ getD (set m i v) i 0

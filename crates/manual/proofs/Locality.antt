@@ -1,10 +1,7 @@
 -- Fetched what is left of a code is local, as the codec's reading is: it takes at least two bytes and none past the end, and depends on its
 -- own bytes alone.
-use mathlib.Core.Bool.{false≢true}
-use mathlib.Core.Path.{_≡_, ap}
-use mathlib.Core.List.{List}
-use Prim.Native.Nat.{ℕ}
-use native.Mathlib.Omega.{arith}
+use Rattle.basis.specs.Names.{_≡_, List, ℕ}
+use Rattle.basis.proofs.Names.{false≢true, ap, arith}
 use Rattle.reorder.specs.Result.{done}
 use Rattle.reorder.specs.Run.{Fetched}
 use Rattle.reorder.proofs.Cutting.{LocalReader}

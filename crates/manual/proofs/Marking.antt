@@ -1,7 +1,5 @@
 -- Marks as laws and tests make them, others with these control marks, and with none; and what holds past the test of the control marks.
-use mathlib.Core.Path.{_≡_, refl}
-use mathlib.Core.Bool.{Bool, true, false}
-use Prim.Native.Nat.{ℕ}
+use Rattle.basis.specs.Names.{_≡_, refl, Bool, true, false, ℕ}
 use Rattle.reorder.specs.Result.{Result, refused}
 use Rattle.manual.specs.declared.Marks.{Marks}
 use Rattle.manual.specs.Refusals.{invalidOpcode, notAvailable, isPending}

@@ -1,11 +1,6 @@
 -- When two instructions meet: meeting is symmetric, EMMS meets every instruction, and two others meet exactly where they share a place.
-use mathlib.Core.Path.{_≡_, refl, sym, ap, _∙_, subst₂}
-use mathlib.Core.Logic.{_↔_, _⊎_, inl, inr}
-use mathlib.Core.Bool.{false, not, false≢true}
-use mathlib.Core.List.{[], _∷_, List·Memᴰ as In, List·Memᴰ·head as here, List·Memᴰ·tail as later, List·Memᴰ·eq-of-singleton as eq-of-singleton}
-use Prim.Native.Nat.{ℕ}
-use borrow.Author.Tests.{eqb-true, eq-eqb, not-false}
-use lib.Dec.{eqb}
+use Rattle.basis.specs.Names.{_≡_, refl, _⊎_, false, not, [], _∷_, List·Memᴰ as In, ℕ, eqb}
+use Rattle.basis.proofs.Names.{sym, ap, _∙_, subst₂, _↔_, inl, inr, false≢true, List·Memᴰ·head as here, List·Memᴰ·tail as later, List·Memᴰ·eq-of-singleton as eq-of-singleton, eqb-true, eq-eqb, not-false}
 use Rattle.reorder.specs.Result.{Result, done}
 use Rattle.reorder.specs.Footprint as places
 use Rattle.reorder.proofs.Meeting.{meets-symmetric}

@@ -1,12 +1,6 @@
 -- A second opinion on the list of instructions: document 01's table of opcode bytes, in its own order, with its words on operands. Each instruction has the
 -- effect that its row says, for every operand and immediate: by computation.
-use mathlib.Core.Path.{_≡_, refl}
-use mathlib.Core.Bool.{cond, not}
-use mathlib.Core.List.{List, [], _∷_, map}
-use Prim.Native.Nat.{ℕ, _%_, _^_}
-use lib.Bits.{bitAnd, bitOr, bitXor}
-use lib.Dec.{eqb}
-use lib.ListN.{length}
+use Rattle.basis.specs.Names.{_≡_, refl, cond, not, List, [], _∷_, map, ℕ, _%_, _^_, bitAnd, bitOr, bitXor, eqb, length}
 use Rattle.lanes.specs.Signed.{clampSigned, clampUnsigned}
 use Rattle.lanes.specs.Rules.{packed, pairwise, sum, difference, sumSigned, differenceSigned, sumUnsigned, differenceUnsigned, equal, greater, productLow, productHigh, productSum, pack, unpackLow, unpackHigh, andNot, shift, left, right, rightSigned}
 use Rattle.lanes.specs.Operations.{operate}

@@ -1,9 +1,5 @@
 -- The plates of document 01, from bytes: a block of one instruction over MM0 and MM1, run whole.
-use mathlib.Core.Bool.{Bool, false, _&&_}
-use mathlib.Core.List.{List, [], _∷_}
-use Prim.Native.Nat.{ℕ}
-use lib.Dec.{eqb}
-use lib.ListN.{getD, replicate}
+use Rattle.basis.specs.Names.{Bool, false, _&&_, List, [], _∷_, ℕ, eqb, getD, replicate}
 use Rattle.reorder.specs.Run.{Answer, finished, spent, stopped}
 use Rattle.manual.specs.State.{State}
 use Rattle.manual.specs.Runs.{runOf}

@@ -1,13 +1,6 @@
 -- A refused step changes nothing; a refused run keeps what the earlier instructions did, since it stops at a step that is refused.
-use mathlib.Core.Path.{_≡_, refl, sym, ap, _∙_}
-use mathlib.Core.Logic.{_⊎_, inl, inr}
-use mathlib.Core.Bool.{Bool, true, false, cond, false≢true}
-use mathlib.Core.List.{List}
-use Prim.Native.Nat.{ℕ, zero, suc, _-_, _≤_, _+_}
-use native.Mathlib.Nat.{sub-zero}
-use native.Mathlib.Omega.{arith}
-use lib.Dec.{eqb, ltb}
-use lib.ListN.{length}
+use Rattle.basis.specs.Names.{_≡_, refl, _⊎_, Bool, true, false, cond, List, ℕ, zero, suc, _-_, _≤_, _+_, eqb, ltb, length}
+use Rattle.basis.proofs.Names.{sym, ap, _∙_, inl, inr, false≢true, sub-zero, arith}
 use Rattle.reorder.specs.Result.{Result, done, refused, caseOf}
 use Rattle.reorder.specs.Run.{Fetched, finished, spent, stopped, runFrom, run}
 use Rattle.reorder.proofs.Places.{leaves-frozen}

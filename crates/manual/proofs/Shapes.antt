@@ -1,7 +1,5 @@
 -- The shapes of effects that the instructions have.
-use mathlib.Core.List.{[], _∷_}
-use Prim.Native.Nat.{ℕ}
-use lib.ListN.{getD}
+use Rattle.basis.specs.Names.{[], _∷_, ℕ, getD}
 use Rattle.reorder.specs.Result.{done}
 use Rattle.codec.specs.declared.Kind.{Kind}
 use Rattle.codec.specs.declared.Kind.the-variants.{Ordinary}

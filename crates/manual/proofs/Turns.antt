@@ -1,10 +1,5 @@
 -- A run is its steps: each turn of it is a step at its position, and the position after that is the one that the step gives.
-use mathlib.Core.Path.{_≡_, refl}
-use mathlib.Core.Bool.{false}
-use mathlib.Core.List.{List}
-use Prim.Native.Nat.{ℕ, suc, _+_}
-use lib.Dec.{eqb, ltb}
-use lib.ListN.{length, drop}
+use Rattle.basis.specs.Names.{_≡_, refl, false, List, ℕ, suc, _+_, eqb, ltb, length, drop}
 use Rattle.reorder.specs.Result.{Result, done, refused, caseOf}
 use Rattle.reorder.specs.Run.{Fetched, Answer, stopped, runFrom}
 use Rattle.codec.specs.Reads.{longestCode, readAt}

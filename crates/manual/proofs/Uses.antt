@@ -1,9 +1,7 @@
 -- The footprint says what a step uses: the step goes by what its footprint reads alone, and changes what it writes alone, since both are made
 -- from one plan.
-use mathlib.Core.Path.{_≡_, refl, sym, ap, _∙_, subst, subst₂}
-use mathlib.Core.Bool.{Bool, true, false, not, _||_, false≢true}
-use mathlib.Core.List.{List, [], List·Memᴰ as In}
-use Prim.Native.Nat.{ℕ, _+_}
+use Rattle.basis.specs.Names.{_≡_, refl, Bool, true, false, not, _||_, List, [], List·Memᴰ as In, ℕ, _+_, eqb}
+use Rattle.basis.proofs.Names.{sym, ap, _∙_, subst, subst₂, false≢true, eqb-true}
 use Rattle.reorder.specs.Result.{Result, done, refused, caseOf, andThen, mapResult}
 use Rattle.reorder.specs.Plan.{Plan, looks, perform as performed}
 use Rattle.reorder.specs.Footprint.{Footprint, footprintOf as ofPlan, footprintIn, asked}
@@ -15,8 +13,6 @@ use Rattle.codec.specs.Contents.{Line, lines}
 use Rattle.codec.specs.Opcodes.{formAt, operationAt}
 use Rattle.codec.specs.declared.Instruction.{Instruction}
 use Rattle.codec.proofs.Bytes.{found-has}
-use borrow.Author.Tests.{eqb-true}
-use lib.Dec.{eqb}
 use Rattle.codec.specs.declared.Kind.{Kind}
 use Rattle.codec.specs.declared.Kind.the-variants.{Ordinary, Emms}
 use Rattle.manual.specs.State.{State, withTag, frozen}

@@ -1,10 +1,5 @@
 -- The address of an operand in memory: base plus index times scale plus displacement, in 32 bits.
-use mathlib.Core.Bool.{cond, _&&_}
-use mathlib.Core.Option.{Option, none, some}
-use mathlib.Core.List.{List, [], _∷_, _++_}
-use Prim.Native.Nat.{ℕ, _+_, _*_, _-_, _^_, _%_}
-use lib.Dec.{eqb, leb}
-use lib.ListN.{getD}
+use Rattle.basis.specs.Names.{cond, _&&_, Option, none, some, List, [], _∷_, _++_, ℕ, _+_, _*_, _-_, _^_, _%_, eqb, leb, getD}
 use Rattle.codec.specs.Operands.{hasSib}
 use Rattle.codec.specs.declared.Operand.{Operand}
 

@@ -1,9 +1,6 @@
 -- The effect of an instruction: the operands it takes, the operands it gives, and a pure function between their values. From it come its step
 -- and its footprint.
-use mathlib.Core.Bool.{cond}
-use mathlib.Core.List.{List, [], _∷_, _++_, map}
-use Prim.Native.Nat.{ℕ}
-use lib.ListN.{getD, take, drop}
+use Rattle.basis.specs.Names.{cond, List, [], _∷_, _++_, map, ℕ, getD, take, drop}
 use Rattle.words.specs.Number.{number, bytes}
 use Rattle.reorder.specs.Result.{Result, done, refused, andThen, mapResult}
 use Rattle.reorder.specs.Plan.{Plan, execBy}

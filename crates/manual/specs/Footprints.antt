@@ -1,6 +1,5 @@
 -- The footprint of the step at a position, as lists of places, and when two footprints meet.
-use mathlib.Core.List.{List}
-use Prim.Native.Nat.{ℕ}
+use Rattle.basis.specs.Names.{List, ℕ}
 use Rattle.reorder.specs.Result.{Result, andThen}
 use Rattle.reorder.specs.Footprint as places
 use Rattle.reorder.specs.Run.{positionReached, stateReached}

@@ -1,9 +1,5 @@
 -- What each instruction takes and gives: by its form's operands and its operation.
-use mathlib.Core.Bool.{cond}
-use mathlib.Core.List.{List, [], _∷_, map}
-use Prim.Native.Nat.{ℕ, _-_, _^_, _%_}
-use lib.Dec.{eqb}
-use lib.ListN.{length, getD}
+use Rattle.basis.specs.Names.{cond, List, [], _∷_, map, ℕ, _-_, _^_, _%_, eqb, length, getD}
 use Rattle.lanes.specs.Operations.{Operation, operate}
 use Rattle.reorder.specs.Result.{Result, done}
 use Rattle.reorder.specs.Footprint.{Footprint}

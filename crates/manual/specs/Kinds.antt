@@ -1,6 +1,5 @@
 -- The kinds of instruction: what each does to the tag mark, and which kinds meet.
-use mathlib.Core.Path.{_≡_}
-use mathlib.Core.Bool.{Bool, true, false}
+use Rattle.basis.specs.Names.{_≡_, Bool, true, false}
 use Rattle.codec.specs.declared.Kind.{Kind}
 use Rattle.codec.specs.declared.Kind.the-variants.{Ordinary, Emms}
 use Rattle.manual.specs.State.{State, withTag}

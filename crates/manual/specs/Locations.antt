@@ -1,9 +1,5 @@
 -- Where an operand is: in a register, or in memory; and which places it has there.
-use mathlib.Core.Bool.{Bool, cond}
-use mathlib.Core.List.{List, [], _∷_}
-use Prim.Native.Nat.{ℕ, zero, suc, _+_}
-use lib.Dec.{eqb, leb}
-use lib.ListN.{length}
+use Rattle.basis.specs.Names.{Bool, cond, List, [], _∷_, ℕ, zero, suc, _+_, eqb, leb, length}
 use Rattle.reorder.specs.Result.{Result, done, refused}
 use Rattle.codec.specs.Forms.{File, mmxFile, integerFile, Slot, reg, rm, rm/mem}
 use Rattle.codec.specs.declared.Operand.{Operand}

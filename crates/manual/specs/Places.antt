@@ -1,6 +1,5 @@
 -- The places that steps read and write: MMX registers, integer registers, single memory bytes.
-use Prim.Native.Nat.{ℕ}
-use lib.ListN.{getD, set}
+use Rattle.basis.specs.Names.{ℕ, getD, set}
 use Rattle.manual.specs.State.{State, withMmx, withInteger, withMemory}
 
 pub data Place : Type 0 where

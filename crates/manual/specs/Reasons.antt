@@ -1,10 +1,5 @@
 -- When each refusal of a step is due, in document 01's words: 1, then 2 to 6 by the reading, then 7, 8, 9, then 10.
-use mathlib.Core.Path.{_≡_}
-use mathlib.Core.Logic.{_⊎_}
-use mathlib.Core.Bool.{true, false}
-use mathlib.Core.List.{List, List·Memᴰ as In}
-use Prim.Native.Nat.{ℕ, _+_, _<_}
-use lib.ListN.{length}
+use Rattle.basis.specs.Names.{_≡_, _⊎_, true, false, List, List·Memᴰ as In, ℕ, _+_, _<_, length}
 use Rattle.codec.specs.Answers.{good}
 use Rattle.codec.specs.Reads.{readAt}
 use Rattle.codec.specs.Reasons.{ReasonAt}

@@ -1,5 +1,5 @@
 -- The refusal numbers of steps, runs and footprints, from document 01's table of them (2 to 6 are the reader's).
-use Prim.Native.Nat.{ℕ}
+use Rattle.basis.specs.Names.{ℕ}
 
 -- the memory is longer than 32,768 bytes
 abbrev pub memoryTooLong : ℕ

@@ -1,9 +1,5 @@
 -- The run with its budget.
-use mathlib.Core.Bool.{cond}
-use mathlib.Core.List.{List}
-use Prim.Native.Nat.{ℕ}
-use lib.Dec.{ltb}
-use lib.ListN.{length}
+use Rattle.basis.specs.Names.{cond, List, ℕ, ltb, length}
 use Rattle.reorder.specs.Result.{Result}
 use Rattle.reorder.specs.Run.{Fetched, Answer, stopped, run}
 use Rattle.codec.specs.Refusals.{codeTooLong}

@@ -1,9 +1,5 @@
 -- The state: registers, marks and the bytes of the lent memory; the limit of that memory, and what no step changes.
-use mathlib.Core.Bool.{Bool}
-use mathlib.Core.List.{List}
-use Prim.Native.Nat.{ℕ}
-use lib.Dec.{ltb}
-use lib.ListN.{length, set}
+use Rattle.basis.specs.Names.{Bool, List, ℕ, ltb, length, set}
 use Rattle.manual.specs.declared.Marks.{Marks}
 
 pub record State : Type 0 where

@@ -1,7 +1,5 @@
 -- One step at a position of the code.
-use mathlib.Core.Bool.{cond}
-use mathlib.Core.List.{List}
-use Prim.Native.Nat.{ℕ, _+_}
+use Rattle.basis.specs.Names.{cond, List, ℕ, _+_}
 use Rattle.reorder.specs.Result.{Result, done, refused, caseOf}
 use Rattle.reorder.specs.Run.{Fetched}
 use Rattle.codec.specs.Reads.{readAt}

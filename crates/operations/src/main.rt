@@ -1,6 +1,6 @@
 // Performs each packed operation on numbers of a fixed generator, and prints its name and a number that all results went into, a line for each
 // operation. With three bytes on standard input, an operation's number and a count of rounds (low byte first), it performs that operation alone.
-ghost use Prim.Native.Nat.{_+_, _<_, _≤_};
+ghost use Rattle.basis.specs.Names.{_+_, _<_, _≤_};
 use libc::STDIN_FILENO;
 use libc::STDOUT_FILENO;
 

@@ -1,6 +1,7 @@
 -- Any two answers that the contract of a public function allows at one input are equal: both are what the definition says. Of a part of the
 -- file it is the part's bytes that are equal.
-use mathlib.Core.Path.{_≡_, sym, _∙_}
+use Rattle.basis.specs.Names.{_≡_}
+use Rattle.basis.proofs.Names.{sym, _∙_}
 use contract.Lifetimes.{Lfts}
 use borrow.Fn.Kinds.{Dens, resT, endedOf}
 use denote.Triple.Clauses.{AtExit}

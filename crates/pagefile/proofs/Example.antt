@@ -1,9 +1,6 @@
 -- The definition computes to the customer's example: its parts, and no marks; to a file of all five fields; and files that break one rule each to
 -- the refusal, without parts.
-use mathlib.Core.Path.{_≡_, refl}
-use mathlib.Core.List.{List, [], _∷_, _++_, map}
-use Prim.Native.Nat.{ℕ}
-use lib.ListN.{replicate}
+use Rattle.basis.specs.Names.{_≡_, refl, List, [], _∷_, _++_, map, ℕ, replicate}
 use Rattle.pagefile.specs.Fields.{mayHold}
 use Rattle.pagefile.specs.Parsing.{size, holds, remaining, wellFormed, contentsOf, wellFormedWith, refusedWith, pageOf}
 

@@ -1,13 +1,6 @@
 -- What the tests of a field at the front tell: they all hold, and the field takes its heading and its contents; or it takes no byte.
-use mathlib.Core.Path.{_≡_, refl}
-use mathlib.Core.Bool.{Bool, true, false, _&&_}
-use mathlib.Core.List.{List, []}
-use mathlib.Core.Logic.{_⊎_, inl, inr}
-use Prim.Native.Nat.{ℕ, _+_, _-_, _≤_}
-use native.Mathlib.Omega.{arith}
-use borrow.Author.Tests.{eqb-true, leb-true, eq-eqb, le-leb}
-use lib.Dec.{eqb, leb}
-use lib.ListN.{length, getD, take, drop}
+use Rattle.basis.specs.Names.{_≡_, refl, Bool, true, false, _&&_, List, [], _⊎_, ℕ, _+_, _-_, _≤_, eqb, leb, length, getD, take, drop}
+use Rattle.basis.proofs.Names.{inl, inr, arith, eqb-true, leb-true, eq-eqb, le-leb}
 use Rattle.words.proofs.Laws.{and-both}
 use Rattle.pagefile.specs.Fields.{mayHold}
 use Rattle.pagefile.specs.Parsing.{lengthIn, contentsIn, stands, size, holds}

@@ -1,16 +1,7 @@
 -- A file is well formed exactly if it is made of fields as a page file is, and its parts are what these fields hold: tag by tag, what
 -- remains of the file is the bytes of the fields that remain.
-use mathlib.Core.Path.{_≡_, refl, sym, ap, subst, _∙_}
-use mathlib.Core.Bool.{Bool, true, false, cond, false≢true}
-use mathlib.Core.List.{List, [], _∷_, _++_}
-use mathlib.Core.Logic.{_⊎_, inl, inr, _↔_}
-use Prim.Native.Nat.{ℕ, zero, suc, _+_, _-_, _≤_, _<_}
-use native.Mathlib.Nat.{eq-or-lt-of-le}
-use native.Mathlib.Omega.{arith}
-use borrow.Author.Tests.{eq-eqb, ne-eqb, eqb-true, leb-true, le-leb}
-use lib.Dec.{eqb, leb}
-use lib.ListN.{length, getD, drop, length-append}
-use lib.Seq.{getD-drop}
+use Rattle.basis.specs.Names.{_≡_, refl, Bool, true, false, cond, List, [], _∷_, _++_, _⊎_, ℕ, zero, suc, _+_, _-_, _≤_, _<_, eqb, leb, length, getD, drop}
+use Rattle.basis.proofs.Names.{sym, ap, subst, _∙_, false≢true, inl, inr, _↔_, eq-or-lt-of-le, arith, eq-eqb, ne-eqb, eqb-true, leb-true, le-leb, length-append, getD-drop}
 use Rattle.words.specs.Number.{AllBytes}
 use Rattle.words.proofs.Laws.{and-both}
 use Rattle.pagefile.specs.Fields.{Field, written, Ascending, concatenated, MadeOf, held}

@@ -1,13 +1,6 @@
 -- The parts of a file, by what the code has found: whether it is well formed, where a tag's field starts, and where that ends.
-use mathlib.Core.Path.{_≡_, refl, sym, ap, _∙_}
-use mathlib.Core.Bool.{Bool, true, false, not}
-use mathlib.Core.List.{List, []}
-use Prim.Native.Nat.{ℕ, _+_, _-_, _≤_, _<_}
-use native.Mathlib.Omega.{arith}
-use borrow.Author.Tests.{eq-eqb, ne-eqb, eqb-true, eqb-false, le-leb, lt-leb, not-true, not-false}
-use lib.Dec.{eqb}
-use lib.ListN.{length, getD, take, drop, length-drop, List·getD-eq-default}
-use lib.Seq.{drop-drop}
+use Rattle.basis.specs.Names.{_≡_, refl, Bool, true, false, not, List, [], ℕ, _+_, _-_, _≤_, _<_, eqb, length, getD, take, drop}
+use Rattle.basis.proofs.Names.{sym, ap, _∙_, arith, eq-eqb, ne-eqb, eqb-true, eqb-false, le-leb, lt-leb, not-true, not-false, length-drop, List·getD-eq-default, drop-drop}
 use Rattle.pagefile.specs.Parsing.{size, remaining, wellFormed, contentsOf, malformed, wellFormedWith, refusedWith, pageOf}
 use Rattle.pagefile.proofs.Fronts.{holds-sized}
 use Rattle.pagefile.proofs.Places.{places}

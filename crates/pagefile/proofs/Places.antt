@@ -1,15 +1,6 @@
 -- Where a field ends that starts at a place of the file, by the tests that the code makes there: what remains from the place on is `drop at file`.
-use mathlib.Core.Path.{_≡_, refl, sym, ap, _∙_}
-use mathlib.Core.Bool.{Bool, true, false, and-false}
-use mathlib.Core.List.{List}
-use Prim.Native.Nat.{ℕ, _+_, _-_, _≤_, _<_}
-use native.Mathlib.Nat.{add-zero, add-sub-cancel-left}
-use native.Mathlib.Numerals.{add-one}
-use native.Mathlib.Omega.{arith}
-use borrow.Author.Needs.{needs}
-use borrow.Author.Tests.{ne-eqb, lt-leb}
-use lib.ListN.{length, getD, take, drop, length-drop}
-use lib.Seq.{getD-drop, drop-drop}
+use Rattle.basis.specs.Names.{_≡_, refl, Bool, true, false, List, ℕ, _+_, _-_, _≤_, _<_, length, getD, take, drop}
+use Rattle.basis.proofs.Names.{sym, ap, _∙_, and-false, add-zero, add-sub-cancel-left, add-one, arith, needs, ne-eqb, lt-leb, length-drop, getD-drop, drop-drop}
 use Rattle.words.specs.Number.{number}
 use Rattle.words.specs.Buffer.{loaded}
 use Rattle.words.proofs.Laws.{loaded-inside}

@@ -1,13 +1,6 @@
 -- A field that stands at the front is written there, and the other way round: its length's bytes give its length, and its length its bytes.
-use mathlib.Core.Path.{_≡_, refl, sym, ap, _∙_}
-use mathlib.Core.Bool.{true}
-use mathlib.Core.List.{List, [], _∷_, _++_}
-use mathlib.Core.Logic.{_⊎_, inl, inr}
-use Prim.Native.Nat.{ℕ, zero, suc, _+_, _≤_}
-use native.Mathlib.Nat.{mod-eq-of-lt}
-use native.Mathlib.Omega.{arith}
-use lib.ListN.{length, getD, drop, length-append, take-append-drop}
-use lib.Seq.{length-take-le, take-append-seam, drop-append-seam}
+use Rattle.basis.specs.Names.{_≡_, refl, true, List, [], _∷_, _++_, _⊎_, ℕ, zero, suc, _+_, _≤_, length, getD, drop}
+use Rattle.basis.proofs.Names.{sym, ap, _∙_, inl, inr, mod-eq-of-lt, arith, length-append, take-append-drop, length-take-le, take-append-seam, drop-append-seam}
 use Rattle.words.specs.Number.{AllBytes, bytes}
 use Rattle.words.proofs.Numbers.{number-bytes, bytes-number}
 use Rattle.pagefile.specs.Fields.{Field, written, mayHold}

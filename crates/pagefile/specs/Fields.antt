@@ -1,10 +1,5 @@
 -- What a page file is: fields, each a tag, a length of two bytes and contents; tags 01 to 05, ascending, each at most once.
-use mathlib.Core.Path.{_≡_}
-use mathlib.Core.Bool.{Bool, true, cond, _&&_}
-use mathlib.Core.List.{List, [], _∷_, _++_}
-use Prim.Native.Nat.{ℕ, _<_, _≤_}
-use lib.Dec.{eqb, ltb}
-use lib.ListN.{length, getD}
+use Rattle.basis.specs.Names.{_≡_, Bool, true, cond, _&&_, List, [], _∷_, _++_, ℕ, _<_, _≤_, eqb, ltb, length, getD}
 use Rattle.words.specs.Number.{bytes}
 
 pub record Field : Type 0 where

@@ -1,10 +1,6 @@
 -- How a page file is parsed: each tag's field, from 01 to 05, is taken off the front of what remains, where it stands there. The file is well
 -- formed where nothing remains in the end.
-use mathlib.Core.Bool.{Bool, cond, _&&_}
-use mathlib.Core.List.{List, []}
-use Prim.Native.Nat.{ℕ, zero, suc, _+_, _-_}
-use lib.Dec.{eqb, leb}
-use lib.ListN.{length, getD, take, drop}
+use Rattle.basis.specs.Names.{Bool, cond, _&&_, List, [], ℕ, zero, suc, _+_, _-_, eqb, leb, length, getD, take, drop}
 use Rattle.words.specs.Number.{number}
 use Rattle.pagefile.specs.Fields.{mayHold}
 use Rattle.pagefile.specs.declared.Page.{Page}

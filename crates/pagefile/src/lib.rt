@@ -1,7 +1,5 @@
 // The page file: whether it is well formed, and which part of it holds the code, the memory and the registers.
-ghost use mathlib.Core.Path.{_≡_};
-ghost use Prim.Native.Nat.{_+_, _<_, _≤_};
-ghost use lib.ListN.{length, drop};
+ghost use Rattle.basis.specs.Names.{_≡_, _+_, _<_, _≤_, length, drop};
 ghost use Rattle.pagefile.specs.Fields.{mayHold};
 ghost use Rattle.pagefile.specs.Parsing.{size, remaining, wellFormed, contentsOf, codeOf, memoryOf, mmxOf, integersOf, pageOf, paperOfPage};
 

@@ -1,11 +1,7 @@
 -- The customer's example: the bytes of its file, and the whole text that is printed of it. Then a page of all five fields whose first instruction is
 -- refused, so that its text shows what the fields hold; and the refusals of files.
-use mathlib.Core.Path.{_≡_, refl, ap}
-use mathlib.Core.Bool.{true, false}
-use mathlib.Core.List.{List, [], _∷_, _++_, map}
-use Prim.Native.Nat.{ℕ}
-use lib.Dec.{ltb}
-use lib.ListN.{length, replicate, take}
+use Rattle.basis.specs.Names.{_≡_, refl, true, false, List, [], _∷_, _++_, map, ℕ, ltb, length, replicate, take}
+use Rattle.basis.proofs.Names.{ap}
 use Rattle.words.specs.Buffer.{loaded}
 use Rattle.reorder.proofs.Permutation.{from}
 use Rattle.codec.specs.Opcodes.{formAt, operationAt}

@@ -1,11 +1,6 @@
 -- What is printed of a page, piece by piece: each text is the definition's in the case that the code has reached.
-use mathlib.Core.Path.{_≡_, refl, sym}
-use mathlib.Core.List.{List, _++_}
-use Prim.Native.Nat.{ℕ, _-_, _≤_, _<_}
-use native.Mathlib.Nat.{sub-zero}
-use borrow.Author.Tests.{lt-ltb, le-ltb}
-use lib.ListN.{length, take, drop}
-use lib.Seq.{take-append-seam, take-length}
+use Rattle.basis.specs.Names.{_≡_, refl, List, _++_, ℕ, _-_, _≤_, _<_, length, take, drop}
+use Rattle.basis.proofs.Names.{sym, sub-zero, lt-ltb, le-ltb, take-append-seam, take-length}
 use Rattle.manual.specs.State.{State, longestMemory}
 use Rattle.manual.specs.Runs.{runOf}
 use Rattle.codec.specs.Refusals.{codeTooLong}

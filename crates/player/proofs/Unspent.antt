@@ -1,8 +1,6 @@
 -- No page's run is spent: its budget is more than half the bytes of the longest code. So a larger one would print the same.
-use mathlib.Core.Path.{_≡_, refl}
-use mathlib.Core.List.{List}
-use Prim.Native.Nat.{ℕ, _≤_}
-use native.Mathlib.Omega.{arith}
+use Rattle.basis.specs.Names.{_≡_, refl, List, ℕ, _≤_}
+use Rattle.basis.proofs.Names.{arith}
 use Rattle.reorder.specs.Run.{Answer, finished, spent, stopped}
 use Rattle.reorder.proofs.Endings.{Ended}
 use Rattle.manual.specs.State.{State}

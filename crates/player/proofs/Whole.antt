@@ -1,12 +1,6 @@
 -- No text is cut: every page's text has room in a buffer of `longestReport` bytes, since its run stays within its bounds.
-use mathlib.Core.Path.{_≡_, refl, ap, _∙_}
-use mathlib.Core.Bool.{Bool, true, false, cond}
-use mathlib.Core.List.{List, _++_}
-use Prim.Native.Nat.{ℕ, _≤_}
-use native.Mathlib.Omega.{arith}
-use borrow.Author.Tests.{ltb-false}
-use lib.Dec.{ltb}
-use lib.ListN.{length, getD, drop}
+use Rattle.basis.specs.Names.{_≡_, refl, Bool, true, false, cond, List, _++_, ℕ, _≤_, ltb, length, getD, drop}
+use Rattle.basis.proofs.Names.{ap, _∙_, arith, ltb-false}
 use Rattle.reorder.specs.Run.{Answer, finished, spent, stopped}
 use Rattle.codec.specs.Reads.{longestCode}
 use Rattle.codec.specs.Refusals.{codeTooLong}

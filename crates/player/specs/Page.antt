@@ -1,9 +1,5 @@
 -- What is printed of a page file: its refusal, or the report of its code's run in the machine that it starts from.
-use mathlib.Core.Bool.{cond}
-use mathlib.Core.List.{List}
-use Prim.Native.Nat.{ℕ}
-use lib.Dec.{ltb}
-use lib.ListN.{length}
+use Rattle.basis.specs.Names.{cond, List, ℕ, ltb, length}
 use Rattle.reorder.specs.Run.{Answer, finished, spent, stopped}
 use Rattle.codec.specs.Refusals.{codeTooLong}
 use Rattle.codec.specs.Reads.{longestCode}

@@ -5,9 +5,7 @@ use machine::Machine;
 use machine::refusals::LONGEST_MEMORY;
 use machine::refusals::MEMORY_TOO_LONG;
 use pagefile::Page;
-ghost use mathlib.Core.Path.{_≡_};
-ghost use Prim.Native.Nat.{_≤_};
-ghost use lib.ListN.{length};
+ghost use Rattle.basis.specs.Names.{_≡_, _≤_, length};
 ghost use Rattle.printout.specs.Printing.{printing, printed};
 ghost use Rattle.player.specs.Page.{answerText, runIn, wellFormedText, pageText};
 

@@ -1,8 +1,7 @@
 -- Any two answers that the contract of a public function allows at one input are equal, and so is what they leave in the lent buffer: both are
 -- what the definition says.
-use mathlib.Core.Path.{_≡_, sym, ap, _∙_}
-use mathlib.Core.List.{List}
-use Prim.Native.Nat.{ℕ}
+use Rattle.basis.specs.Names.{_≡_, List, ℕ}
+use Rattle.basis.proofs.Names.{sym, ap, _∙_}
 use contract.Lifetimes.{Lfts}
 use borrow.Fn.Kinds.{Dens, resT, endedOf}
 use denote.Triple.Clauses.{AtExit}

@@ -1,11 +1,6 @@
 -- How long each piece of the text is: a number as its digits are, a line of a register 5 characters more than its digits, a byte 3.
-use mathlib.Core.Path.{_≡_, refl}
-use mathlib.Core.Bool.{Bool, true, false}
-use mathlib.Core.List.{List, [], _∷_}
-use Prim.Native.Nat.{ℕ, suc, _+_, _*_}
-use native.Mathlib.Nat.{mul-suc}
-use native.Mathlib.Omega.{arith}
-use lib.ListN.{length, take, drop, length-append, length-take, length-drop}
+use Rattle.basis.specs.Names.{_≡_, refl, Bool, true, false, List, [], _∷_, ℕ, suc, _+_, _*_, length, take, drop}
+use Rattle.basis.proofs.Names.{mul-suc, arith, length-append, length-take, length-drop}
 use Rattle.machine.specs.declared.End.{End}
 use Rattle.machine.specs.declared.End.the-variants.{Done, Spent, Refused}
 use Rattle.printout.specs.Characters.{places, decimal}

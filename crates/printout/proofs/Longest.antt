@@ -1,12 +1,6 @@
 -- Every text of a page has room in a buffer of `longestReport` bytes, so none is cut: its numbers have no more digits than the largest of their kinds.
-use mathlib.Core.Path.{_≡_, refl}
-use mathlib.Core.Bool.{Bool}
-use mathlib.Core.List.{List, _++_}
-use Prim.Native.Nat.{ℕ, _^_, _≤_, _<_}
-use native.Mathlib.Nat.{pow-suc}
-use native.Mathlib.Omega.{arith}
-use borrow.Author.Tests.{le-leb}
-use lib.ListN.{length, drop}
+use Rattle.basis.specs.Names.{_≡_, refl, Bool, List, _++_, ℕ, _^_, _≤_, _<_, length, drop}
+use Rattle.basis.proofs.Names.{pow-suc, arith, le-leb}
 use Rattle.manual.specs.State.{longestMemory}
 use Rattle.machine.specs.declared.End.{End}
 use Rattle.machine.specs.declared.End.the-variants.{Done, Spent, Refused}

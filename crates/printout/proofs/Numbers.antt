@@ -1,14 +1,6 @@
 -- The digits of a number: how many there are, and one more from the end.
-use mathlib.Core.Path.{_≡_, refl, _∙_}
-use mathlib.Core.Bool.{Bool, true, false, cond}
-use mathlib.Core.List.{List, [], _∷_}
-use Prim.Native.Nat.{ℕ, zero, suc, _+_, _-_, _/_, _%_, _^_, _≤_, _<_}
-use native.Mathlib.Nat.{mod-lt, pow-suc}
-use native.Mathlib.Omega.{arith}
-use borrow.Author.Needs.{needs}
-use borrow.Author.Tests.{lt-ltb, le-ltb}
-use lib.Dec.{ltb}
-use lib.ListN.{length, set, length-append}
+use Rattle.basis.specs.Names.{_≡_, refl, Bool, true, false, cond, List, [], _∷_, ℕ, zero, suc, _+_, _-_, _/_, _%_, _^_, _≤_, _<_, ltb, length, set}
+use Rattle.basis.proofs.Names.{_∙_, mod-lt, pow-suc, arith, needs, lt-ltb, le-ltb, length-append}
 use Rattle.printout.specs.Characters.{digitOf, digits, places}
 use Rattle.printout.specs.inner.Room.{put, Puts}
 use Rattle.printout.proofs.Putting.{put-after}

@@ -1,13 +1,6 @@
 -- Each text by what the code knows of it: an answer by its case, a number by its digits, and what remains of a text by its next piece.
-use mathlib.Core.Path.{_≡_, ap}
-use mathlib.Core.Bool.{Bool, true, false}
-use mathlib.Core.List.{List, [], _∷_, _++_}
-use Prim.Native.Nat.{ℕ, suc, _+_, _-_, _*_, _≤_, _<_}
-use native.Mathlib.Nat.{add-sub-cancel-left}
-use native.Mathlib.Numerals.{add-one}
-use native.Mathlib.Omega.{arith}
-use lib.ListN.{length, getD, take, drop, length-drop, length-append, drop-of-length-le}
-use lib.Seq.{drop-cons, drop-drop}
+use Rattle.basis.specs.Names.{_≡_, Bool, true, false, List, [], _∷_, _++_, ℕ, suc, _+_, _-_, _*_, _≤_, _<_, length, getD, take, drop}
+use Rattle.basis.proofs.Names.{ap, add-sub-cancel-left, add-one, arith, length-drop, length-append, drop-of-length-le, drop-cons, drop-drop}
 use Rattle.machine.specs.declared.End.{End}
 use Rattle.machine.specs.declared.End.the-variants.{Done, Spent, Refused}
 use Rattle.printout.specs.Characters.{ascii, newline, hex, digits, places, decimal}

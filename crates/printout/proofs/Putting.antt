@@ -1,12 +1,6 @@
 -- Texts that are put one after the other are one text: each starts where the one before it ends. And what remains of a text, put, gives the whole.
-use mathlib.Core.Path.{_≡_, refl, sym, ap, _∙_}
-use mathlib.Core.List.{List, [], _∷_, _++_}
-use Prim.Native.Nat.{ℕ, suc, _+_}
-use native.Mathlib.Nat.{add-zero, add-suc, suc-add}
-use native.Mathlib.Omega.{arith}
-use borrow.Author.Needs.{needs}
-use lib.ListN.{length, set, length-append}
-use lib.Seq.{sets, length-sets, set-comm}
+use Rattle.basis.specs.Names.{_≡_, refl, List, [], _∷_, _++_, ℕ, suc, _+_, length, set, sets}
+use Rattle.basis.proofs.Names.{sym, ap, _∙_, add-zero, add-suc, suc-add, arith, needs, length-append, length-sets, set-comm}
 use Rattle.words.proofs.Laws.{sets-append}
 use Rattle.printout.specs.inner.Room.{put, Fits, Puts}
 

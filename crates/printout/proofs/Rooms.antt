@@ -1,15 +1,6 @@
 -- What a buffer gets: nothing where it is shorter than the text, and the text where that was put at its start.
-use mathlib.Core.Path.{_≡_, refl, sym, ap, subst, _∙_}
-use mathlib.Core.Bool.{Bool, true, false, not, cond}
-use mathlib.Core.List.{List, _++_}
-use Prim.Native.Nat.{ℕ, _+_, _-_, _*_, _/_, _≤_, _<_}
-use native.Mathlib.Nat.{zero-add}
-use native.Mathlib.Omega.{arith}
-use borrow.Author.Needs.{needs}
-use borrow.Author.Tests.{leb-true, leb-false, le-leb, lt-leb, not-true, not-false}
-use lib.Dec.{leb}
-use lib.ListN.{length, drop, length-append}
-use lib.Seq.{sets-eq}
+use Rattle.basis.specs.Names.{_≡_, refl, Bool, true, false, not, cond, List, _++_, ℕ, _+_, _-_, _*_, _/_, _≤_, _<_, leb, length, drop}
+use Rattle.basis.proofs.Names.{sym, ap, subst, _∙_, zero-add, arith, needs, leb-true, leb-false, le-leb, lt-leb, not-true, not-false, length-append, sets-eq}
 use Rattle.machine.specs.declared.End.{End}
 use Rattle.printout.specs.Characters.{places}
 use Rattle.printout.specs.Lines.{firstLine, mmxLines, integerLines, tagsLine, memoryLine, byteLines, reportText, refusalText}

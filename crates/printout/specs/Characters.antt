@@ -1,10 +1,6 @@
 -- Words and numbers as characters, each a byte.
-use mathlib.Core.Bool.{cond}
-use mathlib.Core.List.{List, [], _∷_, _++_}
-use Prim.Native.Char.{code}
+use Rattle.basis.specs.Names.{cond, List, [], _∷_, _++_, code, ℕ, zero, suc, _+_, _-_, _/_, _%_, ltb}
 use Prim.Native.String.{String, [] as none, _∷_ as _then_}
-use Prim.Native.Nat.{ℕ, zero, suc, _+_, _-_, _/_, _%_}
-use lib.Dec.{ltb}
 
 -- the characters of a word
 abbrev pub ascii : String → List ℕ

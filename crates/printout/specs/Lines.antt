@@ -1,10 +1,5 @@
 -- What the page program prints, line by line.
-use mathlib.Core.Bool.{Bool, cond}
-use mathlib.Core.List.{List, [], _∷_, _++_}
-use Prim.Native.Char.{code}
-use Prim.Native.Nat.{ℕ, suc, _+_, _*_, _%_}
-use lib.Dec.{eqb}
-use lib.ListN.{length, take, drop}
+use Rattle.basis.specs.Names.{Bool, cond, List, [], _∷_, _++_, code, ℕ, suc, _+_, _*_, _%_, eqb, length, take, drop}
 use Rattle.manual.specs.State.{longestMemory}
 use Rattle.machine.specs.declared.End.{End}
 use Rattle.machine.specs.declared.End.the-variants.{Done, Spent, Refused}

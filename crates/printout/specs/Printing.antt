@@ -1,9 +1,5 @@
 -- What a printing leaves in a lent buffer.
-use mathlib.Core.Bool.{cond}
-use mathlib.Core.List.{List, _++_}
-use Prim.Native.Nat.{ℕ}
-use lib.Dec.{leb}
-use lib.ListN.{length, drop}
+use Rattle.basis.specs.Names.{cond, List, _++_, ℕ, leb, length, drop}
 
 -- how many bytes it wrote, and the buffer
 pub record Printed : Type 0 where

@@ -1,8 +1,5 @@
 // How many characters the text has.
-ghost use mathlib.Core.Path.{_≡_};
-ghost use Prim.Native.Nat.{_≤_};
-ghost use lib.Dec.{leb};
-ghost use lib.ListN.{length};
+ghost use Rattle.basis.specs.Names.{_≡_, _≤_, leb, length};
 ghost use Rattle.printout.specs.Lines.{answer};
 ghost use Rattle.printout.specs.inner.Room.{reportLength};
 use crate::put::decimal_places;

@@ -1,7 +1,5 @@
 // What the page program prints: the report of a run, or the refusal of a file, put at the start of a lent buffer.
-ghost use mathlib.Core.Path.{_≡_};
-ghost use mathlib.Core.List.{_++_};
-ghost use lib.ListN.{length, replicate};
+ghost use Rattle.basis.specs.Names.{_≡_, _++_, length, replicate};
 ghost use Rattle.printout.specs.Lines.{firstLine, mmxLines, integerLines, tagsLine, memoryLine, byteLines, reportText, longestReport, refusalText};
 ghost use Rattle.printout.specs.Printing.{printing, printed};
 ghost use Rattle.printout.specs.inner.Room.{Fits, Puts};

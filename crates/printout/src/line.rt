@@ -1,8 +1,5 @@
 // The lines of the text, put at a place of a lent buffer.
-ghost use mathlib.Core.Path.{_≡_};
-ghost use mathlib.Core.List.{_++_};
-ghost use Prim.Native.Nat.{_*_};
-ghost use lib.ListN.{length};
+ghost use Rattle.basis.specs.Names.{_≡_, _++_, _*_, length};
 ghost use Rattle.printout.specs.Characters.{newline, hex};
 ghost use Rattle.printout.specs.Lines.{answer, firstLine, registerLines, mmxLines, integerLines, tagsLine, gapAfter, byteLines};
 ghost use Rattle.printout.specs.inner.Room.{Fits, Puts};

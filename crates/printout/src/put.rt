@@ -1,8 +1,5 @@
 // Characters, words and numbers, put at a place of a lent buffer. Each function answers the place after what it put.
-ghost use mathlib.Core.Path.{_≡_};
-ghost use mathlib.Core.List.{[], _∷_, _++_};
-ghost use Prim.Native.Nat.{_+_, _<_, _≤_};
-ghost use lib.ListN.{length};
+ghost use Rattle.basis.specs.Names.{_≡_, [], _∷_, _++_, _+_, _<_, _≤_, length};
 ghost use Rattle.printout.specs.Characters.{newline, digitOf, digits, hex, places, decimal};
 ghost use Rattle.printout.specs.inner.Room.{Fits, Puts};
 

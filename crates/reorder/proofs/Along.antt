@@ -1,12 +1,6 @@
 -- Along a run that finishes: a run of k instructions comes to piece k of the code, in the state before it, and goes on behind that piece.
-use mathlib.Core.Path.{_≡_, refl, sym, ap, ap₂, _∙_, subst}
-use mathlib.Core.List.{List, [], _∷_, _++_, flatten}
-use Prim.Native.Nat.{ℕ, zero, suc, _+_, _<_, _≤_}
-use native.Mathlib.Nat.{zero-add}
-use native.Mathlib.Decide.{decLt}
-use native.Mathlib.Omega.{arith}
-use lib.ListN.{length, getD, take, drop, length-append}
-use lib.Seq.{take-at, take-length}
+use Rattle.basis.specs.Names.{_≡_, refl, List, [], _∷_, _++_, flatten, ℕ, zero, suc, _+_, _<_, _≤_, length, getD, take, drop}
+use Rattle.basis.proofs.Names.{sym, ap, ap₂, _∙_, subst, zero-add, decLt, arith, length-append, take-at, take-length}
 use Rattle.reorder.specs.Result.{Result, done, andThen}
 use Rattle.reorder.specs.Run.{Fetched, finished, spent, positionReached, run}
 use Rattle.reorder.specs.Block.{piecesOf}

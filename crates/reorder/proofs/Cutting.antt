@@ -1,14 +1,6 @@
 -- A run that finishes is the row of its pieces: each step of the run cuts one whole instruction off the code, and the way back.
-use mathlib.Core.Bool.{false≢true}
-use mathlib.Core.Path.{_≡_, refl, sym, ap, _∙_, subst}
-use mathlib.Core.List.{List, [], _∷_, _++_, append-nil, flatten}
-use Prim.Native.Nat.{ℕ, zero, suc, _+_, _<_, _≤_, _-_}
-use native.Mathlib.Nat.{add-zero}
-use native.Mathlib.Decide.{ℕ-discrete}
-use native.Mathlib.Omega.{arith}
-use borrow.Author.Tests.{eq-eqb, ne-eqb}
-use lib.ListN.{length, getD, take, drop, length-append, length-drop, take-append-drop}
-use lib.Seq.{drop-drop, drop-length, drop-at, length-take-le, take-length}
+use Rattle.basis.specs.Names.{_≡_, refl, List, [], _∷_, _++_, flatten, ℕ, zero, suc, _+_, _<_, _≤_, _-_, length, getD, take, drop}
+use Rattle.basis.proofs.Names.{false≢true, sym, ap, _∙_, subst, append-nil, add-zero, ℕ-discrete, arith, eq-eqb, ne-eqb, length-append, length-drop, take-append-drop, drop-drop, drop-length, drop-at, length-take-le, take-length}
 use Rattle.reorder.specs.Result.{Result, done, refused, andThen, caseOf}
 use Rattle.reorder.specs.Run.{Fetched, Answer, finished, spent, stopped, runFrom}
 use Rattle.reorder.proofs.Rows.{execAll, before, onBytes}

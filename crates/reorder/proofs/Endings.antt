@@ -1,13 +1,7 @@
 -- How a run ends: done at the code's end, spent with its whole budget before it; and a larger budget changes no run that was not spent. By
 -- induction over a run's turns, said once.
-use mathlib.Core.Path.{_≡_, refl, sym, subst}
-use mathlib.Core.List.{List}
-use Prim.Native.Nat.{ℕ, zero, suc, _+_, _≤_}
-use native.Mathlib.Nat.{add-zero}
-use native.Mathlib.Decide.{ℕ-discrete}
-use native.Mathlib.Omega.{arith}
-use borrow.Author.Tests.{eq-eqb, ne-eqb}
-use lib.ListN.{length, drop}
+use Rattle.basis.specs.Names.{_≡_, refl, List, ℕ, zero, suc, _+_, _≤_, length, drop}
+use Rattle.basis.proofs.Names.{sym, subst, add-zero, ℕ-discrete, arith, eq-eqb, ne-eqb}
 use Rattle.reorder.specs.Result.{Result, done, refused}
 use Rattle.reorder.specs.Run.{Fetched, Answer, finished, spent, stopped, runFrom}
 

@@ -1,8 +1,6 @@
 -- A footprint is honest: a step goes by what it reads alone, and changes nothing but what it writes. For reading and writing are the plan's own.
-use mathlib.Core.Bool.{false≢true}
-use mathlib.Core.Path.{_≡_, refl, ap, _∙_, subst}
-use mathlib.Core.List.{List, List·Memᴰ as In, Memᴰ·append-left, Memᴰ·append-right}
-use Prim.Native.Nat.{ℕ}
+use Rattle.basis.specs.Names.{_≡_, refl, List, List·Memᴰ as In, ℕ}
+use Rattle.basis.proofs.Names.{false≢true, ap, _∙_, subst, Memᴰ·append-left, Memᴰ·append-right}
 use Rattle.reorder.specs.Result.{Result, done, refused, mapResult}
 use Rattle.reorder.specs.Plan.{Plan, looks, leaves, perform, execBy}
 use Rattle.reorder.specs.Footprint.{Footprint, footprintOf, footprintIn, footprintBy, asked}

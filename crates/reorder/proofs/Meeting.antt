@@ -1,5 +1,5 @@
 -- Meeting is symmetric, since sharing a place is said both ways round.
-use mathlib.Core.Logic.{inl, inr}
+use Rattle.basis.proofs.Names.{inl, inr}
 use Rattle.reorder.specs.Result.{Result, done}
 use Rattle.reorder.specs.Footprint.{Footprint, Meets}
 

@@ -1,10 +1,6 @@
 -- Where an element of a list stands: by induction on the list.
-use mathlib.Core.Path.{_≡_, refl, sym, ap}
-use mathlib.Core.Logic.{_⊎_, inl, inr, ⊎-elim}
-use mathlib.Core.List.{List, [], _∷_, _++_, List·Memᴰ as In, List·Memᴰ·head as here, List·Memᴰ·tail as later}
-use Prim.Native.Nat.{ℕ, zero, suc, _<_}
-use native.Mathlib.Omega.{arith}
-use lib.ListN.{length, getD}
+use Rattle.basis.specs.Names.{_≡_, refl, _⊎_, List, [], _∷_, _++_, List·Memᴰ as In, ℕ, zero, suc, _<_, length, getD}
+use Rattle.basis.proofs.Names.{sym, ap, inl, inr, ⊎-elim, List·Memᴰ·head as here, List·Memᴰ·tail as later, arith}
 
 -- an element of p ++ k ∷ q is k, or one of p ++ q
 pub in-seam : (x : ℕ) (p : List ℕ) (k : ℕ) (q : List ℕ) → In x (p ++ k ∷ q) → (x ≡ k) ⊎ In x (p ++ q)

@@ -1,11 +1,6 @@
 -- A new order of n things is a permutation of the numbers below n, and every such permutation is a new order.
-use mathlib.Core.Path.{_≡_, refl, sym, ap, _∙_, subst}
-use mathlib.Core.Logic.{⊎-elim}
-use mathlib.Core.List.{List, [], _∷_, _++_, List·Memᴰ as In, List·Memᴰ·head as here, List·Memᴰ·tail as later, Memᴰ·append-right}
-use Prim.Native.Nat.{ℕ, zero, suc, _+_, _<_, _≤_}
-use native.Mathlib.Nat.{zero-add}
-use native.Mathlib.Omega.{arith}
-use lib.ListN.{length, getD, length-append}
+use Rattle.basis.specs.Names.{_≡_, refl, List, [], _∷_, _++_, List·Memᴰ as In, ℕ, zero, suc, _+_, _<_, _≤_, length, getD}
+use Rattle.basis.proofs.Names.{sym, ap, _∙_, subst, ⊎-elim, List·Memᴰ·head as here, List·Memᴰ·tail as later, Memᴰ·append-right, zero-add, arith, length-append}
 use Rattle.reorder.specs.Order.{NewOrder, Keeps}
 use Rattle.reorder.proofs.Membership.{in-seam, in-wider, split, in-at, at-in}
 

@@ -1,8 +1,6 @@
 -- The laws that a machine's places and plans obey, and what follows for the state that a plan leaves: by induction on the places that are filled.
-use mathlib.Core.Path.{_≡_, refl, sym, ap, _∙_}
-use mathlib.Core.List.{List, [], _∷_, List·Memᴰ as In, List·Memᴰ·head as here, List·Memᴰ·tail as later}
-use Prim.Native.Nat.{ℕ}
-use lib.ListN.{getD, drop}
+use Rattle.basis.specs.Names.{_≡_, refl, List, [], _∷_, List·Memᴰ as In, ℕ, getD, drop}
+use Rattle.basis.proofs.Names.{sym, ap, _∙_, List·Memᴰ·head as here, List·Memᴰ·tail as later}
 use Rattle.reorder.specs.Result.{Result}
 use Rattle.reorder.specs.Plan.{Plan, looks, puts, leaves}
 

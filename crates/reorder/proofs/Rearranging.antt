@@ -1,12 +1,6 @@
 -- The reordering theorem over code bytes: a block is its pieces, the row of pieces is reordered, and the new row is the new block's run.
-use mathlib.Core.Bool.{false≢true}
-use mathlib.Core.Path.{_≡_, refl, sym, ap, ap₂, _∙_, subst, subst₂}
-use mathlib.Core.List.{List, [], _∷_, _++_, map, flatten, List·Memᴰ as In, List·Memᴰ·head as here, List·Memᴰ·tail as later}
-use Prim.Native.Nat.{ℕ, zero, suc, _+_, _<_, _≤_}
-use native.Mathlib.Nat.{add-zero, zero-add, add-suc, suc-add}
-use native.Mathlib.Omega.{arith}
-use lib.ListN.{length, getD, length-append, length-map}
-use lib.Seq.{take-at, drop-at}
+use Rattle.basis.specs.Names.{_≡_, refl, List, [], _∷_, _++_, map, flatten, List·Memᴰ as In, ℕ, zero, suc, _+_, _<_, _≤_, length, getD}
+use Rattle.basis.proofs.Names.{false≢true, sym, ap, ap₂, _∙_, subst, subst₂, List·Memᴰ·head as here, List·Memᴰ·tail as later, add-zero, zero-add, add-suc, suc-add, arith, length-append, length-map, take-at, drop-at}
 use Rattle.reorder.specs.Result.{Result, done, refused, andThen}
 use Rattle.reorder.specs.Order.{NewOrder, Keeps}
 use Rattle.reorder.specs.Run.{Fetched, finished, run}

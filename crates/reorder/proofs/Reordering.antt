@@ -1,12 +1,7 @@
 -- A row of instructions in a new order leaves the same state, over any machine that obeys the swap law: each instruction of the new order
 -- goes to the front past those that it does not meet.
-use mathlib.Core.Bool.{false≢true}
-use mathlib.Core.Path.{_≡_, refl, sym, ap, _∙_, subst}
-use mathlib.Core.List.{List, [], _∷_, _++_, map, List·Memᴰ as In, List·Memᴰ·head as here, List·Memᴰ·tail as later, Memᴰ·append-left}
-use Prim.Native.Nat.{ℕ, zero, suc, _+_, _<_}
-use native.Mathlib.Nat.{add-zero, zero-add, add-suc, suc-add}
-use native.Mathlib.Omega.{arith}
-use lib.ListN.{length, getD}
+use Rattle.basis.specs.Names.{_≡_, refl, List, [], _∷_, _++_, map, List·Memᴰ as In, ℕ, zero, suc, _+_, _<_, length, getD}
+use Rattle.basis.proofs.Names.{false≢true, sym, ap, _∙_, subst, List·Memᴰ·head as here, List·Memᴰ·tail as later, Memᴰ·append-left, add-zero, zero-add, add-suc, suc-add, arith}
 use Rattle.reorder.specs.Result.{Result, done, refused, andThen, caseOf}
 use Rattle.reorder.specs.Order.{NewOrder, Keeps}
 use Rattle.reorder.proofs.Rows.{execAll, before, footprintAt}

@@ -1,7 +1,5 @@
 -- A row of instructions, executed one after the other, over any state; and a row of the instructions' own bytes.
-use mathlib.Core.List.{List, [], _∷_}
-use Prim.Native.Nat.{ℕ, zero, suc}
-use lib.ListN.{getD}
+use Rattle.basis.specs.Names.{List, [], _∷_, ℕ, zero, suc, getD}
 use Rattle.reorder.specs.Result.{Result, done, andThen, caseOf}
 use Rattle.reorder.specs.Run.{Fetched}
 use Rattle.reorder.specs.Block.{piecesOf}

@@ -1,9 +1,6 @@
 -- The swap law of plans: the first changes nothing that the second goes by, nor the second what the first goes by, and their targets are apart.
-use mathlib.Core.Bool.{false≢true}
-use mathlib.Core.Path.{_≡_, refl, sym, ap, _∙_, subst}
-use mathlib.Core.Logic.{_⊎_, inl, inr}
-use mathlib.Core.List.{List, Memᴰ·append-left, Memᴰ·append-right}
-use Prim.Native.Nat.{ℕ}
+use Rattle.basis.specs.Names.{_≡_, refl, _⊎_, List, ℕ}
+use Rattle.basis.proofs.Names.{false≢true, sym, ap, _∙_, subst, inl, inr, Memᴰ·append-left, Memᴰ·append-right}
 use Rattle.reorder.specs.Result.{Result, done, refused, mapResult}
 use Rattle.reorder.specs.Plan.{Plan, looks, leaves, perform, execBy}
 use Rattle.reorder.specs.Footprint.{Footprint, footprintOf, footprintIn, footprintBy, Share, Meets}

@@ -1,13 +1,6 @@
 -- Whether an order turns round a pair that meets, by computation: where it turns none, it keeps them all.
-use mathlib.Core.Path.{_≡_, sym, ap, ap₂, _∙_}
-use mathlib.Core.Bool.{Bool, true, false, _&&_, _||_, or-true, false≢true}
-use mathlib.Core.List.{List, [], _∷_}
-use Prim.Native.Nat.{ℕ, zero, suc, _<_}
-use native.Mathlib.Decide.{decLt}
-use native.Mathlib.Omega.{arith}
-use borrow.Author.Tests.{lt-ltb}
-use lib.Dec.{ltb}
-use lib.ListN.{length, getD}
+use Rattle.basis.specs.Names.{_≡_, Bool, true, false, _&&_, _||_, List, [], _∷_, ℕ, zero, suc, _<_, ltb, length, getD}
+use Rattle.basis.proofs.Names.{sym, ap, ap₂, _∙_, or-true, false≢true, decLt, arith, lt-ltb}
 use Rattle.reorder.specs.Order.{Keeps}
 
 module _ (meets : ℕ → ℕ → Bool) where

@@ -1,7 +1,5 @@
 -- A block of code as the pieces that are its instructions' own bytes; the block with its instructions in a new order.
-use mathlib.Core.List.{List, [], _∷_, map, flatten}
-use Prim.Native.Nat.{ℕ, zero, suc}
-use lib.ListN.{length, getD, take, drop}
+use Rattle.basis.specs.Names.{List, [], _∷_, map, flatten, ℕ, zero, suc, length, getD, take, drop}
 use Rattle.reorder.specs.Result.{Result, caseOf}
 use Rattle.reorder.specs.Run.{Fetched}
 

@@ -1,7 +1,5 @@
 -- What a step reads and writes, and when two steps meet.
-use mathlib.Core.Logic.{_⊎_}
-use mathlib.Core.List.{List, _++_, List·Memᴰ as In}
-use Prim.Native.Nat.{ℕ}
+use Rattle.basis.specs.Names.{_⊎_, List, _++_, List·Memᴰ as In, ℕ}
 use Rattle.reorder.specs.Result.{Result, done, refused, andThen, mapResult}
 use Rattle.reorder.specs.Plan.{Plan, looks}
 

@@ -1,8 +1,5 @@
 -- A new order of n things, and what it is for an order to keep pairs.
-use mathlib.Core.Path.{_≡_}
-use mathlib.Core.List.{List}
-use Prim.Native.Nat.{ℕ, _<_}
-use lib.ListN.{length, getD}
+use Rattle.basis.specs.Names.{_≡_, List, ℕ, _<_, length, getD}
 
 -- the list says which original thing stands at each place: n entries, and each number below n stands somewhere
 pub record NewOrder (n : ℕ) (order : List ℕ) : Type 0 where

@@ -1,7 +1,5 @@
 -- A plan: from which places a step takes its operands, what it makes of them, and where the result goes; and the step that a plan gives.
-use mathlib.Core.List.{List, [], _∷_}
-use Prim.Native.Nat.{ℕ}
-use lib.ListN.{getD, drop}
+use Rattle.basis.specs.Names.{List, [], _∷_, ℕ, getD, drop}
 use Rattle.reorder.specs.Result.{Result, andThen, mapResult}
 
 -- over places P and kinds of instruction K

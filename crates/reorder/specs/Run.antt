@@ -1,9 +1,5 @@
 -- A run over code bytes, for any reader of instructions and any machine that executes them.
-use mathlib.Core.Bool.{cond}
-use mathlib.Core.List.{List}
-use Prim.Native.Nat.{ℕ, zero, suc, _+_}
-use lib.Dec.{eqb}
-use lib.ListN.{length, drop}
+use Rattle.basis.specs.Names.{cond, List, ℕ, zero, suc, _+_, eqb, length, drop}
 use Rattle.reorder.specs.Result.{Result, caseOf}
 
 -- what reading finds: the instruction, and how many bytes it has

@@ -1,6 +1,7 @@
 -- Any two answers that the contract of a public function allows at one input are equal, and so is what they leave in the lent buffer:
 -- both are what the definition says.
-use mathlib.Core.Path.{_≡_, refl, sym, _∙_}
+use Rattle.basis.specs.Names.{_≡_, refl}
+use Rattle.basis.proofs.Names.{sym, _∙_}
 use contract.Lifetimes.{Lfts}
 use borrow.Fn.Kinds.{Dens, resT, endedOf}
 use denote.Triple.Clauses.{AtExit}

@@ -1,15 +1,6 @@
 -- A load and a store go byte by byte: what a load reads is the bytes from its place on, what a store leaves is the buffer with its bytes put there.
-use mathlib.Core.Path.{_≡_, refl, sym, ap, _∙_}
-use mathlib.Core.Bool.{Bool, true, false, cond, _&&_, false≢true}
-use mathlib.Core.List.{List, [], _∷_, _++_}
-use Prim.Native.Nat.{ℕ, zero, suc, _+_, _≤_, _<_, _^_}
-use native.Mathlib.Nat.{add-zero, add-suc, suc-add, one-le-pow}
-use native.Mathlib.Numerals.{add-one}
-use native.Mathlib.Omega.{arith}
-use borrow.Author.Tests.{le-leb, leb-true}
-use lib.Dec.{leb}
-use lib.ListN.{length, getD, set, take, drop}
-use lib.Seq.{sets, sets-eq, drop-cons}
+use Rattle.basis.specs.Names.{_≡_, refl, Bool, true, false, cond, _&&_, List, [], _∷_, _++_, ℕ, zero, suc, _+_, _≤_, _<_, _^_, leb, length, getD, set, take, drop, sets}
+use Rattle.basis.proofs.Names.{sym, ap, _∙_, false≢true, add-zero, add-suc, suc-add, one-le-pow, add-one, arith, le-leb, leb-true, sets-eq, drop-cons}
 use Rattle.words.specs.Number.{AllBytes, number, bytes}
 use Rattle.words.specs.Buffer.{inside, loaded, stored}
 use Rattle.words.specs.inner.Bytewise.{gets}

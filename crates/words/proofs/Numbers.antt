@@ -1,12 +1,6 @@
 -- A number and its bytes: each is got back from the other, digit by digit to the base 256.
-use mathlib.Core.Path.{_≡_, refl, sym, ap, _∙_, subst}
-use mathlib.Core.List.{List, [], _∷_, _++_}
-use Prim.Native.Nat.{ℕ, zero, suc, _+_, _*_, _/_, _%_, _^_, _≤_, _<_}
-use native.Mathlib.Nat.{pow-suc, one-le-pow, mod-one, mod-eq-of-lt, le-trans, pow-le-pow-right}
-use native.Mathlib.Omega.{arith}
-use lib.Arith.{mod-mul}
-use lib.ListN.{length, take, drop, length-take}
-use lib.Seq.{getD-drop}
+use Rattle.basis.specs.Names.{_≡_, refl, List, [], _∷_, _++_, ℕ, zero, suc, _+_, _*_, _/_, _%_, _^_, _≤_, _<_, length, take, drop}
+use Rattle.basis.proofs.Names.{sym, ap, _∙_, subst, pow-suc, one-le-pow, mod-one, mod-eq-of-lt, le-trans, pow-le-pow-right, arith, mod-mul, length-take, getD-drop}
 use Rattle.words.specs.Number.{AllBytes, number, bytes}
 
 pub all-none : AllBytes []

@@ -1,16 +1,6 @@
 -- Rules for the functions: what the tests of a place tell, and the bytes that are got and put there one by one, turn by turn.
-use mathlib.Core.Path.{_≡_, sym, _∙_}
-use mathlib.Core.Bool.{Bool, true, false, not}
-use mathlib.Core.List.{List}
-use Prim.Native.Nat.{ℕ, suc, _+_, _*_, _-_, _/_, _%_, _<_, _≤_, _^_}
-use native.Mathlib.Decide.{decLe}
-use native.Mathlib.Nat.{add-zero, sub-self, sub-zero, pow-le-pow-right}
-use native.Mathlib.Omega.{arith}
-use borrow.Author.Needs.{needs}
-use borrow.Author.Tests.{le-leb, lt-leb, not-true, not-false}
-use lib.Dec.{leb}
-use lib.ListN.{length, getD, set}
-use lib.Seq.{sets}
+use Rattle.basis.specs.Names.{_≡_, Bool, true, false, not, List, ℕ, suc, _+_, _*_, _-_, _/_, _%_, _<_, _≤_, _^_, leb, length, getD, set, sets}
+use Rattle.basis.proofs.Names.{sym, _∙_, decLe, add-zero, sub-self, sub-zero, pow-le-pow-right, arith, needs, le-leb, lt-leb, not-true, not-false}
 use mir.Syntax.{w8}
 use mir.Val.{Fits}
 use Rattle.words.specs.Number.{number, bytes}

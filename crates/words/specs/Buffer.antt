@@ -1,9 +1,5 @@
 -- A number of up to 8 bytes in a buffer: what is read at a place, and what a store leaves.
-use mathlib.Core.Bool.{Bool, cond, _&&_}
-use mathlib.Core.List.{List, _++_}
-use Prim.Native.Nat.{ℕ, _+_}
-use lib.Dec.{leb}
-use lib.ListN.{length, take, drop}
+use Rattle.basis.specs.Names.{Bool, cond, _&&_, List, _++_, ℕ, _+_, leb, length, take, drop}
 use Rattle.words.specs.Number.{number, bytes}
 
 -- at most 8 bytes, and all of them in a buffer of so many (`room`)

@@ -1,7 +1,5 @@
 -- A number and its bytes, the least significant first.
-use mathlib.Core.List.{List, [], _∷_}
-use Prim.Native.Nat.{ℕ, zero, suc, _+_, _*_, _/_, _%_, _<_}
-use lib.ListN.{getD}
+use Rattle.basis.specs.Names.{List, [], _∷_, ℕ, zero, suc, _+_, _*_, _/_, _%_, _<_, getD}
 
 -- each is a byte (past the end stands 0)
 abbrev pub AllBytes : List ℕ → Type 0

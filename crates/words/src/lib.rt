@@ -1,9 +1,6 @@
 // Little-endian numbers of up to 8 bytes in a lent buffer. Any place and any size may be asked for: bytes that do not all lie in the buffer
 // are read as 0, and are not written.
-ghost use mathlib.Core.Path.{_≡_};
-ghost use Prim.Native.Nat.{_+_, _≤_};
-ghost use lib.ListN.{length};
-ghost use lib.Seq.{sets};
+ghost use Rattle.basis.specs.Names.{_≡_, _+_, _≤_, length, sets};
 ghost use Rattle.words.specs.Number.{number, bytes};
 ghost use Rattle.words.specs.Buffer.{inside, loaded, stored};
 ghost use Rattle.words.specs.inner.Bytewise.{gets};

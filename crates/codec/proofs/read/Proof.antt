@@ -7,9 +7,5 @@ pub read-spec : {M : Type 1} → statement M
 read-spec =
     tie.close
     (tie.spec
-    (λ c. search our-table)
-    (λ c κs. search our-table)
-    (λ c κs. search our-table)
-    (λ c. search our-table)
-    (λ c. search our-table)
+    (λ c. search our-table) (λ c κs. search our-table) (λ c κs. search our-table) (λ c. search our-table) (λ c. search our-table)
     (λ c. search our-table))

@@ -1,5 +1,5 @@
 -- `table` meets its contract: packing the rows computes the constant, number by number.
-use mathlib.Core.Path.{refl}
+use Rattle.basis.specs.Names.{refl}
 use Rattle.codec.specs.Table.{opcodeTable}
 use Rattle.codec.specs.Opcodes.{formAt, operationAt}
 use Rattle.codec.proofs.table.Statement.{statement}

@@ -1,9 +1,5 @@
 -- What the code has of an entry: the operation that it names, and what is found after an opcode.
-use Prim.Native.Nat.{ℕ, _/_, _%_, _^_}
-use mathlib.Core.List.{List}
-use mathlib.Core.Bool.{cond}
-use lib.Dec.{eqb}
-use lib.ListN.{drop}
+use Rattle.basis.specs.Names.{ℕ, _/_, _%_, _^_, List, cond, eqb, drop}
 use Rattle.lanes.specs.Operations.{Operation, operationOf, KEEP}
 use Rattle.codec.specs.Forms.{Form, hasDigits}
 use Rattle.codec.specs.Table.{formOf}

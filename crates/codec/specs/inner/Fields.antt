@@ -1,7 +1,5 @@
 -- What the code knows of an instruction's fields: they fit their places, and how many bytes they take.
-use Prim.Native.Nat.{ℕ, _+_, _≤_, _<_}
-use mathlib.Core.Path.{_≡_}
-use lib.ListN.{length}
+use Rattle.basis.specs.Names.{ℕ, _+_, _≤_, _<_, _≡_, length}
 use Rattle.codec.specs.Operands.{displacementSize}
 use Rattle.codec.specs.Writes.{sibBytes}
 use Rattle.codec.specs.declared.Operand.{Operand}

@@ -1,6 +1,6 @@
 -- `agrees` is safe and ends: its counter stays within the room, and what is left of it falls.
-use Prim.Native.Nat.{_≤_, _-_}
-use borrow.Author.Needs.{needs}
+use Rattle.basis.specs.Names.{_≤_, _-_}
+use Rattle.basis.proofs.Names.{needs}
 use Rattle.encodings.proofs.agrees.Statement.{statement}
 use Rattle.encodings.proofs.agrees.Tie as tie
 
@@ -16,13 +16,5 @@ agrees-spec =
     (tie.spec
     Inv-loop
     μ-loop
-    (λ c. search needs)
-    (λ c. search needs)
-    (λ c. search needs)
-    (λ c. search needs)
-    (λ c. search needs)
-    (λ c. search needs)
-    (λ c. search needs)
-    (λ c. search needs)
-    (λ c. search needs)
-    (λ c. search needs))
+    (λ c. search needs) (λ c. search needs) (λ c. search needs) (λ c. search needs) (λ c. search needs) (λ c. search needs)
+    (λ c. search needs) (λ c. search needs) (λ c. search needs) (λ c. search needs))

@@ -1,6 +1,6 @@
 -- `try_modrm` is safe and ends: the SIB byte goes up to 255.
-use Prim.Native.Nat.{_≤_, _-_}
-use borrow.Author.Needs.{needs}
+use Rattle.basis.specs.Names.{_≤_, _-_}
+use Rattle.basis.proofs.Names.{needs}
 use Rattle.encodings.proofs.try_modrm.Statement.{statement}
 use Rattle.encodings.proofs.try_modrm.Tie as tie
 
@@ -16,12 +16,5 @@ try-modrm-spec =
     (tie.spec
     Inv-loop
     μ-loop
-    (λ c. search needs)
-    (λ c. search needs)
-    (λ c κs. search needs)
-    (λ c. search needs)
-    (λ c. search needs)
-    (λ c. search needs)
-    (λ c. search needs)
-    (λ c κs. search needs)
-    (λ c. search needs))
+    (λ c. search needs) (λ c. search needs) (λ c κs. search needs) (λ c. search needs) (λ c. search needs) (λ c. search needs)
+    (λ c. search needs) (λ c κs. search needs) (λ c. search needs))

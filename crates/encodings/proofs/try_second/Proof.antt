@@ -1,6 +1,6 @@
 -- `try_second` is safe and ends: the ModRM byte goes up to 255.
-use Prim.Native.Nat.{_≤_, _-_}
-use borrow.Author.Needs.{needs}
+use Rattle.basis.specs.Names.{_≤_, _-_}
+use Rattle.basis.proofs.Names.{needs}
 use Rattle.encodings.proofs.try_second.Statement.{statement}
 use Rattle.encodings.proofs.try_second.Tie as tie
 
@@ -16,12 +16,5 @@ try-second-spec =
     (tie.spec
     Inv-loop
     μ-loop
-    (λ c κs. search needs)
-    (λ c. search needs)
-    (λ c. search needs)
-    (λ c κs. search needs)
-    (λ c. search needs)
-    (λ c. search needs)
-    (λ c. search needs)
-    (λ c. search needs)
-    (λ c. search needs))
+    (λ c κs. search needs) (λ c. search needs) (λ c. search needs) (λ c κs. search needs) (λ c. search needs) (λ c. search needs)
+    (λ c. search needs) (λ c. search needs) (λ c. search needs))

@@ -1,7 +1,6 @@
 -- `is_untouched` is safe and ends: each turn looks at one byte more.
-use Prim.Native.Nat.{_-_, _≤_}
-use lib.ListN.{length}
-use borrow.Author.Needs.{needs}
+use Rattle.basis.specs.Names.{_-_, _≤_, length}
+use Rattle.basis.proofs.Names.{needs}
 use Rattle.hostile.proofs.is_untouched.Statement.{statement}
 use Rattle.hostile.proofs.is_untouched.Tie as tie
 
@@ -17,10 +16,5 @@ is-untouched-spec =
     (tie.spec
     Inv-loop
     μ-loop
-    (λ c. search needs)
-    (λ c. search needs)
-    (λ c. search needs)
-    (λ c. search needs)
-    (λ c. search needs)
-    (λ c. search needs)
+    (λ c. search needs) (λ c. search needs) (λ c. search needs) (λ c. search needs) (λ c. search needs) (λ c. search needs)
     (λ c. search needs))

@@ -1,8 +1,6 @@
 -- `tally` is safe and ends: each turn plays one file more, and the buffer keeps its length.
-use mathlib.Core.Path.{_≡_}
-use Prim.Native.Nat.{_-_, _≤_}
-use lib.ListN.{length}
-use borrow.Author.Needs.{needs}
+use Rattle.basis.specs.Names.{_≡_, _-_, _≤_, length}
+use Rattle.basis.proofs.Names.{needs}
 use Rattle.hostile.proofs.tally.Statement.{statement}
 use Rattle.hostile.proofs.tally.Tie as tie
 
@@ -18,10 +16,5 @@ tally-spec =
     (tie.spec
     Inv-loop
     μ-loop
-    (λ c. search needs)
-    (λ c. search needs)
-    (λ c κs. search needs)
-    (λ c. search needs)
-    (λ c. search needs)
-    (λ c. search needs)
+    (λ c. search needs) (λ c. search needs) (λ c κs. search needs) (λ c. search needs) (λ c. search needs) (λ c. search needs)
     (λ c. search needs))

@@ -1,6 +1,6 @@
 -- `write_table` is safe and ends: the answer goes up to their number.
-use Prim.Native.Nat.{_-_, _≤_}
-use borrow.Author.Needs.{needs}
+use Rattle.basis.specs.Names.{_-_, _≤_}
+use Rattle.basis.proofs.Names.{needs}
 use Rattle.hostile.proofs.write_table.Statement.{statement}
 use Rattle.hostile.proofs.write_table.Tie as tie
 
@@ -16,15 +16,5 @@ write-table-spec =
     (tie.spec
     Inv-loop
     μ-loop
-    (λ c. search needs)
-    (λ c. search needs)
-    (λ c. search needs)
-    (λ c. search needs)
-    (λ c. search needs)
-    (λ c. search needs)
-    (λ c. search needs)
-    (λ c κs. search needs)
-    (λ c. search needs)
-    (λ c. search needs)
-    (λ c. search needs)
-    (λ c. search needs))
+    (λ c. search needs) (λ c. search needs) (λ c. search needs) (λ c. search needs) (λ c. search needs) (λ c. search needs)
+    (λ c. search needs) (λ c κs. search needs) (λ c. search needs) (λ c. search needs) (λ c. search needs) (λ c. search needs))

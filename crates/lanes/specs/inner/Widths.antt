@@ -1,6 +1,5 @@
 -- Which lanes lie in a register, and which widths fill it.
-use mathlib.Core.Path.{_≡_}
-use Prim.Native.Nat.{ℕ, _+_, _*_, _/_, _≤_}
+use Rattle.basis.specs.Names.{_≡_, ℕ, _+_, _*_, _/_, _≤_}
 
 -- lane i lies in the register
 abbrev pub Within : ℕ → ℕ → Type 0

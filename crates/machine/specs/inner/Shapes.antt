@@ -1,9 +1,5 @@
 -- The footprint as the program makes it, in masks and ranges: first where an operand is, then what each shape of effect reads and writes.
-use mathlib.Core.Bool.{cond, _||_}
-use mathlib.Core.List.{List, []}
-use Prim.Native.Nat.{ℕ, _^_}
-use lib.Bits.{bitOr}
-use lib.Dec.{eqb}
+use Rattle.basis.specs.Names.{cond, _||_, List, [], ℕ, _^_, bitOr, eqb}
 use Rattle.reorder.specs.Result.{Result, done, refused, mapResult}
 use Rattle.reorder.specs.Footprint.{footprintIn}
 use Rattle.codec.specs.declared.Kind.the-variants.{Ordinary}

@@ -1,8 +1,5 @@
 -- Where the code finds the operand that r/m names. Only the contracts of the code's own functions use these words.
-use mathlib.Core.Path.{_≡_}
-use mathlib.Core.Bool.{cond}
-use mathlib.Core.List.{List, [], _∷_}
-use Prim.Native.Nat.{ℕ, _<_}
+use Rattle.basis.specs.Names.{_≡_, cond, List, [], _∷_, ℕ, _<_}
 use Rattle.codec.specs.Forms.{Use, File, mmxFile, Slot, reg, rm, rm/mem, memorySize}
 use Rattle.codec.specs.Table.{formOf}
 use Rattle.codec.specs.declared.Operand.{Operand}

@@ -1,11 +1,6 @@
 -- The parts of the code's step in the words of the definitions: lent registers with marks are a machine, what is left to do leaves a state, and
 -- how a step ended is an outcome. Only the contracts of the code's own functions use them.
-use mathlib.Core.Path.{_≡_}
-use mathlib.Core.Bool.{Bool, true, false, cond}
-use mathlib.Core.List.{List, [], _∷_, map}
-use Prim.Native.Nat.{ℕ, _/_, _%_, _^_, _≤_, _<_}
-use lib.Dec.{eqb}
-use lib.ListN.{getD}
+use Rattle.basis.specs.Names.{_≡_, Bool, true, false, cond, List, [], _∷_, map, ℕ, _/_, _%_, _^_, _≤_, _<_, eqb, getD}
 use Rattle.lanes.specs.Operations.{operationOf, operate, numbered, MOVE}
 use Rattle.words.specs.Buffer.{loaded, stored}
 use Rattle.codec.specs.Forms.{Use, read, written, updated, Slot, Form, forms, isAmong, memorySize}

@@ -1,6 +1,6 @@
 -- `print_all` is safe and ends: the operations are counted up to the last.
-use Prim.Native.Nat.{_≤_, _-_}
-use borrow.Author.Needs.{needs}
+use Rattle.basis.specs.Names.{_≤_, _-_}
+use Rattle.basis.proofs.Names.{needs}
 use Rattle.operations.proofs.print_all.Statement.{statement}
 use Rattle.operations.proofs.print_all.Tie as tie
 
@@ -16,9 +16,4 @@ print-all-spec =
     (tie.spec
     Inv-loop
     μ-loop
-    (λ c. search needs)
-    (λ c κs. search needs)
-    (λ c. search needs)
-    (λ c. search needs)
-    (λ c. search needs)
-    (λ c. search needs))
+    (λ c. search needs) (λ c κs. search needs) (λ c. search needs) (λ c. search needs) (λ c. search needs) (λ c. search needs))

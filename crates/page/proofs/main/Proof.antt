@@ -1,10 +1,6 @@
 -- `main` is safe and ends: no more of the buffer is a page file than was read.
-use Prim.Native.Nat.{ℕ, _≤_}
-use mathlib.Core.Path.{_≡_, sym, subst}
-use mathlib.Core.List.{List}
-use lib.ListN.{length, take}
-use lib.Seq.{length-take-le}
-use borrow.Author.Needs.{needs}
+use Rattle.basis.specs.Names.{ℕ, _≤_, _≡_, List, length, take}
+use Rattle.basis.proofs.Names.{sym, subst, length-take-le, needs}
 use Rattle.page.specs.inner.Inputs.{Within}
 use Rattle.page.specs.declared.Input.{Input}
 use Rattle.page.specs.declared.Input.the-variants.{Whole}
@@ -21,17 +17,6 @@ pub main-spec : {M : Type 1} → statement M
 main-spec =
     tie.close
     (tie.spec
-    (λ c. search needs)
-    (λ c κs. search needs)
-    (λ c. search needs)
-    (λ c. search (within, needs))
-    (λ c. search (counted, needs))
-    (λ c κs. search needs)
-    (λ c. search needs)
-    (λ c κs. search needs)
-    (λ c. search needs)
-    (λ c. search needs)
-    (λ c κs. search needs)
-    (λ c. search needs)
-    (λ c. search needs)
-    (λ c. search needs))
+    (λ c. search needs) (λ c κs. search needs) (λ c. search needs) (λ c. search (within, needs)) (λ c. search (counted, needs)) (λ c κs. search needs)
+    (λ c. search needs) (λ c κs. search needs) (λ c. search needs) (λ c. search needs) (λ c κs. search needs) (λ c. search needs)
+    (λ c. search needs) (λ c. search needs))

@@ -1,5 +1,5 @@
 -- `print` is safe and ends: no more is written than the buffer has.
-use borrow.Author.Needs.{needs}
+use Rattle.basis.proofs.Names.{needs}
 use Rattle.printout.proofs.Rooms.{written-within}
 use Rattle.page.proofs.print.Statement.{statement}
 use Rattle.page.proofs.print.Tie as tie
@@ -8,11 +8,5 @@ pub print-spec : {M : Type 1} → statement M
 print-spec =
     tie.close
     (tie.spec
-    (λ c κs. search needs)
-    (λ c. search needs)
-    (λ c κs. search needs)
-    (λ c. search needs)
-    (λ c. search needs)
-    (λ c. search (written-within, needs))
-    (λ c κs. search needs)
-    (λ c. search needs))
+    (λ c κs. search needs) (λ c. search needs) (λ c κs. search needs) (λ c. search needs) (λ c. search needs) (λ c. search (written-within, needs))
+    (λ c κs. search needs) (λ c. search needs))

@@ -1,7 +1,5 @@
 -- What is said of the page program's input.
-use Prim.Native.Nat.{ℕ, _≤_}
-use mathlib.Core.List.{List}
-use lib.ListN.{length}
+use Rattle.basis.specs.Names.{ℕ, _≤_, List, length}
 use Rattle.page.specs.declared.Input.{Input}
 use Rattle.page.specs.declared.Input.the-variants.{Whole, Failed}
 

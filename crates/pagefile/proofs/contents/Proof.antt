@@ -7,20 +7,6 @@ pub contents-spec : {M : Type 1} → statement M
 contents-spec =
     tie.close
     (tie.spec
-    (λ c κs. search parts)
-    (λ c. search parts)
-    (λ c. search parts)
-    (λ c. search parts)
-    (λ c. search parts)
-    (λ c. search parts)
-    (λ c κs. search parts)
-    (λ c κs. search parts)
-    (λ c. search parts)
-    (λ c. search parts)
-    (λ c. search parts)
-    (λ c. search parts)
-    (λ c. search parts)
-    (λ c. search parts)
-    (λ c. search parts)
-    (λ c. search parts)
-    (λ c. search parts))
+    (λ c κs. search parts) (λ c. search parts) (λ c. search parts) (λ c. search parts) (λ c. search parts) (λ c. search parts)
+    (λ c κs. search parts) (λ c κs. search parts) (λ c. search parts) (λ c. search parts) (λ c. search parts) (λ c. search parts)
+    (λ c. search parts) (λ c. search parts) (λ c. search parts) (λ c. search parts) (λ c. search parts))

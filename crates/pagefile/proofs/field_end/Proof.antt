@@ -7,20 +7,9 @@ pub field-end-spec : {M : Type 1} → statement M
 field-end-spec =
     tie.close
     (tie.spec
-    (λ c. search ends)
-    (λ c. search ends)
-    (λ c. search ends)
-    (λ c. search ends)
-    (λ c. search ends)
-    (λ c κs. search ends)
-    (λ c. search ends)
-    (λ c. search ends)
-    (λ c. search ends)
-    (λ c. search ends)
-    (λ c. search ends)
-    (λ c. search ends)
-    (λ c κs. search ends)
-    (λ c. search ends)
+    (λ c. search ends) (λ c. search ends) (λ c. search ends) (λ c. search ends) (λ c. search ends) (λ c κs. search ends)
+    (λ c. search ends) (λ c. search ends) (λ c. search ends) (λ c. search ends) (λ c. search ends) (λ c. search ends)
+    (λ c κs. search ends) (λ c. search ends)
     (λ c.
     let d = c .before .before .before .before in
     wrong-contents _ _ _ _ (d .load .ensures) (d .before .before .before .if1 .left) _ (c .before .may-hold .ensures) (c .if4 .left)))

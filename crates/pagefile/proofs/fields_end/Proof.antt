@@ -1,8 +1,6 @@
 -- `fields_end` meets its contract: what remains from the place on is what the tags read so far leave.
 -- The measure is how many tags are to be read.
-use mathlib.Core.Path.{_≡_}
-use Prim.Native.Nat.{_-_, _≤_}
-use lib.ListN.{length, drop}
+use Rattle.basis.specs.Names.{_≡_, _-_, _≤_, length, drop}
 use Rattle.pagefile.specs.Parsing.{remaining}
 use Rattle.pagefile.proofs.Places.{places}
 use Rattle.pagefile.proofs.fields_end.Statement.{statement}
@@ -20,9 +18,4 @@ fields-end-spec =
     (tie.spec
     Inv-loop
     μ-loop
-    (λ c. search places)
-    (λ c. search places)
-    (λ c κs. search places)
-    (λ c. search places)
-    (λ c. search places)
-    (λ c. search places))
+    (λ c. search places) (λ c. search places) (λ c κs. search places) (λ c. search places) (λ c. search places) (λ c. search places))

@@ -1,6 +1,5 @@
 -- `may_hold` meets its contract: each return has made the tests that lead to its case.
-use borrow.Author.Needs.{needs}
-use borrow.Author.Tests.{eq-eqb, ne-eqb}
+use Rattle.basis.proofs.Names.{needs, eq-eqb, ne-eqb}
 use Rattle.pagefile.specs.Fields.{mayHold}
 use Rattle.pagefile.proofs.may_hold.Statement.{statement}
 use Rattle.pagefile.proofs.may_hold.Tie as tie
@@ -12,9 +11,4 @@ unfolding mayHold
 may-hold-spec =
     tie.close
     (tie.spec
-    (λ c. search tests)
-    (λ c. search tests)
-    (λ c. search needs)
-    (λ c. search tests)
-    (λ c. search tests)
-    (λ c. search tests))
+    (λ c. search tests) (λ c. search tests) (λ c. search needs) (λ c. search tests) (λ c. search tests) (λ c. search tests))

@@ -7,9 +7,4 @@ pub read-spec : {M : Type 1} → statement M
 read-spec =
     tie.close
     (tie.spec
-    (λ c κs. search parts)
-    (λ c. search parts)
-    (λ c κs. search parts)
-    (λ c. search parts)
-    (λ c. search parts)
-    (λ c. search parts))
+    (λ c κs. search parts) (λ c. search parts) (λ c κs. search parts) (λ c. search parts) (λ c. search parts) (λ c. search parts))

@@ -7,6 +7,4 @@ pub well-formed-spec : {M : Type 1} → statement M
 well-formed-spec =
     tie.close
     (tie.spec
-    (λ c. search parts)
-    (λ c κs. search parts)
-    (λ c. search parts))
+    (λ c. search parts) (λ c κs. search parts) (λ c. search parts))

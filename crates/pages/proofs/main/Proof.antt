@@ -1,6 +1,6 @@
 -- `main` is safe and ends: each turn plays one argument more.
-use Prim.Native.Nat.{_-_, _≤_}
-use borrow.Author.Needs.{needs}
+use Rattle.basis.specs.Names.{_-_, _≤_}
+use Rattle.basis.proofs.Names.{needs}
 use Rattle.pages.proofs.main.Statement.{statement}
 use Rattle.pages.proofs.main.Tie as tie
 
@@ -16,10 +16,5 @@ main-spec =
     (tie.spec
     Inv-loop
     μ-loop
-    (λ c κs. search needs)
-    (λ c. search needs)
-    (λ c κs. search needs)
-    (λ c. search needs)
-    (λ c. search needs)
-    (λ c. search needs)
+    (λ c κs. search needs) (λ c. search needs) (λ c κs. search needs) (λ c. search needs) (λ c. search needs) (λ c. search needs)
     (λ c. search needs))

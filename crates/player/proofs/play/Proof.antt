@@ -1,5 +1,5 @@
 -- `play` meets its contract: each arm has what the reading answered.
-use borrow.Author.Needs.{needs}
+use Rattle.basis.proofs.Names.{needs}
 use Rattle.player.proofs.Playing.{playing}
 use Rattle.player.proofs.play.Statement.{statement}
 use Rattle.player.proofs.play.Tie as tie
@@ -8,12 +8,5 @@ pub play-spec : {M : Type 1} → statement M
 play-spec =
     tie.close
     (tie.spec
-    (λ c κs. search needs)
-    (λ c. search needs)
-    (λ c κs. search needs)
-    (λ c. search needs)
-    (λ c κs. search needs)
-    (λ c. search needs)
-    (λ c. search playing)
-    (λ c. search needs)
-    (λ c. search playing))
+    (λ c κs. search needs) (λ c. search needs) (λ c κs. search needs) (λ c. search needs) (λ c κs. search needs) (λ c. search needs)
+    (λ c. search playing) (λ c. search needs) (λ c. search playing))

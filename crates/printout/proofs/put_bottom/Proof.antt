@@ -9,12 +9,9 @@ unfolding memoryLine
 put-bottom-spec =
     tie.close
     (tie.spec
-    (λ c κs. search chain)
-    (λ c. search chain)
-    (λ c κs. search chain)
+    (λ c κs. search chain) (λ c. search chain) (λ c κs. search chain)
     (λ c κs.
     let d = c .before .before .before in
     let e = d .before .before .before .before .before in
     fits-third (d .put-number-line .ensures) (e .put-tags-line .ensures) (e .before .before .before .before .pre))
-    (λ c. search chain)
-    (λ c. search chain))
+    (λ c. search chain) (λ c. search chain))

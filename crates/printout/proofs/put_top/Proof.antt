@@ -7,11 +7,9 @@ pub put-top-spec : {M : Type 1} → statement M
 put-top-spec =
     tie.close
     (tie.spec
-    (λ c κs. search chain)
-    (λ c κs. search chain)
+    (λ c κs. search chain) (λ c κs. search chain)
     (λ c κs.
     let d = c .before .before .before in
     let e = d .before .before .before .before in
     fits-third (d .put-mmx-lines .ensures) (e .put-first-line .ensures) (e .before .before .before .before .before .before .pre))
-    (λ c. search chain)
-    (λ c. search chain))
+    (λ c. search chain) (λ c. search chain))

@@ -9,11 +9,5 @@ unfolding refusalText
 refusal-spec =
     tie.close
     (tie.spec
-    (λ c κs. search rooms)
-    (λ c. search rooms)
-    (λ c. search rooms)
-    (λ c. search rooms)
-    (λ c. search rooms)
-    (λ c κs. search rooms)
-    (λ c. search rooms)
-    (λ c. search rooms))
+    (λ c κs. search rooms) (λ c. search rooms) (λ c. search rooms) (λ c. search rooms) (λ c. search rooms) (λ c κs. search rooms)
+    (λ c. search rooms) (λ c. search rooms))

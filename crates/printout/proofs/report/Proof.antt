@@ -7,9 +7,4 @@ pub report-spec : {M : Type 1} → statement M
 report-spec =
     tie.close
     (tie.spec
-    (λ c κs. search rooms)
-    (λ c. search rooms)
-    (λ c κs. search rooms)
-    (λ c κs. search rooms)
-    (λ c. search rooms)
-    (λ c. search rooms))
+    (λ c κs. search rooms) (λ c. search rooms) (λ c κs. search rooms) (λ c κs. search rooms) (λ c. search rooms) (λ c. search rooms))

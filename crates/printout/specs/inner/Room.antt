@@ -1,9 +1,5 @@
 -- Whether a text has room at a place of a buffer, and what putting it there leaves.
-use mathlib.Core.Path.{_≡_}
-use mathlib.Core.List.{List}
-use Prim.Native.Nat.{ℕ, _+_, _*_, _≤_}
-use lib.ListN.{length}
-use lib.Seq.{sets}
+use Rattle.basis.specs.Names.{_≡_, List, ℕ, _+_, _*_, _≤_, length, sets}
 use Rattle.machine.specs.declared.End.{End}
 use Rattle.printout.specs.Lines.{firstLine, memoryLine}
 

@@ -7,11 +7,5 @@ pub load-spec : {M : Type 1} → statement M
 load-spec =
     tie.close
     (tie.spec
-    (λ c κs. search placing)
-    (λ c. search placing)
-    (λ c κs. search placing)
-    (λ c. search placing)
-    (λ c κs. search placing)
-    (λ c. search placing)
-    (λ c κs. search placing)
-    (λ c. search placing))
+    (λ c κs. search placing) (λ c. search placing) (λ c κs. search placing) (λ c. search placing) (λ c κs. search placing) (λ c. search placing)
+    (λ c κs. search placing) (λ c. search placing))

@@ -1,6 +1,5 @@
 -- `load_bytes` meets its contract: before each turn the value is the number of the bytes passed, and each turn leaves fewer.
-use mathlib.Core.Path.{_≡_}
-use Prim.Native.Nat.{_+_, _-_, _≤_}
+use Rattle.basis.specs.Names.{_≡_, _+_, _-_, _≤_}
 use mir.Facts.{fits-8-64}
 use Rattle.words.specs.Number.{number}
 use Rattle.words.specs.inner.Bytewise.{gets}
@@ -20,13 +19,6 @@ load-bytes-spec =
     (tie.spec
     Inv-loop
     μ-loop
-    (λ c. search passing)
-    (λ c. search passing)
-    (λ c. search passing)
-    (λ c. search passing)
-    (λ c. search (fits-8-64, c .shared-slice-known .given))
-    (λ c. search (passing, c .shared-slice-known .given))
-    (λ c. search (passing, c .shared-slice-known .given))
-    (λ c. search passing)
-    (λ c. search passing)
-    (λ c. search passing))
+    (λ c. search passing) (λ c. search passing) (λ c. search passing) (λ c. search passing) (λ c. search (fits-8-64, c .shared-slice-known .given))
+    (λ c. search (passing, c .shared-slice-known .given)) (λ c. search (passing, c .shared-slice-known .given)) (λ c. search passing)
+    (λ c. search passing) (λ c. search passing))

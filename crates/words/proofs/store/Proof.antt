@@ -7,14 +7,5 @@ pub store-spec : {M : Type 1} → statement M
 store-spec =
     tie.close
     (tie.spec
-    (λ c κs. search placing)
-    (λ c. search placing)
-    (λ c κs. search placing)
-    (λ c. search placing)
-    (λ c. search placing)
-    (λ c κs. search placing)
-    (λ c. search placing)
-    (λ c. search placing)
-    (λ c κs. search placing)
-    (λ c. search placing)
-    (λ c. search placing))
+    (λ c κs. search placing) (λ c. search placing) (λ c κs. search placing) (λ c. search placing) (λ c. search placing) (λ c κs. search placing)
+    (λ c. search placing) (λ c. search placing) (λ c κs. search placing) (λ c. search placing) (λ c. search placing))

@@ -1,8 +1,5 @@
 -- `store_bytes` meets its contract: before each turn what is left to put, put, gives the end, and each turn leaves less.
-use mathlib.Core.Path.{_≡_}
-use Prim.Native.Nat.{_+_, _-_, _≤_}
-use lib.ListN.{length}
-use lib.Seq.{sets}
+use Rattle.basis.specs.Names.{_≡_, _+_, _-_, _≤_, length, sets}
 use Rattle.words.specs.Number.{bytes}
 use Rattle.words.proofs.Placing.{passing}
 use Rattle.words.proofs.store_bytes.Statement.{statement}
@@ -21,12 +18,5 @@ store-bytes-spec =
     (tie.spec
     Inv-loop
     μ-loop
-    (λ c. search passing)
-    (λ c. search passing)
-    (λ c. search passing)
-    (λ c. search passing)
-    (λ c. search passing)
-    (λ c. search passing)
-    (λ c. search passing)
-    (λ c. search passing)
-    (λ c. search passing))
+    (λ c. search passing) (λ c. search passing) (λ c. search passing) (λ c. search passing) (λ c. search passing) (λ c. search passing)
+    (λ c. search passing) (λ c. search passing) (λ c. search passing))

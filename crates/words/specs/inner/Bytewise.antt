@@ -1,7 +1,5 @@
 -- A buffer read one byte after the other.
-use mathlib.Core.List.{List, [], _∷_}
-use Prim.Native.Nat.{ℕ, zero, suc, _+_}
-use lib.ListN.{getD}
+use Rattle.basis.specs.Names.{List, [], _∷_, ℕ, zero, suc, _+_, getD}
 
 -- the n bytes from a place on
 abbrev pub gets : ℕ → List ℕ → ℕ → List ℕ

@@ -9,10 +9,5 @@ unfolding displacementSize
 displacement-size-spec =
     tie.close
     (tie.spec
-    (λ c. search sizes)
-    (λ c. search sizes)
-    (λ c. search sizes)
-    (λ c. search sizes)
-    (λ c. search sizes)
-    (λ c. search sizes)
+    (λ c. search sizes) (λ c. search sizes) (λ c. search sizes) (λ c. search sizes) (λ c. search sizes) (λ c. search sizes)
     (λ c. search sizes))

@@ -9,5 +9,4 @@ unfolding hasSib
 sib-follows-spec =
     tie.close
     (tie.spec
-    (λ c. search tests)
-    (λ c. search tests))
+    (λ c. search tests) (λ c. search tests))

@@ -1,5 +1,5 @@
 -- `opcodes::form_for` meets its contract: our table has the form of every second byte.
-use borrow.Author.Needs.{needs}
+use Rattle.basis.proofs.Names.{needs}
 use Rattle.codec.specs.Table.{opcodeTable}
 use Rattle.codec.specs.Opcodes.{formAt, operationAt}
 use Rattle.codec.proofs.Entries.{form-is}

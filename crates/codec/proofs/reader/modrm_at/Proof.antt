@@ -7,12 +7,5 @@ pub modrm-at-spec : {M : Type 1} → statement M
 modrm-at-spec =
     tie.close
     (tie.spec
-    (λ c κs. search reading)
-    (λ c. search reading)
-    (λ c. search reading)
-    (λ c κs. search reading)
-    (λ c. search reading)
-    (λ c κs. search reading)
-    (λ c κs. search reading)
-    (λ c. search reading)
-    (λ c. search reading))
+    (λ c κs. search reading) (λ c. search reading) (λ c. search reading) (λ c κs. search reading) (λ c. search reading) (λ c κs. search reading)
+    (λ c κs. search reading) (λ c. search reading) (λ c. search reading))

@@ -7,16 +7,6 @@ pub number-at-spec : {M : Type 1} → statement M
 number-at-spec =
     tie.close
     (tie.spec
-    (λ c. search reading)
-    (λ c. search reading)
-    (λ c κs. search reading)
-    (λ c. search reading)
-    (λ c. search reading)
-    (λ c. search reading)
-    (λ c. search reading)
-    (λ c. search reading)
-    (λ c. search reading)
-    (λ c. search reading)
-    (λ c. search reading)
-    (λ c κs. search reading)
+    (λ c. search reading) (λ c. search reading) (λ c κs. search reading) (λ c. search reading) (λ c. search reading) (λ c. search reading)
+    (λ c. search reading) (λ c. search reading) (λ c. search reading) (λ c. search reading) (λ c. search reading) (λ c κs. search reading)
     (λ c. search reading))

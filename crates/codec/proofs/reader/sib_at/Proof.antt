@@ -7,15 +7,5 @@ pub sib-at-spec : {M : Type 1} → statement M
 sib-at-spec =
     tie.close
     (tie.spec
-    (λ c κs. search reading)
-    (λ c κs. search reading)
-    (λ c. search reading)
-    (λ c κs. search reading)
-    (λ c κs. search reading)
-    (λ c. search reading)
-    (λ c. search reading)
-    (λ c. search reading)
-    (λ c κs. search reading)
-    (λ c κs. search reading)
-    (λ c. search reading)
-    (λ c. search reading))
+    (λ c κs. search reading) (λ c κs. search reading) (λ c. search reading) (λ c κs. search reading) (λ c κs. search reading) (λ c. search reading)
+    (λ c. search reading) (λ c. search reading) (λ c κs. search reading) (λ c κs. search reading) (λ c. search reading) (λ c. search reading))

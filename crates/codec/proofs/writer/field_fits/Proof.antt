@@ -7,6 +7,4 @@ pub field-fits-spec : {M : Type 1} → statement M
 field-fits-spec =
     tie.close
     (tie.spec
-    (λ c. search checks)
-    (λ c. search checks)
-    (λ c. search checks))
+    (λ c. search checks) (λ c. search checks) (λ c. search checks))

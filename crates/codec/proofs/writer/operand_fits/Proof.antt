@@ -10,12 +10,5 @@ unfolding operandFits
 operand-fits-spec =
     tie.close
     (tie.spec
-    (λ c. search tests)
-    (λ c. search tests)
-    (λ c. search tests)
-    (λ c κs. search checks)
-    (λ c κs. search checks)
-    (λ c κs. search checks)
-    (λ c κs. search checks)
-    (λ c. search checks)
-    (λ c. search checks))
+    (λ c. search tests) (λ c. search tests) (λ c. search tests) (λ c κs. search checks) (λ c κs. search checks) (λ c κs. search checks)
+    (λ c κs. search checks) (λ c. search checks) (λ c. search checks))

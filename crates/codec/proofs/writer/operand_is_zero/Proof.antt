@@ -9,10 +9,5 @@ unfolding operandIsZero
 operand-is-zero-spec =
     tie.close
     (tie.spec
-    (λ c. search tests)
-    (λ c. search tests)
-    (λ c. search tests)
-    (λ c. search tests)
-    (λ c. search tests)
-    (λ c. search tests)
+    (λ c. search tests) (λ c. search tests) (λ c. search tests) (λ c. search tests) (λ c. search tests) (λ c. search tests)
     (λ c. search tests))

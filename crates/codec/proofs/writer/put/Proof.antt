@@ -7,12 +7,5 @@ pub put-spec : {M : Type 1} → statement M
 put-spec =
     tie.close
     (tie.spec
-    (λ c. search puts)
-    (λ c. search puts)
-    (λ c. search puts)
-    (λ c. search puts)
-    (λ c κs. search puts)
-    (λ c κs. search puts)
-    (λ c κs. search puts)
-    (λ c. search length-kept-twice)
-    (λ c. search puts))
+    (λ c. search puts) (λ c. search puts) (λ c. search puts) (λ c. search puts) (λ c κs. search puts) (λ c κs. search puts)
+    (λ c κs. search puts) (λ c. search length-kept-twice) (λ c. search puts))

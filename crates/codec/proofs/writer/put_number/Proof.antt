@@ -7,19 +7,6 @@ pub put-number-spec : {M : Type 1} → statement M
 put-number-spec =
     tie.close
     (tie.spec
-    (λ c. search puts)
-    (λ c. search puts)
-    (λ c. search puts)
-    (λ c. search puts)
-    (λ c. search puts)
-    (λ c. search puts)
-    (λ c. search puts)
-    (λ c. search puts)
-    (λ c. search puts)
-    (λ c. search puts)
-    (λ c. search puts)
-    (λ c. search puts)
-    (λ c. search puts)
-    (λ c. search puts)
-    (λ c. search puts)
-    (λ c. search puts))
+    (λ c. search puts) (λ c. search puts) (λ c. search puts) (λ c. search puts) (λ c. search puts) (λ c. search puts)
+    (λ c. search puts) (λ c. search puts) (λ c. search puts) (λ c. search puts) (λ c. search puts) (λ c. search puts)
+    (λ c. search puts) (λ c. search puts) (λ c. search puts) (λ c. search puts))

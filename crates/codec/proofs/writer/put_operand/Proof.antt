@@ -7,12 +7,5 @@ pub put-operand-spec : {M : Type 1} → statement M
 put-operand-spec =
     tie.close
     (tie.spec
-    (λ c κs. search puts)
-    (λ c. search puts)
-    (λ c. search puts)
-    (λ c κs. search puts)
-    (λ c κs. search puts)
-    (λ c κs. search puts)
-    (λ c. search puts)
-    (λ c. search puts)
-    (λ c. search puts))
+    (λ c κs. search puts) (λ c. search puts) (λ c. search puts) (λ c κs. search puts) (λ c κs. search puts) (λ c κs. search puts)
+    (λ c. search puts) (λ c. search puts) (λ c. search puts))

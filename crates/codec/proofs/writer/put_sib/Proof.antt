@@ -7,10 +7,5 @@ pub put-sib-spec : {M : Type 1} → statement M
 put-sib-spec =
     tie.close
     (tie.spec
-    (λ c κs. search puts)
-    (λ c κs. search puts)
-    (λ c. search puts)
-    (λ c. search puts)
-    (λ c. search puts)
-    (λ c. search puts)
+    (λ c κs. search puts) (λ c κs. search puts) (λ c. search puts) (λ c. search puts) (λ c. search puts) (λ c. search puts)
     (λ c. search puts))

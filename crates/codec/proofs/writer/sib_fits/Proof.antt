@@ -9,9 +9,6 @@ unfolding sibFits
 sib-fits-spec =
     tie.close
     (tie.spec
-    (λ c. search (tests, c .before .if1 .taken))
-    (λ c. search (tests, c .before .before .if1 .taken))
-    (λ c. search (tests, c .before .if1 .left))
-    (λ c. search (tests, c .before .before .if1 .left))
-    (λ c. search (tests, c .before .before .if1 .taken))
+    (λ c. search (tests, c .before .if1 .taken)) (λ c. search (tests, c .before .before .if1 .taken)) (λ c. search (tests, c .before .if1 .left))
+    (λ c. search (tests, c .before .before .if1 .left)) (λ c. search (tests, c .before .before .if1 .taken))
     (λ c. search (tests, c .before .before .if1 .left)))

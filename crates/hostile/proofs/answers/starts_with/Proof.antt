@@ -1,8 +1,6 @@
 -- `answers::starts_with` is safe and ends: its counter goes up to the length of the word, which the text has.
-use mathlib.Core.Path.{_≡_}
-use Prim.Native.Nat.{_-_, _≤_}
-use lib.ListN.{length}
-use borrow.Author.Needs.{needs}
+use Rattle.basis.specs.Names.{_≡_, _-_, _≤_, length}
+use Rattle.basis.proofs.Names.{needs}
 use Rattle.hostile.proofs.answers.starts_with.Statement.{statement}
 use Rattle.hostile.proofs.answers.starts_with.Tie as tie
 
@@ -18,12 +16,5 @@ starts-with-spec =
     (tie.spec
     Inv-loop
     μ-loop
-    (λ c. search needs)
-    (λ c. search needs)
-    (λ c. search needs)
-    (λ c. search needs)
-    (λ c. search needs)
-    (λ c. search needs)
-    (λ c. search needs)
-    (λ c. search needs)
-    (λ c. search needs))
+    (λ c. search needs) (λ c. search needs) (λ c. search needs) (λ c. search needs) (λ c. search needs) (λ c. search needs)
+    (λ c. search needs) (λ c. search needs) (λ c. search needs))

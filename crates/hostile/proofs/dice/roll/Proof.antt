@@ -1,6 +1,5 @@
 -- `dice::roll` meets its contract: a remainder is below its divisor.
-use native.Mathlib.Nat.{mod-lt}
-use borrow.Author.Needs.{needs}
+use Rattle.basis.proofs.Names.{mod-lt, needs}
 use Rattle.hostile.proofs.dice.roll.Statement.{statement}
 use Rattle.hostile.proofs.dice.roll.Tie as tie
 
@@ -8,6 +7,4 @@ pub roll-spec : {M : Type 1} → statement M
 roll-spec =
     tie.close
     (tie.spec
-    (λ c κs. search needs)
-    (λ c. search needs)
-    (λ c. search (mod-lt, needs)))
+    (λ c κs. search needs) (λ c. search needs) (λ c. search (mod-lt, needs)))

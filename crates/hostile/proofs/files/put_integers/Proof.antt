@@ -1,8 +1,6 @@
 -- `files::put_integers` meets its contract: its place stays within the file, and what is left of the eight registers falls.
-use mathlib.Core.Path.{_≡_}
-use Prim.Native.Nat.{_-_, _≤_}
-use lib.ListN.{length}
-use borrow.Author.Needs.{needs}
+use Rattle.basis.specs.Names.{_≡_, _-_, _≤_, length}
+use Rattle.basis.proofs.Names.{needs}
 use Rattle.hostile.proofs.files.put_integers.Statement.{statement}
 use Rattle.hostile.proofs.files.put_integers.Tie as tie
 
@@ -18,11 +16,5 @@ put-integers-spec =
     (tie.spec
     Inv-loop
     μ-loop
-    (λ c κs. search needs)
-    (λ c. search needs)
-    (λ c κs. search needs)
-    (λ c. search needs)
-    (λ c. search needs)
-    (λ c. search needs)
-    (λ c. search needs)
-    (λ c. search needs))
+    (λ c κs. search needs) (λ c. search needs) (λ c κs. search needs) (λ c. search needs) (λ c. search needs) (λ c. search needs)
+    (λ c. search needs) (λ c. search needs))

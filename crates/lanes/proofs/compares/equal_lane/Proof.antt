@@ -7,7 +7,4 @@ pub equal-lane-spec : {M : Type 1} → statement M
 equal-lane-spec =
     tie.close
     (tie.spec
-    (λ c κs. search comparing)
-    (λ c κs. search comparing)
-    (λ c κs. search comparing)
-    (λ c. search comparing))
+    (λ c κs. search comparing) (λ c κs. search comparing) (λ c κs. search comparing) (λ c. search comparing))

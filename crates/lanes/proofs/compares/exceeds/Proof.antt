@@ -1,5 +1,5 @@
 -- `compares::exceeds` meets its contract: the loop builds the result, one lane a turn.
-use Prim.Native.Nat.{_-_}
+use Rattle.basis.specs.Names.{_-_}
 use Rattle.lanes.specs.Rules.{pairwise, greater}
 use Rattle.lanes.proofs.Building.{Built, building}
 use Rattle.lanes.proofs.compares.exceeds.Statement.{statement}
@@ -17,11 +17,5 @@ exceeds-spec =
     (tie.spec
     Inv-loop
     μ-loop
-    (λ c. search building)
-    (λ c. search building)
-    (λ c κs. search building)
-    (λ c κs. search building)
-    (λ c. search building)
-    (λ c. search building)
-    (λ c. search building)
-    (λ c. search building))
+    (λ c. search building) (λ c. search building) (λ c κs. search building) (λ c κs. search building) (λ c. search building) (λ c. search building)
+    (λ c. search building) (λ c. search building))

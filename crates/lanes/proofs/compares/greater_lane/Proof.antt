@@ -7,8 +7,4 @@ pub greater-lane-spec : {M : Type 1} → statement M
 greater-lane-spec =
     tie.close
     (tie.spec
-    (λ c κs. search comparing)
-    (λ c κs. search comparing)
-    (λ c κs. search comparing)
-    (λ c κs. search comparing)
-    (λ c. search comparing))
+    (λ c κs. search comparing) (λ c κs. search comparing) (λ c κs. search comparing) (λ c κs. search comparing) (λ c. search comparing))

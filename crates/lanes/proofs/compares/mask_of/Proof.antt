@@ -7,6 +7,4 @@ pub mask-of-spec : {M : Type 1} → statement M
 mask-of-spec =
     tie.close
     (tie.spec
-    (λ c κs. search comparing)
-    (λ c. search comparing)
-    (λ c. search comparing))
+    (λ c κs. search comparing) (λ c. search comparing) (λ c. search comparing))

@@ -7,9 +7,4 @@ pub clamped-spec : {M : Type 1} → statement M
 clamped-spec =
     tie.close
     (tie.spec
-    (λ c κs. search clamping)
-    (λ c. search clamping)
-    (λ c. search clamping)
-    (λ c. search clamping)
-    (λ c. search clamping)
-    (λ c. search clamping))
+    (λ c κs. search clamping) (λ c. search clamping) (λ c. search clamping) (λ c. search clamping) (λ c. search clamping) (λ c. search clamping))

@@ -1,5 +1,5 @@
 -- `packs::pack_signed` meets its contract: the loop builds the result, one lane a turn.
-use Prim.Native.Nat.{_-_}
+use Rattle.basis.specs.Names.{_-_}
 use Rattle.lanes.specs.Signed.{clampSigned}
 use Rattle.lanes.specs.Rules.{pack}
 use Rattle.lanes.proofs.Building.{Built, building}
@@ -18,11 +18,5 @@ pack-signed-spec =
     (tie.spec
     Inv-loop
     μ-loop
-    (λ c. search building)
-    (λ c. search building)
-    (λ c κs. search building)
-    (λ c κs. search building)
-    (λ c. search building)
-    (λ c. search building)
-    (λ c. search building)
-    (λ c. search building))
+    (λ c. search building) (λ c. search building) (λ c κs. search building) (λ c κs. search building) (λ c. search building) (λ c. search building)
+    (λ c. search building) (λ c. search building))

@@ -7,10 +7,5 @@ pub pack-signed-lane-spec : {M : Type 1} → statement M
 pack-signed-lane-spec =
     tie.close
     (tie.spec
-    (λ c κs. search packing)
-    (λ c. search packing)
-    (λ c κs. search packing)
-    (λ c κs. search packing)
-    (λ c. search packing)
-    (λ c κs. search packing)
+    (λ c κs. search packing) (λ c. search packing) (λ c κs. search packing) (λ c κs. search packing) (λ c. search packing) (λ c κs. search packing)
     (λ c. search packing))

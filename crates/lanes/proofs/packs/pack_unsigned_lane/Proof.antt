@@ -7,8 +7,4 @@ pub pack-unsigned-lane-spec : {M : Type 1} → statement M
 pack-unsigned-lane-spec =
     tie.close
     (tie.spec
-    (λ c. search packing)
-    (λ c κs. search packing)
-    (λ c κs. search packing)
-    (λ c κs. search packing)
-    (λ c. search packing))
+    (λ c. search packing) (λ c κs. search packing) (λ c κs. search packing) (λ c κs. search packing) (λ c. search packing))

@@ -7,8 +7,4 @@ pub unpack-lane-spec : {M : Type 1} → statement M
 unpack-lane-spec =
     tie.close
     (tie.spec
-    (λ c. search unpacking)
-    (λ c κs. search unpacking)
-    (λ c. search unpacking)
-    (λ c κs. search unpacking)
-    (λ c. search unpacking))
+    (λ c. search unpacking) (λ c κs. search unpacking) (λ c. search unpacking) (λ c κs. search unpacking) (λ c. search unpacking))

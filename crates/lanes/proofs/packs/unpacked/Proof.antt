@@ -1,5 +1,5 @@
 -- `packs::unpacked` meets its contract: the loop builds the result, one lane a turn.
-use Prim.Native.Nat.{_-_}
+use Rattle.basis.specs.Names.{_-_}
 use Rattle.lanes.specs.Rules.{unpack}
 use Rattle.lanes.proofs.Fitting.{unpack-fits}
 use Rattle.lanes.proofs.Building.{Built, building}
@@ -18,11 +18,6 @@ unpacked-spec =
     (tie.spec
     Inv-loop
     μ-loop
-    (λ c. search building)
-    (λ c. search building)
-    (λ c κs. search building)
+    (λ c. search building) (λ c. search building) (λ c κs. search building)
     (λ c κs. search (building, unpack-fits (c .before .before .before .args .first)))
-    (λ c. search building)
-    (λ c. search building)
-    (λ c. search building)
-    (λ c. search building))
+    (λ c. search building) (λ c. search building) (λ c. search building) (λ c. search building))

@@ -7,12 +7,5 @@ pub wide-lane-spec : {M : Type 1} → statement M
 wide-lane-spec =
     tie.close
     (tie.spec
-    (λ c. search packing)
-    (λ c. search packing)
-    (λ c. search packing)
-    (λ c κs. search packing)
-    (λ c. search packing)
-    (λ c. search packing)
-    (λ c. search packing)
-    (λ c κs. search packing)
-    (λ c. search packing))
+    (λ c. search packing) (λ c. search packing) (λ c. search packing) (λ c κs. search packing) (λ c. search packing) (λ c. search packing)
+    (λ c. search packing) (λ c κs. search packing) (λ c. search packing))

@@ -1,5 +1,5 @@
 -- `products::multiply_add` meets its contract: the loop builds the result, one lane a turn.
-use Prim.Native.Nat.{_-_}
+use Rattle.basis.specs.Names.{_-_}
 use Rattle.lanes.specs.Rules.{pairwise, productSum}
 use Rattle.lanes.proofs.Building.{Built, building}
 use Rattle.lanes.proofs.products.multiply_add.Statement.{statement}
@@ -17,10 +17,5 @@ multiply-add-spec =
     (tie.spec
     Inv-loop
     μ-loop
-    (λ c. search building)
-    (λ c κs. search building)
-    (λ c κs. search building)
-    (λ c. search building)
-    (λ c. search building)
-    (λ c. search building)
+    (λ c. search building) (λ c κs. search building) (λ c κs. search building) (λ c. search building) (λ c. search building) (λ c. search building)
     (λ c. search building))

@@ -7,10 +7,5 @@ pub multiply-add-lane-spec : {M : Type 1} → statement M
 multiply-add-lane-spec =
     tie.close
     (tie.spec
-    (λ c. search multiplying)
-    (λ c κs. search multiplying)
-    (λ c. search multiplying)
-    (λ c. search multiplying)
-    (λ c κs. search multiplying)
-    (λ c. search multiplying)
-    (λ c. search multiplying))
+    (λ c. search multiplying) (λ c κs. search multiplying) (λ c. search multiplying) (λ c. search multiplying) (λ c κs. search multiplying)
+    (λ c. search multiplying) (λ c. search multiplying))

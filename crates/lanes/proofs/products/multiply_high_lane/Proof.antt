@@ -7,5 +7,4 @@ pub multiply-high-lane-spec : {M : Type 1} → statement M
 multiply-high-lane-spec =
     tie.close
     (tie.spec
-    (λ c κs. search multiplying)
-    (λ c. search multiplying))
+    (λ c κs. search multiplying) (λ c. search multiplying))

@@ -7,7 +7,4 @@ pub multiply-lane-spec : {M : Type 1} → statement M
 multiply-lane-spec =
     tie.close
     (tie.spec
-    (λ c κs. search multiplying)
-    (λ c κs. search multiplying)
-    (λ c κs. search multiplying)
-    (λ c. search multiplying))
+    (λ c κs. search multiplying) (λ c κs. search multiplying) (λ c κs. search multiplying) (λ c. search multiplying))

@@ -7,5 +7,4 @@ pub multiply-low-lane-spec : {M : Type 1} → statement M
 multiply-low-lane-spec =
     tie.close
     (tie.spec
-    (λ c κs. search multiplying)
-    (λ c. search multiplying))
+    (λ c κs. search multiplying) (λ c. search multiplying))

@@ -7,8 +7,4 @@ pub left-lane-spec : {M : Type 1} → statement M
 left-lane-spec =
     tie.close
     (tie.spec
-    (λ c. search shifting)
-    (λ c κs. search shifting)
-    (λ c. search shifting)
-    (λ c κs. search shifting)
-    (λ c. search shifting))
+    (λ c. search shifting) (λ c κs. search shifting) (λ c. search shifting) (λ c κs. search shifting) (λ c. search shifting))

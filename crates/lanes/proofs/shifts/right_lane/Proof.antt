@@ -7,7 +7,4 @@ pub right-lane-spec : {M : Type 1} → statement M
 right-lane-spec =
     tie.close
     (tie.spec
-    (λ c. search shifting)
-    (λ c κs. search shifting)
-    (λ c. search shifting)
-    (λ c. search shifting))
+    (λ c. search shifting) (λ c κs. search shifting) (λ c. search shifting) (λ c. search shifting))

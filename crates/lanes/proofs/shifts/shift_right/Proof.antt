@@ -1,5 +1,5 @@
 -- `shifts::shift_right` meets its contract: the loop builds the result, one lane a turn.
-use Prim.Native.Nat.{_-_}
+use Rattle.basis.specs.Names.{_-_}
 use Rattle.lanes.specs.Rules.{shift, right}
 use Rattle.lanes.proofs.Building.{Built, building}
 use Rattle.lanes.proofs.shifts.shift_right.Statement.{statement}
@@ -17,11 +17,5 @@ shift-right-spec =
     (tie.spec
     Inv-loop
     μ-loop
-    (λ c. search building)
-    (λ c. search building)
-    (λ c κs. search building)
-    (λ c κs. search building)
-    (λ c. search building)
-    (λ c. search building)
-    (λ c. search building)
-    (λ c. search building))
+    (λ c. search building) (λ c. search building) (λ c κs. search building) (λ c κs. search building) (λ c. search building) (λ c. search building)
+    (λ c. search building) (λ c. search building))

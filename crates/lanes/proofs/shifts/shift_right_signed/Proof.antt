@@ -7,6 +7,4 @@ pub shift-right-signed-spec : {M : Type 1} → statement M
 shift-right-signed-spec =
     tie.close
     (tie.spec
-    (λ c κs. search shifting)
-    (λ c κs. search shifting)
-    (λ c. search shifting))
+    (λ c κs. search shifting) (λ c κs. search shifting) (λ c. search shifting))

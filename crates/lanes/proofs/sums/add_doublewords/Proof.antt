@@ -7,14 +7,5 @@ pub add-doublewords-spec : {M : Type 1} → statement M
 add-doublewords-spec =
     tie.close
     (tie.spec
-    (λ c. search adding)
-    (λ c. search adding)
-    (λ c κs. search adding)
-    (λ c. search adding)
-    (λ c. search adding)
-    (λ c κs. search adding)
-    (λ c. search adding)
-    (λ c. search adding)
-    (λ c. search adding)
-    (λ c. search adding)
-    (λ c. search adding))
+    (λ c. search adding) (λ c. search adding) (λ c κs. search adding) (λ c. search adding) (λ c. search adding) (λ c κs. search adding)
+    (λ c. search adding) (λ c. search adding) (λ c. search adding) (λ c. search adding) (λ c. search adding))

@@ -1,5 +1,5 @@
 -- `sums::add_signed` meets its contract: the loop builds the result, one lane a turn.
-use Prim.Native.Nat.{_-_}
+use Rattle.basis.specs.Names.{_-_}
 use Rattle.lanes.specs.Rules.{pairwise, sumSigned}
 use Rattle.lanes.proofs.Building.{Built, building}
 use Rattle.lanes.proofs.sums.add_signed.Statement.{statement}
@@ -17,11 +17,5 @@ add-signed-spec =
     (tie.spec
     Inv-loop
     μ-loop
-    (λ c. search building)
-    (λ c. search building)
-    (λ c κs. search building)
-    (λ c κs. search building)
-    (λ c. search building)
-    (λ c. search building)
-    (λ c. search building)
-    (λ c. search building))
+    (λ c. search building) (λ c. search building) (λ c κs. search building) (λ c κs. search building) (λ c. search building) (λ c. search building)
+    (λ c. search building) (λ c. search building))

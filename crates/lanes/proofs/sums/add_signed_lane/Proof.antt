@@ -7,9 +7,4 @@ pub add-signed-lane-spec : {M : Type 1} → statement M
 add-signed-lane-spec =
     tie.close
     (tie.spec
-    (λ c κs. search adding)
-    (λ c κs. search adding)
-    (λ c κs. search adding)
-    (λ c. search adding)
-    (λ c κs. search adding)
-    (λ c. search adding))
+    (λ c κs. search adding) (λ c κs. search adding) (λ c κs. search adding) (λ c. search adding) (λ c κs. search adding) (λ c. search adding))

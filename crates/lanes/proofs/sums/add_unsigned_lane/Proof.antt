@@ -7,8 +7,4 @@ pub add-unsigned-lane-spec : {M : Type 1} → statement M
 add-unsigned-lane-spec =
     tie.close
     (tie.spec
-    (λ c κs. search adding)
-    (λ c κs. search adding)
-    (λ c. search adding)
-    (λ c κs. search adding)
-    (λ c. search adding))
+    (λ c κs. search adding) (λ c κs. search adding) (λ c. search adding) (λ c κs. search adding) (λ c. search adding))

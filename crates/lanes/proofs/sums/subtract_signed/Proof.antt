@@ -7,5 +7,4 @@ pub subtract-signed-spec : {M : Type 1} → statement M
 subtract-signed-spec =
     tie.close
     (tie.spec
-    (λ c κs. search complementing)
-    (λ c. search complementing))
+    (λ c κs. search complementing) (λ c. search complementing))

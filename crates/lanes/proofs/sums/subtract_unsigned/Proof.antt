@@ -7,5 +7,4 @@ pub subtract-unsigned-spec : {M : Type 1} → statement M
 subtract-unsigned-spec =
     tie.close
     (tie.spec
-    (λ c κs. search complementing)
-    (λ c. search complementing))
+    (λ c κs. search complementing) (λ c. search complementing))

@@ -7,12 +7,6 @@ pub footprint-spec : {M : Type 1} → statement M
 footprint-spec =
     tie.close
     (tie.spec
-    (λ c. search position-rules)
-    (λ c. search position-rules)
-    (λ c κs. search position-rules)
-    (λ c κs. search position-rules)
-    (λ c. search position-rules)
-    (λ c κs. search position-rules)
-    (λ c. search position-rules)
-    (λ c κs. search position-rules)
+    (λ c. search position-rules) (λ c. search position-rules) (λ c κs. search position-rules) (λ c κs. search position-rules)
+    (λ c. search position-rules) (λ c κs. search position-rules) (λ c. search position-rules) (λ c κs. search position-rules)
     (λ c. search position-rules))

@@ -1,8 +1,6 @@
 -- `Machine::from_page` meets its contract: both lists of registers are their loads, and each mark is its bit.
-use mathlib.Core.Path.{ap₂}
-use mathlib.Core.List.{List}
-use Prim.Native.Nat.{ℕ}
-use borrow.Author.Needs.{needs}
+use Rattle.basis.specs.Names.{List, ℕ}
+use Rattle.basis.proofs.Names.{ap₂, needs}
 use Rattle.machine.specs.Starts.{marksOf, startOf}
 use Rattle.machine.specs.inner.Works.{machineOf}
 use Rattle.machine.proofs.Machine.from_page.Statement.{statement}
@@ -13,6 +11,5 @@ unfolding startOf
 from-page-spec =
     tie.close
     (tie.spec
-    (λ c κs. search needs)
-    (λ c κs. search needs)
+    (λ c κs. search needs) (λ c κs. search needs)
     (λ c. ap₂ (λ (mmx integers : List ℕ). machineOf mmx integers (marksOf (c .before .before .before .before .args .marks))) (c .before .mmx-of .ensures) (c .integers-of .ensures)))

@@ -1,8 +1,6 @@
 -- `Machine::run` meets its contract: before each turn, what is left of the run from here is the whole run.
-use mathlib.Core.Path.{_≡_}
-use Prim.Native.Nat.{_-_, _≤_}
-use borrow.Author.Needs.{needs}
-use lib.ListN.{length}
+use Rattle.basis.specs.Names.{_≡_, _-_, _≤_, length}
+use Rattle.basis.proofs.Names.{needs}
 use Rattle.manual.specs.Runs.{runOf}
 use Rattle.machine.specs.State.{stateOf}
 use Rattle.machine.specs.inner.Works.{machineOf, barredBy}
@@ -28,18 +26,7 @@ run-spec =
     (tie.spec
     Inv-loop
     μ-loop
-    (λ c. search starting)
-    (λ c. search starting)
-    (λ c κs. search needs)
-    (λ c κs. search needs)
-    (λ c. search starting)
-    (λ c. search needs)
-    (λ c. search turning)
-    (λ c κs. search needs)
-    (λ c. search needs)
-    (λ c. search turning)
-    (λ c. search needs)
-    (λ c. search needs)
+    (λ c. search starting) (λ c. search starting) (λ c κs. search needs) (λ c κs. search needs) (λ c. search starting) (λ c. search needs)
+    (λ c. search turning) (λ c κs. search needs) (λ c. search needs) (λ c. search turning) (λ c. search needs) (λ c. search needs)
     (λ c. (search needs, (search turning, (search needs, (search turning, search turning)))))
-    (λ c. search needs)
-    (λ c. search turning))
+    (λ c. search needs) (λ c. search turning))

@@ -7,12 +7,5 @@ pub step-spec : {M : Type 1} → statement M
 step-spec =
     tie.close
     (tie.spec
-    (λ c. search answering)
-    (λ c. search answering)
-    (λ c κs. search answering)
-    (λ c κs. search answering)
-    (λ c κs. search answering)
-    (λ c. search answering)
-    (λ c. search answering)
-    (λ c. search answering)
-    (λ c. search answering))
+    (λ c. search answering) (λ c. search answering) (λ c κs. search answering) (λ c κs. search answering) (λ c κs. search answering)
+    (λ c. search answering) (λ c. search answering) (λ c. search answering) (λ c. search answering))

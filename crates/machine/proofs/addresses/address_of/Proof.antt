@@ -7,13 +7,5 @@ pub address-of-spec : {M : Type 1} → statement M
 address-of-spec =
     tie.close
     (tie.spec
-    (λ c κs. search addressing)
-    (λ c κs. search addressing)
-    (λ c κs. search addressing)
-    (λ c. search addressing)
-    (λ c κs. search addressing)
-    (λ c κs. search addressing)
-    (λ c κs. search addressing)
-    (λ c κs. search addressing)
-    (λ c κs. search addressing)
-    (λ c. search addressing))
+    (λ c κs. search addressing) (λ c κs. search addressing) (λ c κs. search addressing) (λ c. search addressing) (λ c κs. search addressing)
+    (λ c κs. search addressing) (λ c κs. search addressing) (λ c κs. search addressing) (λ c κs. search addressing) (λ c. search addressing))

@@ -7,10 +7,5 @@ pub base-in-spec : {M : Type 1} → statement M
 base-in-spec =
     tie.close
     (tie.spec
-    (λ c. search addressing)
-    (λ c. search addressing)
-    (λ c. search addressing)
-    (λ c. search addressing)
-    (λ c. search addressing)
-    (λ c. search addressing)
-    (λ c. search addressing))
+    (λ c. search addressing) (λ c. search addressing) (λ c. search addressing) (λ c. search addressing) (λ c. search addressing)
+    (λ c. search addressing) (λ c. search addressing))

@@ -7,7 +7,4 @@ pub index-in-spec : {M : Type 1} → statement M
 index-in-spec =
     tie.close
     (tie.spec
-    (λ c. search addressing)
-    (λ c. search addressing)
-    (λ c. search addressing)
-    (λ c. search addressing))
+    (λ c. search addressing) (λ c. search addressing) (λ c. search addressing) (λ c. search addressing))

@@ -1,6 +1,5 @@
 -- `addresses::scaled` meets its contract: each turn doubles once, and what is left of the scale falls.
-use mathlib.Core.Path.{_≡_}
-use Prim.Native.Nat.{_*_, _-_, _^_, _%_, _≤_}
+use Rattle.basis.specs.Names.{_≡_, _*_, _-_, _^_, _%_, _≤_}
 use Rattle.machine.proofs.laws.addresses.Addressing.{addressing}
 use Rattle.machine.proofs.addresses.scaled.Statement.{statement}
 use Rattle.machine.proofs.addresses.scaled.Tie as tie
@@ -17,9 +16,5 @@ scaled-spec =
     (tie.spec
     Inv-loop
     μ-loop
-    (λ c. search addressing)
-    (λ c κs. search addressing)
-    (λ c. search addressing)
-    (λ c. search addressing)
-    (λ c. search addressing)
+    (λ c. search addressing) (λ c κs. search addressing) (λ c. search addressing) (λ c. search addressing) (λ c. search addressing)
     (λ c. search addressing))

@@ -7,11 +7,5 @@ pub shaped-spec : {M : Type 1} → statement M
 shaped-spec =
     tie.close
     (tie.spec
-    (λ c κs. search shape-rules)
-    (λ c κs. search shape-rules)
-    (λ c κs. search shape-rules)
-    (λ c κs. search shape-rules)
-    (λ c κs. search shape-rules)
-    (λ c. search shape-rules)
-    (λ c. search shape-rules)
-    (λ c. search shape-rules))
+    (λ c κs. search shape-rules) (λ c κs. search shape-rules) (λ c κs. search shape-rules) (λ c κs. search shape-rules) (λ c κs. search shape-rules)
+    (λ c. search shape-rules) (λ c. search shape-rules) (λ c. search shape-rules))

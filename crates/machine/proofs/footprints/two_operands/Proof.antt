@@ -7,9 +7,5 @@ pub two-operands-spec : {M : Type 1} → statement M
 two-operands-spec =
     tie.close
     (tie.spec
-    (λ c κs. search form-rules)
-    (λ c. search form-rules)
-    (λ c κs. search form-rules)
-    (λ c. search form-rules)
-    (λ c. search form-rules)
+    (λ c κs. search form-rules) (λ c. search form-rules) (λ c κs. search form-rules) (λ c. search form-rules) (λ c. search form-rules)
     (λ c. search form-rules))

@@ -7,7 +7,4 @@ pub barred-spec : {M : Type 1} → statement M
 barred-spec =
     tie.close
     (tie.spec
-    (λ c. search testing)
-    (λ c. search testing)
-    (λ c. search testing)
-    (λ c. search testing))
+    (λ c. search testing) (λ c. search testing) (λ c. search testing) (λ c. search testing))

@@ -7,10 +7,5 @@ pub gathered-spec : {M : Type 1} → statement M
 gathered-spec =
     tie.close
     (tie.spec
-    (λ c κs. search fetching)
-    (λ c κs. search fetching)
-    (λ c. search fetching)
-    (λ c κs. search fetching)
-    (λ c. search fetching)
-    (λ c κs. search fetching)
-    (λ c. search fetching))
+    (λ c κs. search fetching) (λ c κs. search fetching) (λ c. search fetching) (λ c κs. search fetching) (λ c. search fetching)
+    (λ c κs. search fetching) (λ c. search fetching))

@@ -7,17 +7,6 @@ pub put-spec : {M : Type 1} → statement M
 put-spec =
     tie.close
     (tie.spec
-    (λ c. search putting)
-    (λ c. search putting)
-    (λ c κs. search putting)
-    (λ c. search putting)
-    (λ c. search putting)
-    (λ c κs. search putting)
-    (λ c. search putting)
-    (λ c κs. search putting)
-    (λ c. search putting)
-    (λ c κs. search putting)
-    (λ c. search putting)
-    (λ c. search putting)
-    (λ c. search putting)
-    (λ c. search putting))
+    (λ c. search putting) (λ c. search putting) (λ c κs. search putting) (λ c. search putting) (λ c. search putting) (λ c κs. search putting)
+    (λ c. search putting) (λ c κs. search putting) (λ c. search putting) (λ c κs. search putting) (λ c. search putting) (λ c. search putting)
+    (λ c. search putting) (λ c. search putting))

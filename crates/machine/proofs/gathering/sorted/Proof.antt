@@ -7,19 +7,6 @@ pub sorted-spec : {M : Type 1} → statement M
 sorted-spec =
     tie.close
     (tie.spec
-    (λ c. search sorting)
-    (λ c κs. search sorting)
-    (λ c. search sorting)
-    (λ c. search sorting)
-    (λ c. search sorting)
-    (λ c κs. search sorting)
-    (λ c κs. search sorting)
-    (λ c. search sorting)
-    (λ c. search sorting)
-    (λ c κs. search sorting)
-    (λ c. search sorting)
-    (λ c κs. search sorting)
-    (λ c. search sorting)
-    (λ c. search sorting)
-    (λ c κs. search sorting)
-    (λ c. search sorting))
+    (λ c. search sorting) (λ c κs. search sorting) (λ c. search sorting) (λ c. search sorting) (λ c. search sorting) (λ c κs. search sorting)
+    (λ c κs. search sorting) (λ c. search sorting) (λ c. search sorting) (λ c κs. search sorting) (λ c. search sorting) (λ c κs. search sorting)
+    (λ c. search sorting) (λ c. search sorting) (λ c κs. search sorting) (λ c. search sorting))

@@ -1,15 +1,6 @@
 -- The address that the code sums up: each sum wraps at 2^32, and so the whole does once. Rules for the functions of addresses.
-use mathlib.Core.Path.{_≡_, ap, ap₂, _∙_}
-use mathlib.Core.Bool.{and-false}
-use mathlib.Core.List.{List}
-use mathlib.Core.Option.{Option, none, some}
-use Prim.Native.Nat.{ℕ, suc, _+_, _*_, _-_, _^_, _%_, _≤_, _<_}
-use native.Mathlib.Nat.{mul-one, add-zero, mul-add, add-mod, mod-add-mod, add-mod-mod, two-pow-succ}
-use native.Mathlib.Omega.{arith}
-use borrow.Author.Needs.{needs}
-use borrow.Author.Tests.{eq-eqb, ne-eqb, le-leb, lt-leb}
-use lib.Dec.{eqb}
-use lib.ListN.{getD}
+use Rattle.basis.specs.Names.{_≡_, List, Option, none, some, ℕ, suc, _+_, _*_, _-_, _^_, _%_, _≤_, _<_, eqb, getD}
+use Rattle.basis.proofs.Names.{ap, ap₂, _∙_, and-false, mul-one, add-zero, mul-add, add-mod, mod-add-mod, add-mod-mod, two-pow-succ, arith, needs, eq-eqb, ne-eqb, le-leb, lt-leb}
 use Rattle.codec.specs.Operands.{hasSib}
 use Rattle.codec.specs.declared.Operand.{Operand}
 use Rattle.manual.specs.Addresses.{displacementOf, baseOf, indexOf, addressOf, registerPart, address}

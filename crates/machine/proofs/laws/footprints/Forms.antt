@@ -1,7 +1,6 @@
 -- The footprint that no control mark stops, by the form's shape. Rules for what the code makes of a form.
-use mathlib.Core.Path.{_≡_, refl}
-use Prim.Native.Nat.{ℕ, _/_, _^_, _≤_, _<_}
-use borrow.Author.Needs.{needs}
+use Rattle.basis.specs.Names.{_≡_, refl, ℕ, _/_, _^_, _≤_, _<_}
+use Rattle.basis.proofs.Names.{needs}
 use Rattle.lanes.specs.Operations.{Operation, operate}
 use Rattle.reorder.specs.Result.{done, refused}
 use Rattle.codec.specs.Forms.{rm/mem, Form, memorySize}

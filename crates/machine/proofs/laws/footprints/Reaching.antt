@@ -1,13 +1,6 @@
 -- The operand of r/m as masks and a range: the bytes of an operand are one range, and no registers. Rules for where the code finds it.
-use mathlib.Core.Path.{_≡_, refl, _∙_}
-use mathlib.Core.Bool.{Bool, true, false, cond}
-use mathlib.Core.List.{[]}
-use Prim.Native.Nat.{ℕ, zero, suc, _+_, _/_, _%_, _^_, _≤_, _<_}
-use native.Mathlib.Omega.{arith}
-use borrow.Author.Needs.{needs}
-use lib.Bits.{or-zero-r}
-use lib.Dec.{eqb}
-use lib.ListN.{length}
+use Rattle.basis.specs.Names.{_≡_, refl, Bool, true, false, cond, [], ℕ, zero, suc, _+_, _/_, _%_, _^_, _≤_, _<_, eqb, length}
+use Rattle.basis.proofs.Names.{_∙_, arith, needs, or-zero-r}
 use Rattle.codec.specs.Forms.{File, mmxFile, integerFile, memorySize}
 use Rattle.codec.specs.Table.{formOf}
 use Rattle.codec.specs.declared.Operand.{Operand}

@@ -1,13 +1,6 @@
 -- Masks that the code puts together. Rules for masks of registers.
-use mathlib.Core.Path.{_≡_}
-use mathlib.Core.List.{append-nil}
-use mathlib.Core.Option.{Option, none, some}
-use Prim.Native.Nat.{ℕ, _*_, _^_, _%_, _<_}
-use native.Mathlib.Omega.{arith}
-use borrow.Author.Needs.{needs}
-use borrow.Author.Tests.{eq-eqb, ne-eqb}
-use lib.Bits.{bitOr, or-zero-r}
-use lib.Pow.{pow-lt}
+use Rattle.basis.specs.Names.{_≡_, Option, none, some, ℕ, _*_, _^_, _%_, _<_, bitOr}
+use Rattle.basis.proofs.Names.{append-nil, arith, needs, eq-eqb, ne-eqb, or-zero-r, pow-lt}
 use Rattle.codec.specs.Operands.{hasSib}
 use Rattle.codec.specs.declared.Operand.{Operand}
 use Rattle.manual.specs.Addresses.{baseOf, indexOf, addressOf, registersOf}

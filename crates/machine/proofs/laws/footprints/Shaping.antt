@@ -1,9 +1,6 @@
 -- What an effect of each shape reads and writes, for any operand: the masks of places one after the other are the masks of both.
-use mathlib.Core.Path.{_≡_, refl, sym, ap, _∙_}
-use mathlib.Core.List.{List, [], _∷_, _++_, append-nil, map}
-use Prim.Native.Nat.{ℕ, _^_}
-use borrow.Author.Needs.{needs}
-use lib.Bits.{or-zero-l}
+use Rattle.basis.specs.Names.{_≡_, refl, List, [], _∷_, _++_, map, ℕ, _^_}
+use Rattle.basis.proofs.Names.{sym, ap, _∙_, append-nil, needs, or-zero-l}
 use Rattle.reorder.specs.Result.{Result, done, refused, andThen, mapResult}
 use Rattle.reorder.specs.Footprint.{footprintIn}
 use Rattle.manual.specs.State.{State}

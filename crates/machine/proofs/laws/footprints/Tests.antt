@@ -1,10 +1,6 @@
 -- The tests before the footprint, in the order of a step's: the memory's length, the reader's, the control marks. Rules for their answers.
-use mathlib.Core.Path.{_≡_, refl, sym, ap, _∙_}
-use mathlib.Core.List.{List}
-use Prim.Native.Nat.{ℕ, _-_, _≤_, _<_}
-use borrow.Author.Needs.{needs}
-use borrow.Author.Tests.{lt-ltb, le-ltb}
-use lib.ListN.{length}
+use Rattle.basis.specs.Names.{_≡_, refl, List, ℕ, _-_, _≤_, _<_, length}
+use Rattle.basis.proofs.Names.{sym, ap, _∙_, needs, lt-ltb, le-ltb}
 use Rattle.reorder.specs.Result.{Result, refused, andThen, mapResult}
 use Rattle.reorder.specs.Plan.{Plan}
 use Rattle.reorder.specs.Footprint.{footprintIn}

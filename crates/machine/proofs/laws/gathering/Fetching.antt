@@ -1,11 +1,6 @@
 -- The step at a position, from what the code has found there: the reader's refusal, that of the control marks, or the instruction's work.
-use mathlib.Core.Path.{_≡_, refl, sym, ap, subst, _∙_}
-use mathlib.Core.List.{List}
-use Prim.Native.Nat.{ℕ, _+_, _≤_}
-use native.Mathlib.Omega.{arith}
-use borrow.Author.Needs.{needs}
-use borrow.Author.Tests.{le-ltb}
-use lib.ListN.{length, drop}
+use Rattle.basis.specs.Names.{_≡_, refl, List, ℕ, _+_, _≤_, length, drop}
+use Rattle.basis.proofs.Names.{sym, ap, subst, _∙_, arith, needs, le-ltb}
 use Rattle.reorder.specs.Result.{caseOf}
 use Rattle.codec.specs.Opcodes.{formAt}
 use Rattle.codec.specs.inner.Fields.{Registers}

@@ -1,11 +1,7 @@
 -- What is read has a number of the table: its form is present, as an absent one is refused, and each number keeps what `Listed` says. Rules for what
 -- the code looks up.
-use mathlib.Core.Path.{_≡_, refl, sym, ap, ap₂, _∙_}
-use mathlib.Core.Bool.{Bool, true, false, not, _&&_, _||_, false≢true}
-use Prim.Native.Nat.{ℕ, _/_, _%_, _^_}
-use borrow.Author.Tests.{ltb-true, ltb-false, le-ltb, eqb-true}
-use lib.Dec.{eqb, ltb}
-use lib.ListN.{getD}
+use Rattle.basis.specs.Names.{_≡_, refl, Bool, true, false, not, _&&_, _||_, ℕ, _/_, _%_, _^_, eqb, ltb, getD}
+use Rattle.basis.proofs.Names.{sym, ap, ap₂, _∙_, false≢true, ltb-true, ltb-false, le-ltb, eqb-true}
 use Rattle.lanes.specs.Operations.{Operation, operationOf, numbered, MOVE}
 use Rattle.codec.specs.Forms.{Form, isAbsent, memorySize}
 use Rattle.codec.specs.Opcodes.{formAt, operationAt}

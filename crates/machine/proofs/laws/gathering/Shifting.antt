@@ -1,8 +1,6 @@
 -- The operation of a shift by an immediate, in the table's number. Rules for the function of shifts.
-use mathlib.Core.Path.{_≡_}
-use Prim.Native.Nat.{ℕ, _/_, _%_, _^_}
-use borrow.Author.Needs.{needs}
-use borrow.Author.Tests.{eq-eqb, ne-eqb}
+use Rattle.basis.specs.Names.{_≡_, ℕ, _/_, _%_, _^_}
+use Rattle.basis.proofs.Names.{needs, eq-eqb, ne-eqb}
 use Rattle.lanes.specs.Operations.{operationOf, KEEP}
 use Rattle.codec.specs.inner.Entries.{shiftIn}
 

@@ -1,11 +1,6 @@
 -- The work that the code makes of an instruction does what its effect does: one rule for each shape of a form, whatever operand r/m names.
-use mathlib.Core.Path.{_≡_, refl, sym, ap, subst, _∙_}
-use mathlib.Core.Bool.{Bool, true, false, not}
-use mathlib.Core.List.{List}
-use Prim.Native.Nat.{ℕ, _/_, _%_, _^_, _≤_, _<_}
-use borrow.Author.Needs.{needs}
-use borrow.Author.Tests.{le-leb, not-true}
-use lib.ListN.{length, getD}
+use Rattle.basis.specs.Names.{_≡_, refl, Bool, true, false, not, List, ℕ, _/_, _%_, _^_, _≤_, _<_, length, getD}
+use Rattle.basis.proofs.Names.{sym, ap, subst, _∙_, needs, le-leb, not-true}
 use Rattle.lanes.specs.Operations.{Operation, operationOf, operate, MOVE}
 use Rattle.words.specs.Number.{bytes}
 use Rattle.words.proofs.Laws.{loaded-bytewise, stored-bytewise}

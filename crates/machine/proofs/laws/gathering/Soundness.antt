@@ -1,9 +1,6 @@
 -- The works that the code makes are sound, by what is to be done.
-use mathlib.Core.Path.{_≡_, refl}
-use mathlib.Core.List.{List}
-use Prim.Native.Nat.{ℕ, _<_}
-use native.Mathlib.Omega.{arith}
-use lib.ListN.{getD}
+use Rattle.basis.specs.Names.{_≡_, refl, List, ℕ, _<_, getD}
+use Rattle.basis.proofs.Names.{arith}
 use Rattle.lanes.specs.Operations.{numbered, MOVE}
 use Rattle.words.specs.Buffer.{loaded}
 use Rattle.machine.specs.declared.operands.Spot.{Spot}

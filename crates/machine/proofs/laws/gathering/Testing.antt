@@ -1,11 +1,6 @@
 -- The tests before an instruction's work: the control marks in their order, and the bytes of an operand below the memory's length.
-use mathlib.Core.Path.{_≡_, refl, sym, _∙_}
-use mathlib.Core.Bool.{Bool, true, false, cond}
-use Prim.Native.Nat.{ℕ, _+_, _-_, _≤_, _<_}
-use native.Mathlib.Omega.{arith}
-use borrow.Author.Needs.{needs}
-use borrow.Author.Tests.{ne-eqb, le-leb, lt-leb, leb-true, leb-false}
-use lib.Dec.{eqb, leb}
+use Rattle.basis.specs.Names.{_≡_, refl, Bool, true, false, cond, ℕ, _+_, _-_, _≤_, _<_, eqb, leb}
+use Rattle.basis.proofs.Names.{sym, _∙_, arith, needs, ne-eqb, le-leb, lt-leb, leb-true, leb-false}
 use Rattle.reorder.specs.Result.{Result, refused}
 use Rattle.manual.specs.declared.Marks.{Marks}
 use Rattle.manual.specs.Refusals.{invalidOpcode, notAvailable, isPending}

@@ -1,8 +1,6 @@
 -- What the program hands out of a footprint says the same as its places: bit by bit, and byte by byte, for each number is that of one place.
-use mathlib.Core.Path.{_≡_, refl, sym, ap, subst}
-use mathlib.Core.Logic.{_↔_, _⊎_, inl, inr}
-use mathlib.Core.List.{List, [], _∷_, List·Memᴰ as In, List·Memᴰ·head as here, List·Memᴰ·tail as later, List·Memᴰ·not-nil as not-nil, List·Memᴰ·eq-of-singleton as eq-of-singleton, List·Memᴰ·append-cases as append-cases, Memᴰ·append-left, Memᴰ·append-right}
-use Prim.Native.Nat.{ℕ, _+_, _≤_, _<_}
+use Rattle.basis.specs.Names.{_≡_, refl, _⊎_, List, [], _∷_, List·Memᴰ as In, ℕ, _+_, _≤_, _<_}
+use Rattle.basis.proofs.Names.{sym, ap, subst, _↔_, inl, inr, List·Memᴰ·head as here, List·Memᴰ·tail as later, List·Memᴰ·not-nil as not-nil, List·Memᴰ·eq-of-singleton as eq-of-singleton, List·Memᴰ·append-cases as append-cases, Memᴰ·append-left, Memᴰ·append-right}
 use Rattle.manual.specs.Places.{Place, mmx, integer, byte}
 use Rattle.machine.specs.Footprints.{mmxNumber, integerNumber, byteNumber, numbersOf, bytesOf, mask, setOf}
 use Rattle.machine.proofs.laws.meetings.Masks.{bit, mask-exactly}

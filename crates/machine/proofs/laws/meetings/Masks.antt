@@ -1,15 +1,7 @@
 -- Masks and sets of numbers: bit k of a mask is set exactly where k is in the set, so two masks have a bit in common exactly where the sets have
 -- a number in common.
-use mathlib.Core.Path.{_≡_, refl, sym, ap, _∙_}
-use mathlib.Core.Logic.{_↔_}
-use mathlib.Core.List.{List, [], _∷_, _++_, List·Memᴰ as In, List·Memᴰ·head as here, List·Memᴰ·tail as later}
-use Prim.Native.Nat.{ℕ, suc, _+_, _-_, _/_, _%_, _^_, _<_, min, max}
-use native.Mathlib.Nat.{zero-div, div-eq-of-lt, div-self, div-one, mul-mod-left, pow-suc}
-use native.Mathlib.Decide.{decLt}
-use native.Mathlib.Omega.{arith}
-use lib.Arith.{bin-ind}
-use lib.Bits.{bitAnd, bitOr, or-step, and-step, or-shr, and-shr, or-zero-l}
-use lib.Pow.{pow-pos, pow-lt, pow-add, shl-shr, shr-shr}
+use Rattle.basis.specs.Names.{_≡_, refl, List, [], _∷_, _++_, List·Memᴰ as In, ℕ, suc, _+_, _-_, _/_, _%_, _^_, _<_, min, bitAnd, bitOr}
+use Rattle.basis.proofs.Names.{sym, ap, _∙_, _↔_, List·Memᴰ·head as here, List·Memᴰ·tail as later, max, zero-div, div-eq-of-lt, div-self, div-one, mul-mod-left, pow-suc, decLt, arith, bin-ind, or-step, and-step, or-shr, and-shr, or-zero-l, pow-pos, pow-lt, pow-add, shl-shr, shr-shr}
 use Rattle.machine.specs.Footprints.{mask}
 
 -- bit k of x

@@ -1,15 +1,6 @@
 -- Two footprints meet by their masks and ranges exactly where they meet in a place: each test is true exactly where what it tests holds.
-use mathlib.Core.Path.{_≡_, refl, ap}
-use mathlib.Core.Logic.{_↔_, _⊎_, inl, inr}
-use mathlib.Core.Bool.{Bool, true, false, not, _&&_, _||_, false≢true}
-use mathlib.Core.List.{List, List·Memᴰ as In}
-use Prim.Native.Nat.{ℕ, _+_, _≤_, _<_}
-use native.Mathlib.Decide.{decLt}
-use native.Mathlib.Omega.{arith}
-use borrow.Author.Tests.{ltb-true, lt-ltb, ne-eqb, eqb-false, not-true}
-use lib.Bits.{bitAnd}
-use lib.Dec.{eqb, ltb}
-use lib.ListN.{length, getD}
+use Rattle.basis.specs.Names.{_≡_, refl, _⊎_, Bool, true, false, not, _&&_, _||_, List, List·Memᴰ as In, ℕ, _+_, _≤_, _<_, bitAnd, eqb, ltb, length, getD}
+use Rattle.basis.proofs.Names.{ap, _↔_, inl, inr, false≢true, decLt, arith, ltb-true, lt-ltb, ne-eqb, eqb-false, not-true}
 use Rattle.reorder.specs.Result.{Result, done, refused}
 use Rattle.reorder.specs.Footprint as places
 use Rattle.codec.specs.declared.Kind.{Kind}

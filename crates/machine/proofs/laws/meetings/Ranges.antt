@@ -1,12 +1,6 @@
 -- The memory bytes of a footprint are one range, since an instruction has at most one operand in memory: by the shapes of effects.
-use mathlib.Core.Path.{_≡_, refl, sym, ap, subst}
-use mathlib.Core.Logic.{_↔_}
-use mathlib.Core.Bool.{Bool, true, false, cond, _&&_, false≢true}
-use mathlib.Core.List.{List, [], _∷_, _++_, map, List·Memᴰ as In, List·Memᴰ·head as here, List·Memᴰ·tail as later}
-use Prim.Native.Nat.{ℕ, zero, suc, _+_, _≤_, _<_}
-use native.Mathlib.Decide.{decLt}
-use native.Mathlib.Omega.{arith}
-use lib.ListN.{length, getD}
+use Rattle.basis.specs.Names.{_≡_, refl, Bool, true, false, cond, _&&_, List, [], _∷_, _++_, map, List·Memᴰ as In, ℕ, zero, suc, _+_, _≤_, _<_, length, getD}
+use Rattle.basis.proofs.Names.{sym, ap, subst, _↔_, false≢true, List·Memᴰ·head as here, List·Memᴰ·tail as later, decLt, arith}
 use Rattle.lanes.specs.Operations.{Operation}
 use Rattle.words.proofs.Laws.{and-both}
 use Rattle.reorder.specs.Result.{Result, done, refused, andThen, mapResult}

@@ -1,12 +1,6 @@
 -- What the tests of two footprints come to, by what the code has learned: one rule for each answer.
-use mathlib.Core.Path.{_≡_, refl, sym, _∙_}
-use mathlib.Core.Bool.{Bool, true, false, and-true}
-use Prim.Native.Nat.{ℕ, _+_, _-_, _≤_, _<_}
-use native.Mathlib.Omega.{arith}
-use borrow.Author.Needs.{needs}
-use borrow.Author.Tests.{lt-ltb, le-ltb, eq-eqb, ne-eqb, ltb-true, ltb-false}
-use lib.Bits.{bitAnd}
-use lib.Dec.{ltb}
+use Rattle.basis.specs.Names.{_≡_, refl, Bool, true, false, ℕ, _+_, _-_, _≤_, _<_, bitAnd, ltb}
+use Rattle.basis.proofs.Names.{sym, _∙_, and-true, arith, needs, lt-ltb, le-ltb, eq-eqb, ne-eqb, ltb-true, ltb-false}
 use Rattle.manual.specs.Kinds.{kindsMeet}
 use Rattle.machine.specs.declared.Places.{Places}
 use Rattle.machine.specs.declared.Footprint.{Footprint}

@@ -1,12 +1,6 @@
 -- Where the code finds the operand that r/m names: each law by cases on what it may be. Rules for the functions that locate it and go by its place.
-use mathlib.Core.Path.{_≡_, sym, subst}
-use mathlib.Core.Bool.{Bool, true, false, cond}
-use mathlib.Core.List.{List}
-use Prim.Native.Nat.{ℕ, _+_, _/_, _%_, _^_, _≤_, _<_}
-use native.Mathlib.Omega.{arith}
-use borrow.Author.Needs.{needs}
-use borrow.Author.Tests.{eq-eqb, ne-eqb}
-use lib.Dec.{eqb, leb}
+use Rattle.basis.specs.Names.{_≡_, Bool, true, false, cond, List, ℕ, _+_, _/_, _%_, _^_, _≤_, _<_, eqb, leb}
+use Rattle.basis.proofs.Names.{sym, subst, arith, needs, eq-eqb, ne-eqb}
 use Rattle.codec.specs.Forms.{File, mmxFile, integerFile, memorySize}
 use Rattle.codec.specs.inner.Fields.{Registers}
 use Rattle.codec.specs.Table.{formOf}

@@ -1,12 +1,6 @@
 -- The forms by their numbers in the table: those of a destination and a source by their operands, whatever register file and size r/m has.
-use mathlib.Core.Path.{_≡_, refl, sym, subst}
-use mathlib.Core.Logic.{_⊎_, inl, inr}
-use mathlib.Core.Bool.{Bool, true, false, cond, _||_, false≢true}
-use mathlib.Core.List.{List, [], _∷_}
-use Prim.Native.Nat.{ℕ, _/_, _%_, _^_, _≤_, _<_}
-use native.Mathlib.Omega.{arith}
-use borrow.Author.Tests.{ne-eqb, eqb-true}
-use lib.Dec.{eqb}
+use Rattle.basis.specs.Names.{_≡_, refl, _⊎_, Bool, true, false, cond, _||_, List, [], _∷_, ℕ, _/_, _%_, _^_, _≤_, _<_, eqb}
+use Rattle.basis.proofs.Names.{sym, subst, inl, inr, false≢true, arith, ne-eqb, eqb-true}
 use Rattle.words.specs.Number.{bytes}
 use Rattle.codec.specs.Forms.{Use, read, written, updated, File, mmxFile, integerFile, Slot, rm/mem, mmreg1, Form, mmreg2·imm8/642, mmreg2·imm8/62, isAmong, memorySize}
 use Rattle.codec.specs.Table.{formOf}

@@ -1,15 +1,6 @@
 -- The run as the code's loop takes it: what is left of the run after each turn is the whole run, since a turn is a step at its position.
-use mathlib.Core.Path.{_≡_, sym, ap, _∙_}
-use mathlib.Core.Bool.{Bool, true, false}
-use mathlib.Core.List.{List}
-use Prim.Native.Nat.{ℕ, zero, suc, _+_, _-_, _≤_, _<_}
-use native.Mathlib.Nat.{sub-zero}
-use native.Mathlib.Numerals.{add-one}
-use native.Mathlib.Omega.{arith}
-use borrow.Author.Needs.{needs}
-use borrow.Author.Tests.{eq-eqb, ne-eqb, le-ltb, lt-ltb}
-use lib.Dec.{eqb}
-use lib.ListN.{length}
+use Rattle.basis.specs.Names.{_≡_, Bool, true, false, List, ℕ, zero, suc, _+_, _-_, _≤_, _<_, eqb, length}
+use Rattle.basis.proofs.Names.{sym, ap, _∙_, sub-zero, add-one, arith, needs, eq-eqb, ne-eqb, le-ltb, lt-ltb}
 use Rattle.reorder.specs.Run.{Answer, finished, runFrom}
 use Rattle.codec.specs.Reads.{longestCode}
 use Rattle.codec.specs.Refusals.{codeTooLong}

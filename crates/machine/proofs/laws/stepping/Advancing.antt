@@ -1,12 +1,6 @@
 -- What the code leaves in the lent registers and memory is what its work performs; and that is the step.
-use mathlib.Core.Path.{_≡_}
-use mathlib.Core.Bool.{Bool, true, false}
-use mathlib.Core.List.{List}
-use Prim.Native.Nat.{ℕ, _*_, _%_, _^_, _<_}
-use native.Mathlib.Omega.{arith}
-use borrow.Author.Needs.{needs}
-use borrow.Author.Tests.{eq-eqb, ne-eqb}
-use lib.ListN.{getD, set}
+use Rattle.basis.specs.Names.{_≡_, Bool, true, false, List, ℕ, _*_, _%_, _^_, _<_, getD, set}
+use Rattle.basis.proofs.Names.{arith, needs, eq-eqb, ne-eqb}
 use Rattle.lanes.specs.Operations.{operationOf, operate}
 use Rattle.words.specs.Buffer.{stored}
 use Rattle.machine.specs.declared.gathering.Work.{Work}

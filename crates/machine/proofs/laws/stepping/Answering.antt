@@ -1,10 +1,6 @@
 -- The step of a machine by value answers as the step over its registers ended. Rules for `step`.
-use mathlib.Core.Path.{_≡_}
-use mathlib.Core.List.{List}
-use Prim.Native.Nat.{ℕ, _≤_, _<_}
-use borrow.Author.Needs.{needs}
-use borrow.Author.Tests.{eq-eqb, ne-eqb, le-ltb, lt-ltb}
-use lib.ListN.{length}
+use Rattle.basis.specs.Names.{_≡_, List, ℕ, _≤_, _<_, length}
+use Rattle.basis.proofs.Names.{needs, eq-eqb, ne-eqb, le-ltb, lt-ltb}
 use Rattle.codec.specs.Refusals.{codeTooLong}
 use Rattle.codec.specs.Reads.{longestCode, readAt}
 use Rattle.manual.specs.Refusals.{memoryTooLong}

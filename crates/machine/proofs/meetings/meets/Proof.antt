@@ -7,11 +7,5 @@ pub meets-spec : {M : Type 1} → statement M
 meets-spec =
     tie.close
     (tie.spec
-    (λ c κs. search meet-rules)
-    (λ c. search meet-rules)
-    (λ c κs. search meet-rules)
-    (λ c. search meet-rules)
-    (λ c κs. search meet-rules)
-    (λ c. search meet-rules)
-    (λ c κs. search meet-rules)
-    (λ c. search meet-rules))
+    (λ c κs. search meet-rules) (λ c. search meet-rules) (λ c κs. search meet-rules) (λ c. search meet-rules) (λ c κs. search meet-rules)
+    (λ c. search meet-rules) (λ c κs. search meet-rules) (λ c. search meet-rules))

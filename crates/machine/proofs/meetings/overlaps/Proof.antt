@@ -7,8 +7,4 @@ pub overlaps-spec : {M : Type 1} → statement M
 overlaps-spec =
     tie.close
     (tie.spec
-    (λ c. search meet-rules)
-    (λ c. search meet-rules)
-    (λ c. search meet-rules)
-    (λ c. search meet-rules)
-    (λ c. search meet-rules))
+    (λ c. search meet-rules) (λ c. search meet-rules) (λ c. search meet-rules) (λ c. search meet-rules) (λ c. search meet-rules))

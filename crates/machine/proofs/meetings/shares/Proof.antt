@@ -7,7 +7,4 @@ pub shares-spec : {M : Type 1} → statement M
 shares-spec =
     tie.close
     (tie.spec
-    (λ c. search meet-rules)
-    (λ c. search meet-rules)
-    (λ c κs. search meet-rules)
-    (λ c. search meet-rules))
+    (λ c. search meet-rules) (λ c. search meet-rules) (λ c κs. search meet-rules) (λ c. search meet-rules))

@@ -7,5 +7,4 @@ pub lies-inside-spec : {M : Type 1} → statement M
 lies-inside-spec =
     tie.close
     (tie.spec
-    (λ c. search testing)
-    (λ c. search testing))
+    (λ c. search testing) (λ c. search testing))

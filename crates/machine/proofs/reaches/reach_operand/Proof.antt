@@ -7,16 +7,6 @@ pub reach-operand-spec : {M : Type 1} → statement M
 reach-operand-spec =
     tie.close
     (tie.spec
-    (λ c κs. search reach-rules)
-    (λ c κs. search reach-rules)
-    (λ c. search reach-rules)
-    (λ c κs. search reach-rules)
-    (λ c. search reach-rules)
-    (λ c κs. search reach-rules)
-    (λ c. search reach-rules)
-    (λ c. search reach-rules)
-    (λ c. search reach-rules)
-    (λ c. search reach-rules)
-    (λ c. search reach-rules)
-    (λ c. search reach-rules)
-    (λ c. search reach-rules))
+    (λ c κs. search reach-rules) (λ c κs. search reach-rules) (λ c. search reach-rules) (λ c κs. search reach-rules) (λ c. search reach-rules)
+    (λ c κs. search reach-rules) (λ c. search reach-rules) (λ c. search reach-rules) (λ c. search reach-rules) (λ c. search reach-rules)
+    (λ c. search reach-rules) (λ c. search reach-rules) (λ c. search reach-rules))

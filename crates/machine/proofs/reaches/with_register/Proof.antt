@@ -7,5 +7,4 @@ pub with-register-spec : {M : Type 1} → statement M
 with-register-spec =
     tie.close
     (tie.spec
-    (λ c κs. search mask-rules)
-    (λ c. search mask-rules))
+    (λ c κs. search mask-rules) (λ c. search mask-rules))

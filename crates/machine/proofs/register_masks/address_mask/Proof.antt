@@ -7,9 +7,5 @@ pub address-mask-spec : {M : Type 1} → statement M
 address-mask-spec =
     tie.close
     (tie.spec
-    (λ c. search mask-rules)
-    (λ c κs. search mask-rules)
-    (λ c. search mask-rules)
-    (λ c κs. search mask-rules)
-    (λ c κs. search mask-rules)
+    (λ c. search mask-rules) (λ c κs. search mask-rules) (λ c. search mask-rules) (λ c κs. search mask-rules) (λ c κs. search mask-rules)
     (λ c. search mask-rules))

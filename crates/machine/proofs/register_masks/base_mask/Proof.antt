@@ -7,8 +7,4 @@ pub base-mask-spec : {M : Type 1} → statement M
 base-mask-spec =
     tie.close
     (tie.spec
-    (λ c κs. search mask-rules)
-    (λ c. search mask-rules)
-    (λ c. search mask-rules)
-    (λ c κs. search mask-rules)
-    (λ c. search mask-rules))
+    (λ c κs. search mask-rules) (λ c. search mask-rules) (λ c. search mask-rules) (λ c κs. search mask-rules) (λ c. search mask-rules))

@@ -7,5 +7,4 @@ pub bit-spec : {M : Type 1} → statement M
 bit-spec =
     tie.close
     (tie.spec
-    (λ c. search mask-rules)
-    (λ c. search mask-rules))
+    (λ c. search mask-rules) (λ c. search mask-rules))

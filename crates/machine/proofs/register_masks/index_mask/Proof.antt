@@ -7,6 +7,4 @@ pub index-mask-spec : {M : Type 1} → statement M
 index-mask-spec =
     tie.close
     (tie.spec
-    (λ c. search mask-rules)
-    (λ c κs. search mask-rules)
-    (λ c. search mask-rules))
+    (λ c. search mask-rules) (λ c κs. search mask-rules) (λ c. search mask-rules))

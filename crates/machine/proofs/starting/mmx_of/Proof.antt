@@ -1,5 +1,5 @@
 -- `starting::mmx_of` meets its contract: each of the eight is its own load.
-use borrow.Author.Needs.{needs}
+use Rattle.basis.proofs.Names.{needs}
 use Rattle.machine.proofs.starting.mmx_of.Statement.{statement}
 use Rattle.machine.proofs.starting.mmx_of.Tie as tie
 
@@ -7,12 +7,6 @@ pub mmx-of-spec : {M : Type 1} → statement M
 mmx-of-spec =
     tie.close
     (tie.spec
-    (λ c κs. search needs)
-    (λ c κs. search needs)
-    (λ c κs. search needs)
-    (λ c κs. search needs)
-    (λ c κs. search needs)
-    (λ c κs. search needs)
-    (λ c κs. search needs)
-    (λ c κs. search needs)
+    (λ c κs. search needs) (λ c κs. search needs) (λ c κs. search needs) (λ c κs. search needs) (λ c κs. search needs) (λ c κs. search needs)
+    (λ c κs. search needs) (λ c κs. search needs)
     (λ c. cc))

@@ -7,12 +7,5 @@ pub answer-length-spec : {M : Type 1} → statement M
 answer-length-spec =
     tie.close
     (tie.spec
-    (λ c. search counting)
-    (λ c. search counting)
-    (λ c. search counting)
-    (λ c. search counting)
-    (λ c κs. search counting)
-    (λ c. search counting)
-    (λ c. search counting)
-    (λ c. search counting)
-    (λ c. search counting))
+    (λ c. search counting) (λ c. search counting) (λ c. search counting) (λ c. search counting) (λ c κs. search counting) (λ c. search counting)
+    (λ c. search counting) (λ c. search counting) (λ c. search counting))

@@ -7,17 +7,6 @@ pub has-room-spec : {M : Type 1} → statement M
 has-room-spec =
     tie.close
     (tie.spec
-    (λ c κs. search counting)
-    (λ c κs. search counting)
-    (λ c. search counting)
-    (λ c κs. search counting)
-    (λ c. search counting)
-    (λ c κs. search counting)
-    (λ c. search counting)
-    (λ c. search counting)
-    (λ c. search counting)
-    (λ c. search counting)
-    (λ c. search counting)
-    (λ c. search counting)
-    (λ c. search counting)
-    (λ c. search counting))
+    (λ c κs. search counting) (λ c κs. search counting) (λ c. search counting) (λ c κs. search counting) (λ c. search counting)
+    (λ c κs. search counting) (λ c. search counting) (λ c. search counting) (λ c. search counting) (λ c. search counting) (λ c. search counting)
+    (λ c. search counting) (λ c. search counting) (λ c. search counting))

@@ -1,6 +1,5 @@
 -- `line::gap_after` meets its contract: the tests lead to its case.
-use borrow.Author.Needs.{needs}
-use borrow.Author.Tests.{eq-eqb, ne-eqb}
+use Rattle.basis.proofs.Names.{needs, eq-eqb, ne-eqb}
 use Rattle.printout.proofs.line.gap_after.Statement.{statement}
 use Rattle.printout.proofs.line.gap_after.Tie as tie
 
@@ -8,7 +7,4 @@ pub gap-after-spec : {M : Type 1} → statement M
 gap-after-spec =
     tie.close
     (tie.spec
-    (λ c. search needs)
-    (λ c. search (eq-eqb))
-    (λ c. search (eq-eqb, ne-eqb))
-    (λ c. search (ne-eqb)))
+    (λ c. search needs) (λ c. search (eq-eqb)) (λ c. search (eq-eqb, ne-eqb)) (λ c. search (ne-eqb)))

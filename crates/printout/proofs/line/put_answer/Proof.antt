@@ -7,19 +7,6 @@ pub put-answer-spec : {M : Type 1} → statement M
 put-answer-spec =
     tie.close
     (tie.spec
-    (λ c. search naming)
-    (λ c. search naming)
-    (λ c κs. search naming)
-    (λ c. search naming)
-    (λ c. search naming)
-    (λ c κs. search naming)
-    (λ c. search naming)
-    (λ c. search naming)
-    (λ c. search naming)
-    (λ c κs. search naming)
-    (λ c. search naming)
-    (λ c. search naming)
-    (λ c. search naming)
-    (λ c. search naming)
-    (λ c. search naming)
-    (λ c. search naming))
+    (λ c. search naming) (λ c. search naming) (λ c κs. search naming) (λ c. search naming) (λ c. search naming) (λ c κs. search naming)
+    (λ c. search naming) (λ c. search naming) (λ c. search naming) (λ c κs. search naming) (λ c. search naming) (λ c. search naming)
+    (λ c. search naming) (λ c. search naming) (λ c. search naming) (λ c. search naming))

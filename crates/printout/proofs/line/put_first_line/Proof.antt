@@ -9,13 +9,9 @@ unfolding firstLine
 put-first-line-spec =
     tie.close
     (tie.spec
-    (λ c κs. search chain)
-    (λ c. search chain)
-    (λ c κs. search chain)
-    (λ c. search chain)
+    (λ c κs. search chain) (λ c. search chain) (λ c κs. search chain) (λ c. search chain)
     (λ c κs.
     let d = c .before .before .before .before in
     let e = d .before .before .before .before .before in
     fits-third (d .put-number .ensures) (e .put-answer .ensures) (e .before .before .before .pre))
-    (λ c. search chain)
-    (λ c. search chain))
+    (λ c. search chain) (λ c. search chain))

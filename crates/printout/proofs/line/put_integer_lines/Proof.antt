@@ -1,7 +1,6 @@
 -- `line::put_integer_lines` meets its contract: they are the lines of the wider numbers, which are the same.
-use mathlib.Core.Path.{_≡_, sym, ap}
-use mathlib.Core.List.{List}
-use Prim.Native.Nat.{ℕ}
+use Rattle.basis.specs.Names.{_≡_, List, ℕ}
+use Rattle.basis.proofs.Names.{sym, ap}
 use Rattle.printout.specs.Lines.{registerLines, integerLines}
 use Rattle.printout.proofs.Putting.{chain, fits-as, puts-as}
 use Rattle.printout.proofs.line.put_integer_lines.Statement.{statement}
@@ -15,9 +14,5 @@ unfolding integerLines
 put-integer-lines-spec =
     tie.close
     (tie.spec
-    (λ c κs. search chain)
-    (λ c. search chain)
-    (λ c. search chain)
-    (λ c κs. search (chain, fits-as, same-lines))
-    (λ c. search chain)
+    (λ c κs. search chain) (λ c. search chain) (λ c. search chain) (λ c κs. search (chain, fits-as, same-lines)) (λ c. search chain)
     (λ c. search (chain, puts-as, same-lines)))

@@ -9,8 +9,4 @@ unfolding mmxLines
 put-mmx-lines-spec =
     tie.close
     (tie.spec
-    (λ c. search chain)
-    (λ c. search chain)
-    (λ c κs. search chain)
-    (λ c. search chain)
-    (λ c. search chain))
+    (λ c. search chain) (λ c. search chain) (λ c κs. search chain) (λ c. search chain) (λ c. search chain))

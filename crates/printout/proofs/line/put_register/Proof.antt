@@ -7,7 +7,4 @@ pub put-register-spec : {M : Type 1} → statement M
 put-register-spec =
     tie.close
     (tie.spec
-    (λ c κs. search chain)
-    (λ c κs. search chain)
-    (λ c. search chain)
-    (λ c. search chain))
+    (λ c κs. search chain) (λ c κs. search chain) (λ c. search chain) (λ c. search chain))

@@ -1,6 +1,5 @@
 -- `line::put_registers` meets its contract: before each turn the lines that remain, put, give all, and each turn leaves fewer.
-use Prim.Native.Nat.{_-_, _*_, _≤_}
-use lib.ListN.{length, drop}
+use Rattle.basis.specs.Names.{_-_, _*_, _≤_, length, drop}
 use Rattle.printout.specs.Lines.{registerLines}
 use Rattle.printout.proofs.Putting.{Remaining, fits-remaining, less-remaining}
 use Rattle.printout.proofs.Pieces.{pieces, next-register}
@@ -20,22 +19,13 @@ put-registers-spec =
     (tie.spec
     Inv-loop
     μ-loop
-    (λ c. search pieces)
-    (λ c. search pieces)
-    (λ c. search pieces)
-    (λ c. search pieces)
-    (λ c. search pieces)
-    (λ c. search pieces)
-    (λ c. search pieces)
-    (λ c. search pieces)
-    (λ c. search pieces)
+    (λ c. search pieces) (λ c. search pieces) (λ c. search pieces) (λ c. search pieces) (λ c. search pieces) (λ c. search pieces)
+    (λ c. search pieces) (λ c. search pieces) (λ c. search pieces)
     (λ c κs.
     let d = c .before .before .before .before in
     fits-remaining _ (d .loop .inv .1) (next-register _ _ _ _ (c .before .before .before .loop-test .taken)) (search))
-    (λ c. search pieces)
-    (λ c. search pieces)
+    (λ c. search pieces) (λ c. search pieces)
     (λ c.
     let d = c .before .before .before .before .before .before in
     (search pieces, less-remaining (c .before .before .put-register .ensures) (d .before .loop .inv .1) (next-register _ _ _ _ (d .loop-test .taken))))
-    (λ c. search pieces)
-    (λ c. search pieces))
+    (λ c. search pieces) (λ c. search pieces))

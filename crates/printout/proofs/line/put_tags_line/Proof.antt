@@ -7,11 +7,5 @@ pub put-tags-line-spec : {M : Type 1} → statement M
 put-tags-line-spec =
     tie.close
     (tie.spec
-    (λ c. search naming)
-    (λ c κs. search naming)
-    (λ c. search naming)
-    (λ c κs. search naming)
-    (λ c. search naming)
-    (λ c. search naming)
-    (λ c. search naming)
-    (λ c. search naming))
+    (λ c. search naming) (λ c κs. search naming) (λ c. search naming) (λ c κs. search naming) (λ c. search naming) (λ c. search naming)
+    (λ c. search naming) (λ c. search naming))

@@ -1,12 +1,6 @@
 -- `line::widened` meets its contract: before each turn the numbers passed are the same, and each turn leaves fewer.
-use mathlib.Core.Path.{_≡_, sym, _∙_}
-use mathlib.Core.List.{List}
-use Prim.Native.Nat.{ℕ, _+_, _-_, _≤_, _<_}
-use native.Mathlib.Numerals.{add-one}
-use native.Mathlib.Omega.{arith}
-use borrow.Author.Needs.{needs}
-use lib.ListN.{length, getD, set, take}
-use lib.Seq.{take-suc, take-suc-set, take-all}
+use Rattle.basis.specs.Names.{_≡_, List, ℕ, _+_, _-_, _≤_, _<_, length, getD, set, take}
+use Rattle.basis.proofs.Names.{sym, _∙_, add-one, arith, needs, take-suc, take-suc-set, take-all}
 use Rattle.printout.proofs.line.widened.Statement.{statement}
 use Rattle.printout.proofs.line.widened.Tie as tie
 
@@ -32,13 +26,5 @@ widened-spec =
     (tie.spec
     Inv-loop
     μ-loop
-    (λ c. search passing)
-    (λ c. search passing)
-    (λ c. search passing)
-    (λ c. search passing)
-    (λ c. search passing)
-    (λ c. search passing)
-    (λ c. search passing)
-    (λ c. search passing)
-    (λ c. search passing)
-    (λ c. search passing))
+    (λ c. search passing) (λ c. search passing) (λ c. search passing) (λ c. search passing) (λ c. search passing) (λ c. search passing)
+    (λ c. search passing) (λ c. search passing) (λ c. search passing) (λ c. search passing))

@@ -1,7 +1,6 @@
 -- `put::decimal_places` meets its contract: the digits counted and those of the rest are all, and the rest has fallen
 -- as often as was counted. The measure is the rest.
-use mathlib.Core.Path.{_≡_}
-use Prim.Native.Nat.{_+_, _-_, _≤_}
+use Rattle.basis.specs.Names.{_≡_, _+_, _-_, _≤_}
 use Rattle.printout.specs.Characters.{places}
 use Rattle.printout.proofs.Numbers.{numbers}
 use Rattle.printout.proofs.put.decimal_places.Statement.{statement}
@@ -20,8 +19,4 @@ decimal-places-spec =
     (tie.spec
     Inv-loop
     μ-loop
-    (λ c. search numbers)
-    (λ c. search numbers)
-    (λ c. search numbers)
-    (λ c. search numbers)
-    (λ c. search numbers))
+    (λ c. search numbers) (λ c. search numbers) (λ c. search numbers) (λ c. search numbers) (λ c. search numbers))

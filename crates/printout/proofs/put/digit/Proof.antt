@@ -7,9 +7,4 @@ pub digit-spec : {M : Type 1} → statement M
 digit-spec =
     tie.close
     (tie.spec
-    (λ c. search numbers)
-    (λ c. search numbers)
-    (λ c. search numbers)
-    (λ c. search numbers)
-    (λ c. search numbers)
-    (λ c. search numbers))
+    (λ c. search numbers) (λ c. search numbers) (λ c. search numbers) (λ c. search numbers) (λ c. search numbers) (λ c. search numbers))

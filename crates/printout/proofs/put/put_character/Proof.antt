@@ -7,7 +7,4 @@ pub put-character-spec : {M : Type 1} → statement M
 put-character-spec =
     tie.close
     (tie.spec
-    (λ c. search chain)
-    (λ c. search chain)
-    (λ c. search chain)
-    (λ c. search chain))
+    (λ c. search chain) (λ c. search chain) (λ c. search chain) (λ c. search chain))

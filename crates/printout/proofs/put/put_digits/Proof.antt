@@ -1,7 +1,5 @@
 -- `put::put_digits` meets its contract: before each turn the digits that remain, put, give all, and each turn leaves fewer.
-use mathlib.Core.Path.{_≡_}
-use Prim.Native.Nat.{_≤_}
-use lib.ListN.{length}
+use Rattle.basis.specs.Names.{_≡_, _≤_, length}
 use Rattle.printout.specs.Characters.{digits}
 use Rattle.printout.specs.inner.Room.{put}
 use Rattle.printout.proofs.Numbers.{numbers}
@@ -21,15 +19,5 @@ put-digits-spec =
     (tie.spec
     Inv-loop
     μ-loop
-    (λ c. search numbers)
-    (λ c. search numbers)
-    (λ c. search numbers)
-    (λ c κs. search numbers)
-    (λ c. search numbers)
-    (λ c. search numbers)
-    (λ c. search numbers)
-    (λ c. search numbers)
-    (λ c. search numbers)
-    (λ c. search numbers)
-    (λ c. search numbers)
-    (λ c. search numbers))
+    (λ c. search numbers) (λ c. search numbers) (λ c. search numbers) (λ c κs. search numbers) (λ c. search numbers) (λ c. search numbers)
+    (λ c. search numbers) (λ c. search numbers) (λ c. search numbers) (λ c. search numbers) (λ c. search numbers) (λ c. search numbers))

@@ -7,7 +7,4 @@ pub put-hex-spec : {M : Type 1} → statement M
 put-hex-spec =
     tie.close
     (tie.spec
-    (λ c κs. search naming)
-    (λ c κs. search naming)
-    (λ c. search naming)
-    (λ c. search naming))
+    (λ c κs. search naming) (λ c κs. search naming) (λ c. search naming) (λ c. search naming))

@@ -7,8 +7,4 @@ pub put-number-spec : {M : Type 1} → statement M
 put-number-spec =
     tie.close
     (tie.spec
-    (λ c κs. search naming)
-    (λ c κs. search naming)
-    (λ c κs. search naming)
-    (λ c. search naming)
-    (λ c. search naming))
+    (λ c κs. search naming) (λ c κs. search naming) (λ c κs. search naming) (λ c. search naming) (λ c. search naming))

@@ -7,7 +7,4 @@ pub put-number-line-spec : {M : Type 1} → statement M
 put-number-line-spec =
     tie.close
     (tie.spec
-    (λ c κs. search chain)
-    (λ c κs. search chain)
-    (λ c. search chain)
-    (λ c. search chain))
+    (λ c κs. search chain) (λ c κs. search chain) (λ c. search chain) (λ c. search chain))

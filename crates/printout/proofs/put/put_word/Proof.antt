@@ -1,6 +1,5 @@
 -- `put::put_word` meets its contract: before each turn what remains of the word, put, gives the whole, and each turn leaves less.
-use Prim.Native.Nat.{_-_, _≤_}
-use lib.ListN.{length, drop}
+use Rattle.basis.specs.Names.{_-_, _≤_, length, drop}
 use Rattle.printout.proofs.Putting.{Remaining}
 use Rattle.printout.proofs.Pieces.{pieces}
 use Rattle.printout.proofs.put.put_word.Statement.{statement}
@@ -18,11 +17,5 @@ put-word-spec =
     (tie.spec
     Inv-loop
     μ-loop
-    (λ c. search pieces)
-    (λ c. search pieces)
-    (λ c κs. search pieces)
-    (λ c. search pieces)
-    (λ c. search pieces)
-    (λ c. search pieces)
-    (λ c. search pieces)
-    (λ c. search pieces))
+    (λ c. search pieces) (λ c. search pieces) (λ c κs. search pieces) (λ c. search pieces) (λ c. search pieces) (λ c. search pieces)
+    (λ c. search pieces) (λ c. search pieces))

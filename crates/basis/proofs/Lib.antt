@@ -1,0 +1,2 @@
+-- The names of the kit that laws use.
+pub mod Names

@@ -1,0 +1,2 @@
+-- The names of the kit that definitions use.
+pub mod Names
