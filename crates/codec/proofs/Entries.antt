@@ -4,7 +4,7 @@ use Rattle.basis.proofs.Names.{sym, ap, ap₂, subst, _∙_, arith, zero-add, a
 use Rattle.lanes.specs.Operations.{KEEP}
 use Rattle.codec.specs.Opcodes.{formAt, operationAt, escape}
 use Rattle.codec.specs.Table.{formOf, entryAt, listed, opcodeTable, formIn}
-use Rattle.codec.specs.inner.Entries.{shiftIn, operationIn}
+use Rattle.codec.specs.inner.Entries.{shiftOf, operationIn}
 use Rattle.codec.specs.Forms.{absent}
 use Rattle.codec.specs.Reader.{refuse, byte}
 use Rattle.codec.specs.Reads.{formReader, secondReader, instructionReader, refusalOf}
@@ -45,7 +45,7 @@ unfolding formAt operationAt
 forms-back = refl
 
 operations-back : listed (λ k. operationIn (entryAt (k / 8)) (k % 8)) 0 2048 ≡ listed (λ k. operationAt (k / 8) (k % 8)) 0 2048
-unfolding formAt operationAt operationIn shiftIn
+unfolding formAt operationAt operationIn shiftOf
 operations-back = refl
 
 -- It has the form of every number.

@@ -1,16 +1,13 @@
 // The parts of an entry of the table, and the forms by their numbers in it.
 
-// The places of form and operand size, and how many values a part has. The operation is lowest.
+// The places of form, operand size and lane width, and how many values a part has. The operation is lowest.
 pub const FORM: u32 = 0x1000000;
 
 pub const SIZE: u32 = 0x10000;
 
+pub const LANE: u32 = 0x100;
+
 pub const PART: u32 = 0x100;
-
-// Of a shift by an immediate: the places of the operations with /2 and /4. That with /6 is lowest.
-pub const RIGHT_PLACE: u32 = 0x10000;
-
-pub const SIGNED_PLACE: u32 = 0x100;
 
 // The digits of the shifts by an immediate.
 pub const RIGHT: u8 = 2;

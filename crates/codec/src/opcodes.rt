@@ -2,13 +2,12 @@
 use crate::forms::ABSENT;
 use crate::forms::EMMS;
 use crate::forms::FORM;
+use crate::forms::LANE;
 use crate::forms::LOAD_D;
 use crate::forms::LOAD_Q;
 use crate::forms::LOW;
-use crate::forms::RIGHT_PLACE;
 use crate::forms::SHIFT_Q;
 use crate::forms::SHIFT_WD;
-use crate::forms::SIGNED_PLACE;
 use crate::forms::SIZE;
 use crate::forms::STORE_D;
 use crate::forms::STORE_Q;
@@ -31,45 +30,36 @@ pub(crate) fn form_for(second: u8) -> u32
     TABLE[second as usize] / FORM
 }
 
-// An entry up to its operation: the form and the operand's size in memory. MOVD and MOVQ to r/m and from it, and what computes with the operand of r/m.
-const STORE_DOUBLEWORD: u32 = STORE_D * FORM + DOUBLEWORD * SIZE;
+// The form and the operand's size in memory: MOVD and MOVQ to r/m and from it, and what computes with the operand of r/m.
+const STORE_DOUBLEWORD: u32 = STORE_D * FORM + 4 * SIZE;
 
-const LOAD_DOUBLEWORD: u32 = LOAD_D * FORM + DOUBLEWORD * SIZE;
+const LOAD_DOUBLEWORD: u32 = LOAD_D * FORM + 4 * SIZE;
 
-const STORE_QUADWORD: u32 = STORE_Q * FORM + QUADWORD * SIZE;
+const STORE_QUADWORD: u32 = STORE_Q * FORM + 8 * SIZE;
 
-const LOAD_QUADWORD: u32 = LOAD_Q * FORM + QUADWORD * SIZE;
+const LOAD_QUADWORD: u32 = LOAD_Q * FORM + 8 * SIZE;
 
-const WITH_DOUBLEWORD: u32 = LOW * FORM + DOUBLEWORD * SIZE;
+const WITH_DOUBLEWORD: u32 = LOW * FORM + 4 * SIZE;
 
-const WITH_QUADWORD: u32 = USUAL * FORM + QUADWORD * SIZE;
+const WITH_QUADWORD: u32 = USUAL * FORM + 8 * SIZE;
 
-// The sizes, in bytes.
-const DOUBLEWORD: u32 = 4;
+// The form of what has no operand in memory: the shifts by an immediate, EMMS, and a byte that the table has not.
+const SHIFT: u32 = SHIFT_WD * FORM;
 
-const QUADWORD: u32 = 8;
+const SHIFT_LONG: u32 = SHIFT_Q * FORM;
 
-// The shifts by an immediate, with the operations of /2, /4 and /6.
-const SHIFT_WORD: u32 = SHIFT_WD * FORM
-    + lanes::PSRLW as u32 * RIGHT_PLACE
-    + lanes::PSRAW as u32 * SIGNED_PLACE
-    + lanes::PSLLW as u32;
+const ALONE: u32 = EMMS * FORM + WHOLE + lanes::KEEP as u32;
 
-const SHIFT_DOUBLEWORD: u32 = SHIFT_WD * FORM
-    + lanes::PSRLD as u32 * RIGHT_PLACE
-    + lanes::PSRAD as u32 * SIGNED_PLACE
-    + lanes::PSLLD as u32;
+const NONE: u32 = ABSENT * FORM + WHOLE + lanes::KEEP as u32;
 
-const SHIFT_QUADWORD: u32 = SHIFT_Q * FORM
-    + lanes::PSRLQ as u32 * RIGHT_PLACE
-    + lanes::KEEP as u32 * SIGNED_PLACE
-    + lanes::PSLLQ as u32;
+// The lane width.
+const BYTES: u32 = 8 * LANE;
 
-// EMMS computes nothing.
-const EMMS_ALONE: u32 = EMMS * FORM + lanes::KEEP as u32;
+const WORDS: u32 = 16 * LANE;
 
-// A byte that the table has not.
-const NONE: u32 = ABSENT * FORM + lanes::KEEP as u32;
+const DOUBLEWORDS: u32 = 32 * LANE;
+
+const WHOLE: u32 = 64 * LANE;
 
 // By the second byte, sixteen after each comment.
 pub(crate) const TABLE: [u32; 256] = [
@@ -176,39 +166,39 @@ pub(crate) const TABLE: [u32; 256] = [
     NONE,
     NONE,
     // 60
-    WITH_DOUBLEWORD + lanes::PUNPCKLBW as u32,
-    WITH_DOUBLEWORD + lanes::PUNPCKLWD as u32,
-    WITH_DOUBLEWORD + lanes::PUNPCKLDQ as u32,
-    WITH_QUADWORD + lanes::PACKSSWB as u32,
-    WITH_QUADWORD + lanes::PCMPGTB as u32,
-    WITH_QUADWORD + lanes::PCMPGTW as u32,
-    WITH_QUADWORD + lanes::PCMPGTD as u32,
-    WITH_QUADWORD + lanes::PACKUSWB as u32,
-    WITH_QUADWORD + lanes::PUNPCKHBW as u32,
-    WITH_QUADWORD + lanes::PUNPCKHWD as u32,
-    WITH_QUADWORD + lanes::PUNPCKHDQ as u32,
-    WITH_QUADWORD + lanes::PACKSSDW as u32,
+    WITH_DOUBLEWORD + BYTES + lanes::PUNPCKLBW as u32,
+    WITH_DOUBLEWORD + WORDS + lanes::PUNPCKLWD as u32,
+    WITH_DOUBLEWORD + DOUBLEWORDS + lanes::PUNPCKLDQ as u32,
+    WITH_QUADWORD + BYTES + lanes::PACKSSWB as u32,
+    WITH_QUADWORD + BYTES + lanes::PCMPGTB as u32,
+    WITH_QUADWORD + WORDS + lanes::PCMPGTW as u32,
+    WITH_QUADWORD + DOUBLEWORDS + lanes::PCMPGTD as u32,
+    WITH_QUADWORD + BYTES + lanes::PACKUSWB as u32,
+    WITH_QUADWORD + BYTES + lanes::PUNPCKHBW as u32,
+    WITH_QUADWORD + WORDS + lanes::PUNPCKHWD as u32,
+    WITH_QUADWORD + DOUBLEWORDS + lanes::PUNPCKHDQ as u32,
+    WITH_QUADWORD + WORDS + lanes::PACKSSDW as u32,
     NONE,
     NONE,
-    LOAD_DOUBLEWORD + lanes::MOVE as u32,
-    LOAD_QUADWORD + lanes::MOVE as u32,
+    LOAD_DOUBLEWORD + WHOLE + lanes::MOVE as u32,
+    LOAD_QUADWORD + WHOLE + lanes::MOVE as u32,
     // 70
     NONE,
-    SHIFT_WORD,
-    SHIFT_DOUBLEWORD,
-    SHIFT_QUADWORD,
-    WITH_QUADWORD + lanes::PCMPEQB as u32,
-    WITH_QUADWORD + lanes::PCMPEQW as u32,
-    WITH_QUADWORD + lanes::PCMPEQD as u32,
-    EMMS_ALONE,
+    SHIFT + WORDS + lanes::PSRLW as u32,
+    SHIFT + DOUBLEWORDS + lanes::PSRLD as u32,
+    SHIFT_LONG + WHOLE + lanes::PSRLQ as u32,
+    WITH_QUADWORD + BYTES + lanes::PCMPEQB as u32,
+    WITH_QUADWORD + WORDS + lanes::PCMPEQW as u32,
+    WITH_QUADWORD + DOUBLEWORDS + lanes::PCMPEQD as u32,
+    ALONE,
     NONE,
     NONE,
     NONE,
     NONE,
     NONE,
     NONE,
-    STORE_DOUBLEWORD + lanes::MOVE as u32,
-    STORE_QUADWORD + lanes::MOVE as u32,
+    STORE_DOUBLEWORD + WHOLE + lanes::MOVE as u32,
+    STORE_QUADWORD + WHOLE + lanes::MOVE as u32,
     // 80
     NONE,
     NONE,
@@ -296,53 +286,53 @@ pub(crate) const TABLE: [u32; 256] = [
     NONE,
     // d0
     NONE,
-    WITH_QUADWORD + lanes::PSRLW as u32,
-    WITH_QUADWORD + lanes::PSRLD as u32,
-    WITH_QUADWORD + lanes::PSRLQ as u32,
+    WITH_QUADWORD + WORDS + lanes::PSRLW as u32,
+    WITH_QUADWORD + DOUBLEWORDS + lanes::PSRLD as u32,
+    WITH_QUADWORD + WHOLE + lanes::PSRLQ as u32,
     NONE,
-    WITH_QUADWORD + lanes::PMULLW as u32,
+    WITH_QUADWORD + WORDS + lanes::PMULLW as u32,
     NONE,
     NONE,
-    WITH_QUADWORD + lanes::PSUBUSB as u32,
-    WITH_QUADWORD + lanes::PSUBUSW as u32,
+    WITH_QUADWORD + BYTES + lanes::PSUBUSB as u32,
+    WITH_QUADWORD + WORDS + lanes::PSUBUSW as u32,
     NONE,
-    WITH_QUADWORD + lanes::PAND as u32,
-    WITH_QUADWORD + lanes::PADDUSB as u32,
-    WITH_QUADWORD + lanes::PADDUSW as u32,
+    WITH_QUADWORD + WHOLE + lanes::PAND as u32,
+    WITH_QUADWORD + BYTES + lanes::PADDUSB as u32,
+    WITH_QUADWORD + WORDS + lanes::PADDUSW as u32,
     NONE,
-    WITH_QUADWORD + lanes::PANDN as u32,
+    WITH_QUADWORD + WHOLE + lanes::PANDN as u32,
     // e0
     NONE,
-    WITH_QUADWORD + lanes::PSRAW as u32,
-    WITH_QUADWORD + lanes::PSRAD as u32,
+    WITH_QUADWORD + WORDS + lanes::PSRAW as u32,
+    WITH_QUADWORD + DOUBLEWORDS + lanes::PSRAD as u32,
     NONE,
     NONE,
-    WITH_QUADWORD + lanes::PMULHW as u32,
+    WITH_QUADWORD + WORDS + lanes::PMULHW as u32,
     NONE,
     NONE,
-    WITH_QUADWORD + lanes::PSUBSB as u32,
-    WITH_QUADWORD + lanes::PSUBSW as u32,
+    WITH_QUADWORD + BYTES + lanes::PSUBSB as u32,
+    WITH_QUADWORD + WORDS + lanes::PSUBSW as u32,
     NONE,
-    WITH_QUADWORD + lanes::POR as u32,
-    WITH_QUADWORD + lanes::PADDSB as u32,
-    WITH_QUADWORD + lanes::PADDSW as u32,
+    WITH_QUADWORD + WHOLE + lanes::POR as u32,
+    WITH_QUADWORD + BYTES + lanes::PADDSB as u32,
+    WITH_QUADWORD + WORDS + lanes::PADDSW as u32,
     NONE,
-    WITH_QUADWORD + lanes::PXOR as u32,
+    WITH_QUADWORD + WHOLE + lanes::PXOR as u32,
     // f0
     NONE,
-    WITH_QUADWORD + lanes::PSLLW as u32,
-    WITH_QUADWORD + lanes::PSLLD as u32,
-    WITH_QUADWORD + lanes::PSLLQ as u32,
+    WITH_QUADWORD + WORDS + lanes::PSLLW as u32,
+    WITH_QUADWORD + DOUBLEWORDS + lanes::PSLLD as u32,
+    WITH_QUADWORD + WHOLE + lanes::PSLLQ as u32,
     NONE,
-    WITH_QUADWORD + lanes::PMADDWD as u32,
+    WITH_QUADWORD + DOUBLEWORDS + lanes::PMADDWD as u32,
     NONE,
     NONE,
-    WITH_QUADWORD + lanes::PSUBB as u32,
-    WITH_QUADWORD + lanes::PSUBW as u32,
-    WITH_QUADWORD + lanes::PSUBD as u32,
+    WITH_QUADWORD + BYTES + lanes::PSUBB as u32,
+    WITH_QUADWORD + WORDS + lanes::PSUBW as u32,
+    WITH_QUADWORD + DOUBLEWORDS + lanes::PSUBD as u32,
     NONE,
-    WITH_QUADWORD + lanes::PADDB as u32,
-    WITH_QUADWORD + lanes::PADDW as u32,
-    WITH_QUADWORD + lanes::PADDD as u32,
+    WITH_QUADWORD + BYTES + lanes::PADDB as u32,
+    WITH_QUADWORD + WORDS + lanes::PADDW as u32,
+    WITH_QUADWORD + DOUBLEWORDS + lanes::PADDD as u32,
     NONE,
 ];

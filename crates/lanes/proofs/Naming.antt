@@ -1,8 +1,15 @@
--- What `operate` leaves by number: a number's operation is its place in the list of operations, and past the list the destination is kept.
-use Rattle.basis.specs.Names.{_≡_, ℕ, zero, suc, _/_, _≤_, length}
+-- What `operate` leaves by number: an operation's number is its place in the list of operations, and past the list the destination is kept.
+use Rattle.basis.specs.Names.{_≡_, refl, ℕ, zero, suc, _/_, _≤_, List, [], _∷_, map, length}
 use Rattle.basis.proofs.Names.{sym, ap, zero-le, arith, needs, List·getD-eq-default}
 use Rattle.lanes.specs.Rules.{packed, unpack, unpackHigh}
-use Rattle.lanes.specs.Operations.{Operation, KEEP, operate, operations, operationOf}
+use Rattle.lanes.specs.Operations.{Operation, KEEP, described, operate, operations, operationOf}
+
+abbrev places : ℕ → List Operation → List ℕ
+places k [] = []
+places k (o ∷ os) = k ∷ places (suc k) os
+
+pub numbers-are-places : map (λ o. described o .number) operations ≡ places 0 operations
+numbers-are-places = refl
 
 pub named : (n k r destination source : ℕ) → n ≡ k → r ≡ operate (operationOf k) destination source → r ≡ operate (operationOf n) destination source
 named n k r d s e p = rw e p

@@ -1,4 +1,4 @@
--- The packed operations by the manual's headings, in the order of document 01's table of opcode bytes, what each leaves, and their numbers.
+-- The packed operations by the manual's headings, in the order of document 01's table of opcode bytes: the number, lane width and rule of each.
 use Rattle.basis.specs.Names.{ℕ, _≡_, refl, List, [], _∷_, getD, bitAnd, bitOr, bitXor}
 use Rattle.lanes.specs.Signed.{clampSigned, clampUnsigned}
 use Rattle.lanes.specs.Rules.{packed, pairwise, sum, difference, sumSigned, differenceSigned, sumUnsigned, differenceUnsigned, equal, greater, productLow, productHigh, productSum, pack, unpackLow, unpackHigh, andNot, shift, left, right, rightSigned}
@@ -18,58 +18,73 @@ pub data Operation : Type 0 where
   PSUBB PSUBW PSUBD PADDB PADDW PADDD : Operation
   KEEP : Operation
 
--- what an operation leaves, from its destination and its source
-unfoldable pub operate : Operation → ℕ → ℕ → ℕ
-operate PUNPCKLBW = packed unpackLow 8
-operate PUNPCKLWD = packed unpackLow 16
-operate PUNPCKLDQ = packed unpackLow 32
-operate PACKSSWB = packed (pack clampSigned) 8
-operate PACKUSWB = packed (pack clampUnsigned) 8
-operate PACKSSDW = packed (pack clampSigned) 16
-operate PCMPGTB = packed (pairwise greater) 8
-operate PCMPGTW = packed (pairwise greater) 16
-operate PCMPGTD = packed (pairwise greater) 32
-operate PUNPCKHBW = packed unpackHigh 8
-operate PUNPCKHWD = packed unpackHigh 16
-operate PUNPCKHDQ = packed unpackHigh 32
--- MOVD and MOVQ leave the source
-operate MOVE = λ destination source. source
-operate PCMPEQB = packed (pairwise equal) 8
-operate PCMPEQW = packed (pairwise equal) 16
-operate PCMPEQD = packed (pairwise equal) 32
-operate PSRLW = packed (shift right) 16
-operate PSRLD = packed (shift right) 32
-operate PSRLQ = packed (shift right) 64
-operate PSRAW = packed (shift rightSigned) 16
-operate PSRAD = packed (shift rightSigned) 32
-operate PSLLW = packed (shift left) 16
-operate PSLLD = packed (shift left) 32
-operate PSLLQ = packed (shift left) 64
-operate PMULLW = packed (pairwise productLow) 16
-operate PMULHW = packed (pairwise productHigh) 16
-operate PMADDWD = packed (pairwise productSum) 32
-operate PSUBUSB = packed (pairwise differenceUnsigned) 8
-operate PSUBUSW = packed (pairwise differenceUnsigned) 16
-operate PADDUSB = packed (pairwise sumUnsigned) 8
-operate PADDUSW = packed (pairwise sumUnsigned) 16
-operate PSUBSB = packed (pairwise differenceSigned) 8
-operate PSUBSW = packed (pairwise differenceSigned) 16
-operate PADDSB = packed (pairwise sumSigned) 8
-operate PADDSW = packed (pairwise sumSigned) 16
-operate PAND = bitAnd
-operate PANDN = andNot
-operate POR = bitOr
-operate PXOR = bitXor
-operate PSUBB = packed (pairwise difference) 8
-operate PSUBW = packed (pairwise difference) 16
-operate PSUBD = packed (pairwise difference) 32
-operate PADDB = packed (pairwise sum) 8
-operate PADDW = packed (pairwise sum) 16
-operate PADDD = packed (pairwise sum) 32
--- an instruction that computes nothing keeps its destination
-operate KEEP = λ destination source. destination
+-- what there is to say of an operation: its number, the width of its lanes in bits, and what it leaves of its destination and its source
+pub record Described : Type 0 where
+  pub number : ℕ
+  pub width : ℕ
+  pub leaves : ℕ → ℕ → ℕ
 
--- an operation's number is its place in this list
+-- a rule in lanes of a width; and a function of the whole registers
+abbrev inLanes : ℕ → ℕ → (ℕ → ℕ → ℕ → ℕ → ℕ) → Described
+inLanes number width rule = record { number = number; width = width; leaves = packed rule width }
+
+abbrev whole : ℕ → (ℕ → ℕ → ℕ) → Described
+whole number f = record { number = number; width = 64; leaves = f }
+
+abbrev pub described : Operation → Described
+described PUNPCKLBW = inLanes 0 8 unpackLow
+described PUNPCKLWD = inLanes 1 16 unpackLow
+described PUNPCKLDQ = inLanes 2 32 unpackLow
+described PACKSSWB = inLanes 3 8 (pack clampSigned)
+described PACKUSWB = inLanes 4 8 (pack clampUnsigned)
+described PACKSSDW = inLanes 5 16 (pack clampSigned)
+described PCMPGTB = inLanes 6 8 (pairwise greater)
+described PCMPGTW = inLanes 7 16 (pairwise greater)
+described PCMPGTD = inLanes 8 32 (pairwise greater)
+described PUNPCKHBW = inLanes 9 8 unpackHigh
+described PUNPCKHWD = inLanes 10 16 unpackHigh
+described PUNPCKHDQ = inLanes 11 32 unpackHigh
+-- MOVD and MOVQ leave the source
+described MOVE = whole 12 (λ destination source. source)
+described PCMPEQB = inLanes 13 8 (pairwise equal)
+described PCMPEQW = inLanes 14 16 (pairwise equal)
+described PCMPEQD = inLanes 15 32 (pairwise equal)
+described PSRLW = inLanes 16 16 (shift right)
+described PSRLD = inLanes 17 32 (shift right)
+described PSRLQ = inLanes 18 64 (shift right)
+described PSRAW = inLanes 19 16 (shift rightSigned)
+described PSRAD = inLanes 20 32 (shift rightSigned)
+described PSLLW = inLanes 21 16 (shift left)
+described PSLLD = inLanes 22 32 (shift left)
+described PSLLQ = inLanes 23 64 (shift left)
+described PMULLW = inLanes 24 16 (pairwise productLow)
+described PMULHW = inLanes 25 16 (pairwise productHigh)
+described PMADDWD = inLanes 26 32 (pairwise productSum)
+described PSUBUSB = inLanes 27 8 (pairwise differenceUnsigned)
+described PSUBUSW = inLanes 28 16 (pairwise differenceUnsigned)
+described PADDUSB = inLanes 29 8 (pairwise sumUnsigned)
+described PADDUSW = inLanes 30 16 (pairwise sumUnsigned)
+described PSUBSB = inLanes 31 8 (pairwise differenceSigned)
+described PSUBSW = inLanes 32 16 (pairwise differenceSigned)
+described PADDSB = inLanes 33 8 (pairwise sumSigned)
+described PADDSW = inLanes 34 16 (pairwise sumSigned)
+described PAND = whole 35 bitAnd
+described PANDN = whole 36 andNot
+described POR = whole 37 bitOr
+described PXOR = whole 38 bitXor
+described PSUBB = inLanes 39 8 (pairwise difference)
+described PSUBW = inLanes 40 16 (pairwise difference)
+described PSUBD = inLanes 41 32 (pairwise difference)
+described PADDB = inLanes 42 8 (pairwise sum)
+described PADDW = inLanes 43 16 (pairwise sum)
+described PADDD = inLanes 44 32 (pairwise sum)
+-- an instruction that computes nothing keeps its destination
+described KEEP = whole 255 (λ destination source. destination)
+
+unfoldable pub operate : Operation → ℕ → ℕ → ℕ
+operate operation = described operation .leaves
+
+-- each at its number
 abbrev pub operations : List Operation
 operations =
     PUNPCKLBW ∷ PUNPCKLWD ∷ PUNPCKLDQ ∷ PACKSSWB ∷ PACKUSWB ∷ PACKSSDW ∷ PCMPGTB ∷ PCMPGTW ∷ PCMPGTD
@@ -81,52 +96,3 @@ operations =
 -- the operation that a number names; one that names none keeps the destination
 abbrev pub operationOf : ℕ → Operation
 operationOf number = getD operations number KEEP
-
--- every operation has a number, one that names it
-abbrev pub numbered : (operation : Operation) → (number : ℕ) × (operationOf number ≡ operation)
-numbered PUNPCKLBW = (0, refl)
-numbered PUNPCKLWD = (1, refl)
-numbered PUNPCKLDQ = (2, refl)
-numbered PACKSSWB = (3, refl)
-numbered PACKUSWB = (4, refl)
-numbered PACKSSDW = (5, refl)
-numbered PCMPGTB = (6, refl)
-numbered PCMPGTW = (7, refl)
-numbered PCMPGTD = (8, refl)
-numbered PUNPCKHBW = (9, refl)
-numbered PUNPCKHWD = (10, refl)
-numbered PUNPCKHDQ = (11, refl)
-numbered MOVE = (12, refl)
-numbered PCMPEQB = (13, refl)
-numbered PCMPEQW = (14, refl)
-numbered PCMPEQD = (15, refl)
-numbered PSRLW = (16, refl)
-numbered PSRLD = (17, refl)
-numbered PSRLQ = (18, refl)
-numbered PSRAW = (19, refl)
-numbered PSRAD = (20, refl)
-numbered PSLLW = (21, refl)
-numbered PSLLD = (22, refl)
-numbered PSLLQ = (23, refl)
-numbered PMULLW = (24, refl)
-numbered PMULHW = (25, refl)
-numbered PMADDWD = (26, refl)
-numbered PSUBUSB = (27, refl)
-numbered PSUBUSW = (28, refl)
-numbered PADDUSB = (29, refl)
-numbered PADDUSW = (30, refl)
-numbered PSUBSB = (31, refl)
-numbered PSUBSW = (32, refl)
-numbered PADDSB = (33, refl)
-numbered PADDSW = (34, refl)
-numbered PAND = (35, refl)
-numbered PANDN = (36, refl)
-numbered POR = (37, refl)
-numbered PXOR = (38, refl)
-numbered PSUBB = (39, refl)
-numbered PSUBW = (40, refl)
-numbered PSUBD = (41, refl)
-numbered PADDB = (42, refl)
-numbered PADDW = (43, refl)
-numbered PADDD = (44, refl)
-numbered KEEP = (255, refl)

@@ -8,6 +8,7 @@ use crate::shifts;
 use codec::Instruction;
 use codec::forms::EMMS;
 use codec::forms::FORM;
+use codec::forms::LANE;
 use codec::forms::PART;
 use codec::forms::SIZE;
 use codec::forms::STORE_D;
@@ -162,7 +163,7 @@ fn sorted(
     if form == EMMS {
         return work_of(EMPTY, 0, 0, 0, next);
     }
-    let number = shifts::shift_number(entry, operand.reg);
+    let number = shifts::shift_number((entry / LANE % PART) as u8, operand.reg);
     work_of(
         OPERATE,
         number,

@@ -1,7 +1,7 @@
 -- The parts of the code's step in the words of the definitions: lent registers with marks are a machine, what is left to do leaves a state, and
 -- how a step ended is an outcome. Only the contracts of the code's own functions use them.
 use Rattle.basis.specs.Names.{_≡_, Bool, true, false, cond, List, [], _∷_, map, ℕ, _/_, _%_, _^_, _≤_, _<_, eqb, getD}
-use Rattle.lanes.specs.Operations.{operationOf, operate, numbered, MOVE}
+use Rattle.lanes.specs.Operations.{operationOf, operate, described, MOVE}
 use Rattle.words.specs.Buffer.{loaded, stored}
 use Rattle.codec.specs.Forms.{Use, read, written, updated, Slot, Form, forms, isAmong, memorySize}
 use Rattle.codec.specs.Table.{formOf}
@@ -86,7 +86,7 @@ refusedWork refusal = workOf toRefuse refusal 0 0 0
 
 -- a value is put where an operand of that size is
 abbrev pub putWork : Spot → ℕ → ℕ → ℕ → Work
-putWork (Mmx k) size value next = workOf toOperate (numbered MOVE .0) k value next
+putWork (Mmx k) size value next = workOf toOperate (described MOVE .number) k value next
 putWork (Integer k) size value next = workOf toInteger 0 k value next
 putWork (Bytes a) size value next = workOf toStore size a value next
 putWork (Refused n) size value next = refusedWork n

@@ -8,5 +8,5 @@ sorted-spec =
     tie.close
     (tie.spec
     (λ c. search sorting) (λ c κs. search sorting) (λ c. search sorting) (λ c. search sorting) (λ c. search sorting) (λ c κs. search sorting)
-    (λ c κs. search sorting) (λ c. search sorting) (λ c. search sorting) (λ c κs. search sorting) (λ c. search sorting) (λ c κs. search sorting)
-    (λ c. search sorting) (λ c. search sorting) (λ c κs. search sorting) (λ c. search sorting))
+    (λ c κs. search sorting) (λ c. search sorting) (λ c. search sorting) (λ c κs. search sorting) (λ c. search sorting) (λ c. search sorting)
+    (λ c κs. search sorting) (λ c. search sorting) (λ c. search sorting) (λ c κs. search sorting) (λ c. search sorting))

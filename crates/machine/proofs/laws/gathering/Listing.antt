@@ -2,7 +2,7 @@
 -- the code looks up.
 use Rattle.basis.specs.Names.{_≡_, refl, Bool, true, false, not, _&&_, _||_, ℕ, _/_, _%_, _^_, eqb, ltb, getD}
 use Rattle.basis.proofs.Names.{sym, ap, ap₂, _∙_, false≢true, ltb-true, ltb-false, le-ltb, eqb-true}
-use Rattle.lanes.specs.Operations.{Operation, operationOf, numbered, MOVE}
+use Rattle.lanes.specs.Operations.{Operation, operationOf, described, MOVE}
 use Rattle.codec.specs.Forms.{Form, isAbsent, memorySize}
 use Rattle.codec.specs.Opcodes.{formAt, operationAt}
 use Rattle.codec.specs.inner.Fields.{Registers}
@@ -20,7 +20,7 @@ abbrev passes : ℕ → Bool
 passes number =
     isListed (number / 2 ^ 24)
     && ((ltb (number / 2 ^ 24) 16 || eqb (number / 2 ^ 16 % 256) (memorySize (formOf (number / 2 ^ 24))))
-    && (not (isMove (formOf (number / 2 ^ 24))) || eqb (number % 256) (numbered MOVE .0)))
+    && (not (isMove (formOf (number / 2 ^ 24))) || eqb (number % 256) (described MOVE .number)))
 
 all-pass : listed (λ k. passes (entryAt k)) 0 256 ≡ listed (λ k. true) 0 256
 unfolding formAt operationAt
@@ -34,7 +34,7 @@ number-listed number h p =
       listed = a;
       present = p;
       sized = λ two. eqb-true _ _ (simp (le-ltb (number / 2 ^ 24) 16 two) at b);
-      moves = λ m. ap operationOf (eqb-true (number % 256) (numbered MOVE .0) (simp m at c));
+      moves = λ m. ap operationOf (eqb-true (number % 256) (described MOVE .number) (simp m at c));
     }
 
 -- a second byte whose form is there has a number that is listed

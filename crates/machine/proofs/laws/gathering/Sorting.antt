@@ -8,7 +8,7 @@ use Rattle.reorder.specs.Result.{Result, done, andThen}
 use Rattle.codec.specs.Forms.{File, rm/mem, Form, hasDigits, memorySize}
 use Rattle.codec.specs.inner.Fields.{Registers}
 use Rattle.codec.specs.Table.{formOf}
-use Rattle.codec.specs.inner.Entries.{shiftIn, operationIn}
+use Rattle.codec.specs.inner.Entries.{shiftOf, operationIn}
 use Rattle.codec.specs.declared.Operand.{Operand}
 use Rattle.codec.specs.declared.Instruction.{Instruction}
 use Rattle.codec.specs.declared.Kind.the-variants.{Emms}
@@ -145,7 +145,7 @@ module _ (registers integers m : List ℕ) (entry : ℕ) (i : Instruction) (next
 
   module _ (r : Registers w) (l : Listed entry) where
     -- the shifts by an immediate
-    pub does-shift : (number : ℕ) (work : Work) → formIn < 16 → (formIn ≡ 1 → ⊥) → operationOf number ≡ shiftIn entry (w .reg)
+    pub does-shift : (number : ℕ) (work : Work) → formIn < 16 → (formIn ≡ 1 → ⊥) → operationOf number ≡ shiftOf (entry / 2 ^ 8 % 256) (w .reg)
         → work ≡ workOf toOperate number (w .rm) (i .immediate) next → Does work registers integers m (effectIn entry i) next
     unfolding performed operationIn
     does-shift number work h other e made =

@@ -1,7 +1,7 @@
 -- The works that the code makes are sound, by what is to be done.
 use Rattle.basis.specs.Names.{_≡_, refl, List, ℕ, _<_, getD}
 use Rattle.basis.proofs.Names.{arith}
-use Rattle.lanes.specs.Operations.{numbered, MOVE}
+use Rattle.lanes.specs.Operations.{described, MOVE}
 use Rattle.words.specs.Buffer.{loaded}
 use Rattle.machine.specs.declared.operands.Spot.{Spot}
 use Rattle.machine.specs.declared.operands.Spot.the-variants.{Mmx, Integer, Bytes, Refused}
@@ -21,7 +21,7 @@ sound-refusal refusal h =
     record { operates = λ e. absurd (omega arith); moves = λ e. absurd (omega arith); refuses = λ a b c d. h }
 
 pub sound-put : (x : Spot) (size value next : ℕ) → Named x → Sound (putWork x size value next)
-sound-put (Mmx k) size value next h = sound-operation (numbered MOVE .0) k value next h
+sound-put (Mmx k) size value next h = sound-operation (described MOVE .number) k value next h
 sound-put (Integer k) size value next h =
     record { operates = λ e. absurd (omega arith); moves = λ e. h; refuses = λ a b c d. absurd (c refl) }
 sound-put (Bytes a) size value next h =

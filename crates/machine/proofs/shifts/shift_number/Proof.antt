@@ -7,5 +7,5 @@ pub shift-number-spec : {M : Type 1} → statement M
 shift-number-spec =
     tie.close
     (tie.spec
-    (λ c. search shifting) (λ c. search shifting) (λ c. search shifting) (λ c. search shifting) (λ c. search shifting) (λ c. search shifting)
+    (λ c κs. search shifting) (λ c. search shifting) (λ c κs. search shifting) (λ c. search shifting) (λ c κs. search shifting) (λ c. search shifting)
     (λ c. search shifting))
