@@ -14,9 +14,9 @@ pub mod Endings
 pub mod Uses
 pub mod Direct
 pub mod Meeting
-pub mod OpcodeTable
 pub mod Plates
 pub mod Edges
 pub mod FootprintTable
 pub mod Example
 pub mod Computed
+pub mod OpcodeTable
