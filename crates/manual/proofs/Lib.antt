@@ -1,5 +1,5 @@
 -- The laws of the manual's rules: the places obey the laws of lists, reading is local, and so demand 3; a run is its steps; what refusals keep;
--- what a footprint says, and which meet; the manual's headings; examples that the definitions compute.
+-- what a footprint says, and which meet; examples that the definitions compute; document 01's table of opcodes.
 pub mod Lists
 pub mod Marking
 pub mod Shapes
