@@ -9,10 +9,11 @@ use Rattle.codec.specs.Reasons.{Starts, StartsNotAllowed}
 use Rattle.codec.proofs.FormNumbers.{isFree, free-allows}
 use Rattle.codec.proofs.Bytes.{found-has}
 
+-- the digits that document 01 lists
 pub data Shifts : ℕ → List ℕ → Type 0 where
-  words : Shifts 0x71 (6 ∷ 4 ∷ 2 ∷ [])
-  doublewords : Shifts 0x72 (6 ∷ 4 ∷ 2 ∷ [])
-  quadwords : Shifts 0x73 (6 ∷ 2 ∷ [])
+  words : Shifts 0x71 (2 ∷ 4 ∷ 6 ∷ [])
+  doublewords : Shifts 0x72 (2 ∷ 4 ∷ 6 ∷ [])
+  quadwords : Shifts 0x73 (2 ∷ 6 ∷ [])
 
 pub record Six (s : List ℕ) : Type 0 where
   pub second : ℕ
@@ -53,9 +54,9 @@ a-shift : (second : ℕ) → isAmong second bytes ≡ true → (digits : List �
 a-shift second h = by (eqb second 0x71) (eqb second 0x72) (eqb second 0x73) refl refl refl h
   where
     by : (a b c : Bool) → eqb second 0x71 ≡ a → eqb second 0x72 ≡ b → eqb second 0x73 ≡ c → (a || (b || (c || false))) ≡ true → (digits : List ℕ) × Shifts second digits
-    by true b c ea eb ec h = (_, subst (λ (k : ℕ). Shifts k (6 ∷ 4 ∷ 2 ∷ [])) (sym (eqb-true second 0x71 ea)) words)
-    by false true c ea eb ec h = (_, subst (λ (k : ℕ). Shifts k (6 ∷ 4 ∷ 2 ∷ [])) (sym (eqb-true second 0x72 eb)) doublewords)
-    by false false true ea eb ec h = (_, subst (λ (k : ℕ). Shifts k (6 ∷ 2 ∷ [])) (sym (eqb-true second 0x73 ec)) quadwords)
+    by true b c ea eb ec h = (_, subst (λ (k : ℕ). Shifts k (2 ∷ 4 ∷ 6 ∷ [])) (sym (eqb-true second 0x71 ea)) words)
+    by false true c ea eb ec h = (_, subst (λ (k : ℕ). Shifts k (2 ∷ 4 ∷ 6 ∷ [])) (sym (eqb-true second 0x72 eb)) doublewords)
+    by false false true ea eb ec h = (_, subst (λ (k : ℕ). Shifts k (2 ∷ 6 ∷ [])) (sym (eqb-true second 0x73 ec)) quadwords)
     by false false false ea eb ec h = absurd (false≢true h)
 
 pub six-in-words : (s : List ℕ) → StartsNotAllowed s ↔ Six s

@@ -2,9 +2,10 @@
 -- effects and footprints all go by this list.
 use Rattle.basis.specs.Names.{ℕ, String, List, [], _∷_, _++_, Option, none, some}
 use Rattle.lanes.specs.Operations.{Operation, PUNPCKLBW, PUNPCKLWD, PUNPCKLDQ, PACKSSWB, PACKUSWB, PACKSSDW, PCMPGTB, PCMPGTW, PCMPGTD, PUNPCKHBW, PUNPCKHWD, PUNPCKHDQ, MOVE, PCMPEQB, PCMPEQW, PCMPEQD, PSRLW, PSRLD, PSRLQ, PSRAW, PSRAD, PSLLW, PSLLD, PSLLQ, PMULLW, PMULHW, PMADDWD, PSUBUSB, PSUBUSW, PADDUSB, PADDUSW, PSUBSB, PSUBSW, PADDSB, PADDSW, PAND, PANDN, POR, PXOR, PSUBB, PSUBW, PSUBD, PADDB, PADDW, PADDD, KEEP}
-use Rattle.codec.specs.Forms.{Form, alone, mmreg2·imm8/642, mmreg2·imm8/62, reg32/mem32←mmreg1, mmreg1←reg32/mem32, mmreg2/mem64←mmreg1, mmreg1·mmreg2/mem32, mmreg1·mmreg2/mem64, mmreg1←mmreg2/mem64}
+use Rattle.codec.specs.Forms.{Form, alone, mmreg1·imm8/2/4/6, mmreg1·imm8/2/6, reg32/mem32←mmreg1, mmreg1←reg32/mem32, mmreg2/mem64←mmreg1, mmreg1·mmreg2/mem32, mmreg1·mmreg2/mem64, mmreg1←mmreg2/mem64}
 
--- an instruction: the byte after 0F, the digit in reg, if it has one, its form, and what it computes
+-- a line of a heading: the byte after 0F, the digit that reg must be, if any, the form, and the operation (MOVE leaves the source, KEEP computes
+-- nothing)
 pub record Line : Type 0 where
   pub second : ℕ
   pub digit : Option ℕ
@@ -14,14 +15,15 @@ pub record Line : Type 0 where
 abbrev line : ℕ → Form → Operation → Line
 line second form operation = record { second = second; digit = none; form = form; operation = operation }
 
-abbrev digit : ℕ → ℕ → Form → Operation → Line
-digit second d form operation = record { second = second; digit = some d; form = form; operation = operation }
+-- a line with a digit, as 0F 72 /6
+abbrev line/digit : ℕ → ℕ → Form → Operation → Line
+line/digit second digit form operation = record { second = second; digit = some digit; form = form; operation = operation }
 
 pub data Heading : Type 0 where
   heading : String → List Line → Heading
 
--- (a heading's name is for the reader: its bytes decide. PCMPGTD goes by its heading, though its text names another; the low unpacks have mem32
--- since revision D)
+-- a heading's name is for the reader: its bytes decide. PCMPGTD goes by its heading, though its text names another; the low unpacks have mem32 since
+-- revision D
 abbrev pub contents : List Heading
 contents =
     heading "EMMS" (line 0x77 alone KEEP ∷ [])
@@ -49,14 +51,14 @@ contents =
     ∷ heading "PMULHW" (line 0xe5 mmreg1·mmreg2/mem64 PMULHW ∷ [])
     ∷ heading "PMULLW" (line 0xd5 mmreg1·mmreg2/mem64 PMULLW ∷ [])
     ∷ heading "POR" (line 0xeb mmreg1·mmreg2/mem64 POR ∷ [])
-    ∷ heading "PSLLD" (line 0xf2 mmreg1·mmreg2/mem64 PSLLD ∷ digit 0x72 6 mmreg2·imm8/642 PSLLD ∷ [])
-    ∷ heading "PSLLQ" (line 0xf3 mmreg1·mmreg2/mem64 PSLLQ ∷ digit 0x73 6 mmreg2·imm8/62 PSLLQ ∷ [])
-    ∷ heading "PSLLW" (line 0xf1 mmreg1·mmreg2/mem64 PSLLW ∷ digit 0x71 6 mmreg2·imm8/642 PSLLW ∷ [])
-    ∷ heading "PSRAD" (line 0xe2 mmreg1·mmreg2/mem64 PSRAD ∷ digit 0x72 4 mmreg2·imm8/642 PSRAD ∷ [])
-    ∷ heading "PSRAW" (line 0xe1 mmreg1·mmreg2/mem64 PSRAW ∷ digit 0x71 4 mmreg2·imm8/642 PSRAW ∷ [])
-    ∷ heading "PSRLD" (line 0xd2 mmreg1·mmreg2/mem64 PSRLD ∷ digit 0x72 2 mmreg2·imm8/642 PSRLD ∷ [])
-    ∷ heading "PSRLQ" (line 0xd3 mmreg1·mmreg2/mem64 PSRLQ ∷ digit 0x73 2 mmreg2·imm8/62 PSRLQ ∷ [])
-    ∷ heading "PSRLW" (line 0xd1 mmreg1·mmreg2/mem64 PSRLW ∷ digit 0x71 2 mmreg2·imm8/642 PSRLW ∷ [])
+    ∷ heading "PSLLD" (line 0xf2 mmreg1·mmreg2/mem64 PSLLD ∷ line/digit 0x72 6 mmreg1·imm8/2/4/6 PSLLD ∷ [])
+    ∷ heading "PSLLQ" (line 0xf3 mmreg1·mmreg2/mem64 PSLLQ ∷ line/digit 0x73 6 mmreg1·imm8/2/6 PSLLQ ∷ [])
+    ∷ heading "PSLLW" (line 0xf1 mmreg1·mmreg2/mem64 PSLLW ∷ line/digit 0x71 6 mmreg1·imm8/2/4/6 PSLLW ∷ [])
+    ∷ heading "PSRAD" (line 0xe2 mmreg1·mmreg2/mem64 PSRAD ∷ line/digit 0x72 4 mmreg1·imm8/2/4/6 PSRAD ∷ [])
+    ∷ heading "PSRAW" (line 0xe1 mmreg1·mmreg2/mem64 PSRAW ∷ line/digit 0x71 4 mmreg1·imm8/2/4/6 PSRAW ∷ [])
+    ∷ heading "PSRLD" (line 0xd2 mmreg1·mmreg2/mem64 PSRLD ∷ line/digit 0x72 2 mmreg1·imm8/2/4/6 PSRLD ∷ [])
+    ∷ heading "PSRLQ" (line 0xd3 mmreg1·mmreg2/mem64 PSRLQ ∷ line/digit 0x73 2 mmreg1·imm8/2/6 PSRLQ ∷ [])
+    ∷ heading "PSRLW" (line 0xd1 mmreg1·mmreg2/mem64 PSRLW ∷ line/digit 0x71 2 mmreg1·imm8/2/4/6 PSRLW ∷ [])
     ∷ heading "PSUBB" (line 0xf8 mmreg1·mmreg2/mem64 PSUBB ∷ [])
     ∷ heading "PSUBD" (line 0xfa mmreg1·mmreg2/mem64 PSUBD ∷ [])
     ∷ heading "PSUBSB" (line 0xe8 mmreg1·mmreg2/mem64 PSUBSB ∷ [])

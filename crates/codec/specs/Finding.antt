@@ -1,4 +1,4 @@
--- Reading with a table that is lent, as plain numbers: the refusal, or 0 with the table's number, the instruction and the position after it.
+-- Reading with a table that is lent, as plain numbers: the refusal, or 0 with the table's entry, the instruction and the position after it.
 use Rattle.basis.specs.Names.{ℕ, List, getD, drop}
 use Rattle.codec.specs.Table.{formIn}
 use Rattle.codec.specs.Operands.{noOperand}
@@ -12,13 +12,13 @@ abbrev pub refusedAs : ℕ → Found
 refusedAs refusal =
     record { refusal = refusal; entry = 0; instruction = instructionOf 0 0 noOperand 0; next = 0 }
 
--- a reading, with the number that the table has for the opcode
+-- a reading, with the entry that the table has for the opcode
 abbrev pub found : ℕ → Decoded → Found
 found entry (good instruction next) =
     record { refusal = 0; entry = entry; instruction = instruction; next = next }
 found entry (refused refusal) = refusedAs refusal
 
--- a reading, with the number that a table has for the instruction's second byte
+-- a reading, with the entry that a table has for the instruction's second byte
 abbrev pub foundIn : List ℕ → Decoded → Found
 foundIn table (good instruction next) = found (getD table (instruction .second) 0) (good instruction next)
 foundIn table (refused refusal) = refusedAs refusal

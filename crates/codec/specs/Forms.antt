@@ -1,4 +1,4 @@
--- The forms of instructions: the operands as the manual writes them, with what each is used for; and what a form says of the bytes after the opcode.
+-- The forms of instructions: the operands in the manual's notation, with what each is used for; and what a form says of the bytes after the opcode.
 use Rattle.basis.specs.Names.{ℕ, List, [], _∷_, Bool, true, false, _&&_, _||_, eqb}
 use Rattle.codec.specs.declared.Kind.{Kind}
 use Rattle.codec.specs.declared.Kind.the-variants.{Ordinary, Emms}
@@ -7,11 +7,11 @@ use Rattle.codec.specs.declared.Kind.the-variants.{Ordinary, Emms}
 pub data Use : Type 0 where
   read written updated : Use
 
--- the eight registers of a sort
+-- the MMX registers, or the integer registers
 pub data File : Type 0 where
   mmxFile integerFile : File
 
--- which operand it is
+-- where an operand is encoded
 pub data Slot : Type 0 where
   -- the register that reg names; the register that rm names, at mod 11 alone
   reg rm : File → Slot
@@ -36,7 +36,7 @@ abbrev pub reg32/mem32 : Slot
 reg32/mem32 = rm/mem integerFile 4
 
 pub record Form : Type 0 where
-  -- its number in the code's table: 16 and more are a destination and a source, of which r/m names one
+  -- its number in the code's table (0: no instruction); from 16 on are the forms of a destination and a source, one named by reg, the other by r/m
   pub number : ℕ
   -- what reg may be where it is a digit of the opcode; none where it names a register
   pub digits : List ℕ
@@ -46,7 +46,7 @@ pub record Form : Type 0 where
   pub immediate : ℕ
   pub kind : Kind
 
--- Forms, by their operands in the manual's notation: ← where the destination is not read
+-- Forms, by their operands in the manual's notation: ← where the destination is only written, · where it is read too
 
 -- no instruction
 abbrev pub absent : Form
@@ -56,12 +56,12 @@ absent = record { number = 0; digits = []; operands = []; immediate = 0; kind = 
 abbrev pub alone : Form
 alone = record { number = 1; digits = []; operands = []; immediate = 0; kind = Emms }
 
--- a register shifted by an immediate byte: /2 right logical, /4 right arithmetic, /6 left
-abbrev pub mmreg2·imm8/642 : Form
-mmreg2·imm8/642 = record { number = 2; digits = 6 ∷ 4 ∷ 2 ∷ []; operands = (updated, mmreg2) ∷ []; immediate = 1; kind = Ordinary }
+-- the manual's mmreg1, imm8: the register is the one that rm names, and reg has the digit: /2 right logical, /4 right arithmetic, /6 left
+abbrev pub mmreg1·imm8/2/4/6 : Form
+mmreg1·imm8/2/4/6 = record { number = 2; digits = 2 ∷ 4 ∷ 6 ∷ []; operands = (updated, mmreg2) ∷ []; immediate = 1; kind = Ordinary }
 
-abbrev pub mmreg2·imm8/62 : Form
-mmreg2·imm8/62 = record { number = 3; digits = 6 ∷ 2 ∷ []; operands = (updated, mmreg2) ∷ []; immediate = 1; kind = Ordinary }
+abbrev pub mmreg1·imm8/2/6 : Form
+mmreg1·imm8/2/6 = record { number = 3; digits = 2 ∷ 6 ∷ []; operands = (updated, mmreg2) ∷ []; immediate = 1; kind = Ordinary }
 
 -- an ordinary instruction of a destination and a source
 abbrev of : ℕ → Use × Slot → Slot → Form
@@ -83,12 +83,13 @@ mmreg1←mmreg2/mem64 = of 19 (written, mmreg1) mmreg2/mem64
 abbrev pub mmreg1·mmreg2/mem32 : Form
 mmreg1·mmreg2/mem32 = of 20 (updated, mmreg1) mmreg2/mem32
 
+-- (the usual form)
 abbrev pub mmreg1·mmreg2/mem64 : Form
 mmreg1·mmreg2/mem64 = of 21 (updated, mmreg1) mmreg2/mem64
 
 abbrev pub forms : List Form
 forms =
-    absent ∷ alone ∷ mmreg2·imm8/642 ∷ mmreg2·imm8/62
+    absent ∷ alone ∷ mmreg1·imm8/2/4/6 ∷ mmreg1·imm8/2/6
     ∷ reg32/mem32←mmreg1 ∷ mmreg1←reg32/mem32 ∷ mmreg2/mem64←mmreg1 ∷ mmreg1←mmreg2/mem64 ∷ mmreg1·mmreg2/mem32 ∷ mmreg1·mmreg2/mem64 ∷ []
 
 -- What a form says
@@ -96,17 +97,13 @@ forms =
 abbrev pub isAbsent : Form → Bool
 isAbsent form = eqb (form .number) 0
 
-abbrev isAny : {A : Type 0} → List A → Bool
+abbrev pub isAny : {A : Type 0} → List A → Bool
 isAny [] = false
 isAny (x ∷ xs) = true
 
 -- whether there is a ModRM byte
 abbrev pub hasOperand : Form → Bool
 hasOperand form = isAny (form .operands)
-
--- whether its reg is a digit of the opcode
-abbrev pub hasDigits : Form → Bool
-hasDigits form = isAny (form .digits)
 
 abbrev pub isAmong : ℕ → List ℕ → Bool
 isAmong value [] = false
@@ -117,7 +114,7 @@ abbrev pub digitAmong : List ℕ → ℕ → Bool
 digitAmong [] digit = true
 digitAmong (x ∷ xs) digit = isAmong digit (x ∷ xs)
 
--- whether an operand may be a register, at mod 11, or else in memory
+-- whether an operand allows mod 11 (true), or another mod (false)
 abbrev pub slotAllows : Slot → Bool → Bool
 slotAllows (reg file) register = true
 slotAllows (rm file) register = register
@@ -127,9 +124,9 @@ abbrev pub slotsAllow : List (Use × Slot) → Bool → Bool → Bool
 slotsAllow [] register rest = rest
 slotsAllow ((how, slot) ∷ xs) register rest = slotAllows slot register && slotsAllow xs register rest
 
--- what a ModRM byte may be
+-- what a ModRM byte may be, by its fields mod, reg and rm: mod for each operand, reg where it is a digit; rm restrains no form
 unfoldable pub allows : Form → ℕ → ℕ → ℕ → Bool
-allows form mode digit other = slotsAllow (form .operands) (eqb mode 3) (digitAmong (form .digits) digit)
+allows form upper middle lower = slotsAllow (form .operands) (eqb upper 3) (digitAmong (form .digits) middle)
 
 abbrev pub immediateSize : Form → ℕ
 immediateSize form = form .immediate

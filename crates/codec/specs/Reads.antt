@@ -46,10 +46,10 @@ unfoldable pub refusalOf : ℕ → ℕ
 refusalOf first = cond (isAmong first prefixes) prefixed notListed
 
 -- from the start, by what a table says of the second byte
-module _ (formOf : ℕ → Form) where
+module _ (formFor : ℕ → Form) where
   -- the second byte
   unfoldable pub secondReader : ℕ → Reader
-  secondReader first = byte (λ second. formReader (formOf second) first second)
+  secondReader first = byte (λ second. formReader (formFor second) first second)
 
   -- the first byte
   unfoldable pub instructionReader : Reader

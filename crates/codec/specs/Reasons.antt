@@ -1,4 +1,5 @@
--- When each refusal of reading is due, in document 01's words, of what is left of a code from the position on.
+-- When each refusal of reading is due, of the rest of a code from the position on: in document 01's words, but for 6, whose words are a theorem
+-- (proofs/Sixes.antt).
 use Rattle.basis.specs.Names.{ℕ, _≤_, _<_, _≡_, _⊎_, true, false, List, [], _∷_, _++_, eqb, length, drop}
 use Rattle.words.specs.Number.{AllBytes}
 use Rattle.codec.specs.Refusals.{codeTooLong, codeEnds, prefixed, notListed, notAllowed}

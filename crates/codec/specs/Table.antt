@@ -1,6 +1,6 @@
--- The code's table: a number for each second byte, with a byte each, from the highest down, for the form, the operand's size in memory, the lane width
--- and the operation (of 71 to 73, that of /2).
-use Rattle.basis.specs.Names.{ℕ, zero, suc, _+_, _*_, _/_, _^_, List, [], _∷_, cond, eqb, getD}
+-- The code's table: for each second byte an entry, a number of four bytes. From the highest they are the form's number, the size of the operand in
+-- memory, the lane width, and the operation's number.
+use Rattle.basis.specs.Names.{ℕ, zero, suc, _+_, _*_, _/_, _^_, List, [], _∷_, eqb, getD}
 use Rattle.lanes.specs.Operations.{described}
 use Rattle.codec.specs.Forms.{Form, mmreg1·mmreg2/mem64, forms, memorySize}
 use Rattle.codec.specs.Opcodes.{find, formAt, operationAt}
@@ -9,7 +9,7 @@ use Rattle.codec.specs.Opcodes.{find, formAt, operationAt}
 abbrev pub formOf : ℕ → Form
 formOf number = find (λ form. eqb number (form .number)) (λ form. form) mmreg1·mmreg2/mem64 forms
 
--- what it holds for a second byte
+-- the entry of a second byte (2 is the digit /2, which 71 to 73 all have; other lines don't look at reg)
 abbrev pub entryAt : ℕ → ℕ
 entryAt second =
     let form = formAt second in
@@ -25,6 +25,6 @@ listed f from (suc count) = f from ∷ listed f (suc from) count
 unfoldable pub opcodeTable : List ℕ
 opcodeTable = listed entryAt 0 256
 
--- what any table of such numbers says of a second byte
+-- what any table of such entries says of a second byte
 abbrev pub formIn : List ℕ → ℕ → Form
 formIn table second = formOf (getD table second 0 / 2 ^ 24)

@@ -1,4 +1,4 @@
--- `table` meets its contract: packing the rows computes the constant, number by number.
+-- `table` meets its contract: the entries that the list asks for compute to the constant, number by number.
 use Rattle.basis.specs.Names.{refl}
 use Rattle.codec.specs.Table.{opcodeTable}
 use Rattle.codec.specs.Opcodes.{formAt, operationAt}

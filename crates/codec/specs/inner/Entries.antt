@@ -1,12 +1,16 @@
 -- What the code has of an entry: the operation that it names, and what is found after an opcode.
-use Rattle.basis.specs.Names.{ℕ, _/_, _%_, _^_, List, cond, eqb, drop}
+use Rattle.basis.specs.Names.{ℕ, _/_, _%_, _^_, List, Bool, cond, eqb, drop}
 use Rattle.lanes.specs.Operations.{Operation, PSRLW, PSRLD, PSRLQ, PSRAW, PSRAD, PSLLW, PSLLD, PSLLQ, KEEP, operationOf}
-use Rattle.codec.specs.Forms.{Form, hasDigits}
+use Rattle.codec.specs.Forms.{Form, isAny}
 use Rattle.codec.specs.Table.{formOf}
 use Rattle.codec.specs.Reader.{Reader, reads}
 use Rattle.codec.specs.Finding.{found}
 use Rattle.codec.specs.declared.reader.Opcode.{Opcode}
 use Rattle.codec.specs.declared.Found.{Found}
+
+-- whether its reg is a digit of the opcode
+abbrev pub hasDigits : Form → Bool
+hasDigits form = isAny (form .digits)
 
 -- of a word, doubleword and quadword operation, the one for the width
 abbrev pub ofWidth : ℕ → Operation → Operation → Operation → Operation
@@ -19,10 +23,10 @@ shiftOf width digit =
     (cond (eqb digit 4) (ofWidth width PSRAW PSRAD KEEP)
     (cond (eqb digit 6) (ofWidth width PSLLW PSLLD PSLLQ) KEEP))
 
--- the operation that a number names, with what stands in reg
+-- the operation that an entry names, with what stands in reg
 unfoldable pub operationIn : ℕ → ℕ → Operation
-operationIn number reg =
-    cond (hasDigits (formOf (number / 2 ^ 24))) (shiftOf (number / 2 ^ 8 % 256) reg) (operationOf (number % 256))
+operationIn entry reg =
+    cond (hasDigits (formOf (entry / 2 ^ 24))) (shiftOf (entry / 2 ^ 8 % 256) reg) (operationOf (entry % 256))
 
 -- what is found at a position after an opcode, by one of the readers of its form
 abbrev pub foundAfter : Opcode → (Form → ℕ → ℕ → Reader) → List ℕ → ℕ → Found

@@ -5,7 +5,8 @@ use Rattle.lanes.specs.Operations.{Operation, operationOf, operate, MOVE}
 use Rattle.words.specs.Number.{bytes}
 use Rattle.words.proofs.Laws.{loaded-bytewise, stored-bytewise}
 use Rattle.reorder.specs.Result.{Result, done, andThen}
-use Rattle.codec.specs.Forms.{File, rm/mem, Form, hasDigits, memorySize}
+use Rattle.codec.specs.Forms.{File, rm/mem, Form, memorySize}
+use Rattle.codec.specs.inner.Entries.{hasDigits}
 use Rattle.codec.specs.inner.Fields.{Registers}
 use Rattle.codec.specs.Table.{formOf}
 use Rattle.codec.specs.inner.Entries.{shiftOf, operationIn}

@@ -2,7 +2,7 @@
 use Rattle.basis.specs.Names.{_≡_, refl, _⊎_, Bool, true, false, cond, _||_, List, [], _∷_, ℕ, _/_, _%_, _^_, _≤_, _<_, eqb}
 use Rattle.basis.proofs.Names.{sym, subst, inl, inr, false≢true, arith, ne-eqb, eqb-true}
 use Rattle.words.specs.Number.{bytes}
-use Rattle.codec.specs.Forms.{Use, read, written, updated, File, mmxFile, integerFile, Slot, rm/mem, mmreg1, Form, mmreg2·imm8/642, mmreg2·imm8/62, isAmong, memorySize}
+use Rattle.codec.specs.Forms.{Use, read, written, updated, File, mmxFile, integerFile, Slot, rm/mem, mmreg1, Form, mmreg1·imm8/2/4/6, mmreg1·imm8/2/6, isAmong, memorySize}
 use Rattle.codec.specs.Table.{formOf}
 use Rattle.codec.specs.declared.Kind.the-variants.{Ordinary}
 use Rattle.manual.specs.Instructions.{heldBy}
@@ -116,8 +116,8 @@ other n h two = by (wayOf n) (formOf n) (shape n h two)
 
 -- the forms of the shifts by an immediate
 pub data Shifting : Form → Type 0 where
-  shifts-WD : Shifting mmreg2·imm8/642
-  shifts-Q : Shifting mmreg2·imm8/62
+  shifts-WD : Shifting mmreg1·imm8/2/4/6
+  shifts-Q : Shifting mmreg1·imm8/2/6
 
 pub shifting : (n : ℕ) → isListed n ≡ true → n < 16 → (n ≡ 1 → ⊥) → (n ≡ 0 → ⊥) → Shifting (formOf n)
 shifting n h =
