@@ -1,4 +1,4 @@
--- What the laws take from the kit beside that.
+-- What the laws take from the kit beside what the definitions take.
 pub use Prim.Native.Nat.{max, zero-le}
 pub use borrow.Author.Needs.{needs}
 pub use borrow.Author.Tests.{eq-eqb, eqb-false, eqb-true, le-leb, le-ltb, leb-false, leb-true, lt-leb, lt-ltb, ltb-false, ltb-true, ne-eqb, not-false, not-true}

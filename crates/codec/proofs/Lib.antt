@@ -1,4 +1,5 @@
--- The laws of the codec, in the order in which they build on each other; its theorems are in Theorems, Exactly, OpcodeBytes, Example and Allowed.
+-- The laws of the codec, in the order in which they build on each other; its theorems are in Theorems, Exactly, Headings, Sixes,
+-- OpcodeBytes, Example and Allowed.
 pub mod Tests
 pub mod Joined
 pub mod Sizes

@@ -1,4 +1,4 @@
--- The definitions of the codec, in the order in which they build on each other.
+-- The definitions of the codec, in the order in which they build on each other; then the words of private contracts.
 pub mod Refusals
 pub mod Answers
 pub mod Forms

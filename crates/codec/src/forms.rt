@@ -1,6 +1,6 @@
 // The parts of an entry of the table, and the forms by their numbers in it.
 
-// The places of form, operand size and lane width, and how many values a part has. The operation is lowest.
+// What form, operand size and lane width are multiplied by in an entry, and how many values a part has. The operation is lowest.
 pub const FORM: u32 = 0x1000000;
 
 pub const SIZE: u32 = 0x10000;
@@ -16,27 +16,34 @@ pub const RIGHT_SIGNED: u8 = 4;
 
 pub const LEFT: u8 = 6;
 
-// The forms: none, EMMS, the shifts by an immediate of a word or doubleword and of a quadword.
+// No instruction.
 pub(crate) const ABSENT: u32 = 0;
 
+// EMMS, alone.
 pub const EMMS: u32 = 1;
 
+// mmreg1, imm8: the shifts of words and doublewords, and those of a quadword, which have no /4.
 pub(crate) const SHIFT_WD: u32 = 2;
 
 pub(crate) const SHIFT_Q: u32 = 3;
 
-// The forms from here on have a destination and a source, of which r/m names one: first MOVD from MMX and to MMX, whose r/m may name an integer
-// register, then MOVQ's store form and its load form, the low unpacks, and the usual form.
+// From here on: a destination and a source, one named by reg, the other by r/m. Up to LOAD_D, r/m may name an integer register.
 pub const TWO_OPERANDS: u32 = 16;
 
+// reg32/mem32, mmreg1: MOVD from MMX.
 pub const STORE_D: u32 = 16;
 
+// mmreg1, reg32/mem32: MOVD to MMX.
 pub const LOAD_D: u32 = 17;
 
+// mmreg2/mem64, mmreg1: MOVQ's store form.
 pub const STORE_Q: u32 = 18;
 
+// mmreg1, mmreg2/mem64, and mmreg1 is only written: MOVQ's load form.
 pub const LOAD_Q: u32 = 19;
 
+// mmreg1, mmreg2/mem32: the low unpacks.
 pub(crate) const LOW: u32 = 20;
 
+// mmreg1, mmreg2/mem64: the usual form.
 pub(crate) const USUAL: u32 = 21;

@@ -1,4 +1,4 @@
-// The values of mod, rm and base that mean something else than a register's number.
+// The values of mod, and the values of rm, index and base that name no register.
 
 // mod.
 pub const NO_DISPLACEMENT: u8 = 0;

@@ -30,7 +30,7 @@ pub(crate) fn form_for(second: u8) -> u32
     TABLE[second as usize] / FORM
 }
 
-// The form and the operand's size in memory: MOVD and MOVQ to r/m and from it, and what computes with the operand of r/m.
+// The form and the size of the operand in memory.
 const STORE_DOUBLEWORD: u32 = STORE_D * FORM + 4 * SIZE;
 
 const LOAD_DOUBLEWORD: u32 = LOAD_D * FORM + 4 * SIZE;
@@ -43,14 +43,10 @@ const WITH_DOUBLEWORD: u32 = LOW * FORM + 4 * SIZE;
 
 const WITH_QUADWORD: u32 = USUAL * FORM + 8 * SIZE;
 
-// The form of what has no operand in memory: the shifts by an immediate, EMMS, and a byte that the table has not.
+// The form of the shifts by an immediate, which have no operand in memory.
 const SHIFT: u32 = SHIFT_WD * FORM;
 
-const SHIFT_LONG: u32 = SHIFT_Q * FORM;
-
-const ALONE: u32 = EMMS * FORM + WHOLE + lanes::KEEP as u32;
-
-const NONE: u32 = ABSENT * FORM + WHOLE + lanes::KEEP as u32;
+const SHIFT_QUADWORD: u32 = SHIFT_Q * FORM;
 
 // The lane width.
 const BYTES: u32 = 8 * LANE;
@@ -61,9 +57,13 @@ const DOUBLEWORDS: u32 = 32 * LANE;
 
 const WHOLE: u32 = 64 * LANE;
 
-// By the second byte, sixteen after each comment.
+// Whole entries: EMMS, and a byte that the table has not.
+const ALONE: u32 = EMMS * FORM + WHOLE + lanes::KEEP as u32;
+
+const NONE: u32 = ABSENT * FORM + WHOLE + lanes::KEEP as u32;
+
+// The entries by the second byte.
 pub(crate) const TABLE: [u32; 256] = [
-    // 00
     NONE,
     NONE,
     NONE,
@@ -80,7 +80,6 @@ pub(crate) const TABLE: [u32; 256] = [
     NONE,
     NONE,
     NONE,
-    // 10
     NONE,
     NONE,
     NONE,
@@ -97,7 +96,6 @@ pub(crate) const TABLE: [u32; 256] = [
     NONE,
     NONE,
     NONE,
-    // 20
     NONE,
     NONE,
     NONE,
@@ -114,7 +112,6 @@ pub(crate) const TABLE: [u32; 256] = [
     NONE,
     NONE,
     NONE,
-    // 30
     NONE,
     NONE,
     NONE,
@@ -131,7 +128,6 @@ pub(crate) const TABLE: [u32; 256] = [
     NONE,
     NONE,
     NONE,
-    // 40
     NONE,
     NONE,
     NONE,
@@ -148,7 +144,6 @@ pub(crate) const TABLE: [u32; 256] = [
     NONE,
     NONE,
     NONE,
-    // 50
     NONE,
     NONE,
     NONE,
@@ -165,41 +160,38 @@ pub(crate) const TABLE: [u32; 256] = [
     NONE,
     NONE,
     NONE,
-    // 60
-    WITH_DOUBLEWORD + BYTES + lanes::PUNPCKLBW as u32,
-    WITH_DOUBLEWORD + WORDS + lanes::PUNPCKLWD as u32,
-    WITH_DOUBLEWORD + DOUBLEWORDS + lanes::PUNPCKLDQ as u32,
-    WITH_QUADWORD + BYTES + lanes::PACKSSWB as u32,
-    WITH_QUADWORD + BYTES + lanes::PCMPGTB as u32,
-    WITH_QUADWORD + WORDS + lanes::PCMPGTW as u32,
-    WITH_QUADWORD + DOUBLEWORDS + lanes::PCMPGTD as u32,
-    WITH_QUADWORD + BYTES + lanes::PACKUSWB as u32,
-    WITH_QUADWORD + BYTES + lanes::PUNPCKHBW as u32,
-    WITH_QUADWORD + WORDS + lanes::PUNPCKHWD as u32,
-    WITH_QUADWORD + DOUBLEWORDS + lanes::PUNPCKHDQ as u32,
-    WITH_QUADWORD + WORDS + lanes::PACKSSDW as u32,
+    WITH_DOUBLEWORD + BYTES + lanes::PUNPCKLBW as u32, // 60
+    WITH_DOUBLEWORD + WORDS + lanes::PUNPCKLWD as u32, // 61
+    WITH_DOUBLEWORD + DOUBLEWORDS + lanes::PUNPCKLDQ as u32, // 62
+    WITH_QUADWORD + BYTES + lanes::PACKSSWB as u32, // 63
+    WITH_QUADWORD + BYTES + lanes::PCMPGTB as u32, // 64
+    WITH_QUADWORD + WORDS + lanes::PCMPGTW as u32, // 65
+    WITH_QUADWORD + DOUBLEWORDS + lanes::PCMPGTD as u32, // 66
+    WITH_QUADWORD + BYTES + lanes::PACKUSWB as u32, // 67
+    WITH_QUADWORD + BYTES + lanes::PUNPCKHBW as u32, // 68
+    WITH_QUADWORD + WORDS + lanes::PUNPCKHWD as u32, // 69
+    WITH_QUADWORD + DOUBLEWORDS + lanes::PUNPCKHDQ as u32, // 6a
+    WITH_QUADWORD + WORDS + lanes::PACKSSDW as u32, // 6b
     NONE,
     NONE,
-    LOAD_DOUBLEWORD + WHOLE + lanes::MOVE as u32,
-    LOAD_QUADWORD + WHOLE + lanes::MOVE as u32,
-    // 70
+    LOAD_DOUBLEWORD + WHOLE + lanes::MOVE as u32, // 6e
+    LOAD_QUADWORD + WHOLE + lanes::MOVE as u32, // 6f
     NONE,
-    SHIFT + WORDS + lanes::PSRLW as u32,
-    SHIFT + DOUBLEWORDS + lanes::PSRLD as u32,
-    SHIFT_LONG + WHOLE + lanes::PSRLQ as u32,
-    WITH_QUADWORD + BYTES + lanes::PCMPEQB as u32,
-    WITH_QUADWORD + WORDS + lanes::PCMPEQW as u32,
-    WITH_QUADWORD + DOUBLEWORDS + lanes::PCMPEQD as u32,
-    ALONE,
+    SHIFT + WORDS + lanes::PSRLW as u32, // 71
+    SHIFT + DOUBLEWORDS + lanes::PSRLD as u32, // 72
+    SHIFT_QUADWORD + WHOLE + lanes::PSRLQ as u32, // 73
+    WITH_QUADWORD + BYTES + lanes::PCMPEQB as u32, // 74
+    WITH_QUADWORD + WORDS + lanes::PCMPEQW as u32, // 75
+    WITH_QUADWORD + DOUBLEWORDS + lanes::PCMPEQD as u32, // 76
+    ALONE, // 77
     NONE,
     NONE,
     NONE,
     NONE,
     NONE,
     NONE,
-    STORE_DOUBLEWORD + WHOLE + lanes::MOVE as u32,
-    STORE_QUADWORD + WHOLE + lanes::MOVE as u32,
-    // 80
+    STORE_DOUBLEWORD + WHOLE + lanes::MOVE as u32, // 7e
+    STORE_QUADWORD + WHOLE + lanes::MOVE as u32, // 7f
     NONE,
     NONE,
     NONE,
@@ -216,7 +208,6 @@ pub(crate) const TABLE: [u32; 256] = [
     NONE,
     NONE,
     NONE,
-    // 90
     NONE,
     NONE,
     NONE,
@@ -233,7 +224,6 @@ pub(crate) const TABLE: [u32; 256] = [
     NONE,
     NONE,
     NONE,
-    // a0
     NONE,
     NONE,
     NONE,
@@ -250,7 +240,6 @@ pub(crate) const TABLE: [u32; 256] = [
     NONE,
     NONE,
     NONE,
-    // b0
     NONE,
     NONE,
     NONE,
@@ -267,7 +256,6 @@ pub(crate) const TABLE: [u32; 256] = [
     NONE,
     NONE,
     NONE,
-    // c0
     NONE,
     NONE,
     NONE,
@@ -284,55 +272,52 @@ pub(crate) const TABLE: [u32; 256] = [
     NONE,
     NONE,
     NONE,
-    // d0
     NONE,
-    WITH_QUADWORD + WORDS + lanes::PSRLW as u32,
-    WITH_QUADWORD + DOUBLEWORDS + lanes::PSRLD as u32,
-    WITH_QUADWORD + WHOLE + lanes::PSRLQ as u32,
+    WITH_QUADWORD + WORDS + lanes::PSRLW as u32, // d1
+    WITH_QUADWORD + DOUBLEWORDS + lanes::PSRLD as u32, // d2
+    WITH_QUADWORD + WHOLE + lanes::PSRLQ as u32, // d3
     NONE,
-    WITH_QUADWORD + WORDS + lanes::PMULLW as u32,
+    WITH_QUADWORD + WORDS + lanes::PMULLW as u32, // d5
     NONE,
     NONE,
-    WITH_QUADWORD + BYTES + lanes::PSUBUSB as u32,
-    WITH_QUADWORD + WORDS + lanes::PSUBUSW as u32,
+    WITH_QUADWORD + BYTES + lanes::PSUBUSB as u32, // d8
+    WITH_QUADWORD + WORDS + lanes::PSUBUSW as u32, // d9
     NONE,
-    WITH_QUADWORD + WHOLE + lanes::PAND as u32,
-    WITH_QUADWORD + BYTES + lanes::PADDUSB as u32,
-    WITH_QUADWORD + WORDS + lanes::PADDUSW as u32,
+    WITH_QUADWORD + WHOLE + lanes::PAND as u32, // db
+    WITH_QUADWORD + BYTES + lanes::PADDUSB as u32, // dc
+    WITH_QUADWORD + WORDS + lanes::PADDUSW as u32, // dd
     NONE,
-    WITH_QUADWORD + WHOLE + lanes::PANDN as u32,
-    // e0
+    WITH_QUADWORD + WHOLE + lanes::PANDN as u32, // df
     NONE,
-    WITH_QUADWORD + WORDS + lanes::PSRAW as u32,
-    WITH_QUADWORD + DOUBLEWORDS + lanes::PSRAD as u32,
+    WITH_QUADWORD + WORDS + lanes::PSRAW as u32, // e1
+    WITH_QUADWORD + DOUBLEWORDS + lanes::PSRAD as u32, // e2
     NONE,
     NONE,
-    WITH_QUADWORD + WORDS + lanes::PMULHW as u32,
+    WITH_QUADWORD + WORDS + lanes::PMULHW as u32, // e5
     NONE,
     NONE,
-    WITH_QUADWORD + BYTES + lanes::PSUBSB as u32,
-    WITH_QUADWORD + WORDS + lanes::PSUBSW as u32,
+    WITH_QUADWORD + BYTES + lanes::PSUBSB as u32, // e8
+    WITH_QUADWORD + WORDS + lanes::PSUBSW as u32, // e9
     NONE,
-    WITH_QUADWORD + WHOLE + lanes::POR as u32,
-    WITH_QUADWORD + BYTES + lanes::PADDSB as u32,
-    WITH_QUADWORD + WORDS + lanes::PADDSW as u32,
+    WITH_QUADWORD + WHOLE + lanes::POR as u32, // eb
+    WITH_QUADWORD + BYTES + lanes::PADDSB as u32, // ec
+    WITH_QUADWORD + WORDS + lanes::PADDSW as u32, // ed
     NONE,
-    WITH_QUADWORD + WHOLE + lanes::PXOR as u32,
-    // f0
+    WITH_QUADWORD + WHOLE + lanes::PXOR as u32, // ef
     NONE,
-    WITH_QUADWORD + WORDS + lanes::PSLLW as u32,
-    WITH_QUADWORD + DOUBLEWORDS + lanes::PSLLD as u32,
-    WITH_QUADWORD + WHOLE + lanes::PSLLQ as u32,
+    WITH_QUADWORD + WORDS + lanes::PSLLW as u32, // f1
+    WITH_QUADWORD + DOUBLEWORDS + lanes::PSLLD as u32, // f2
+    WITH_QUADWORD + WHOLE + lanes::PSLLQ as u32, // f3
     NONE,
-    WITH_QUADWORD + DOUBLEWORDS + lanes::PMADDWD as u32,
+    WITH_QUADWORD + DOUBLEWORDS + lanes::PMADDWD as u32, // f5
     NONE,
     NONE,
-    WITH_QUADWORD + BYTES + lanes::PSUBB as u32,
-    WITH_QUADWORD + WORDS + lanes::PSUBW as u32,
-    WITH_QUADWORD + DOUBLEWORDS + lanes::PSUBD as u32,
+    WITH_QUADWORD + BYTES + lanes::PSUBB as u32, // f8
+    WITH_QUADWORD + WORDS + lanes::PSUBW as u32, // f9
+    WITH_QUADWORD + DOUBLEWORDS + lanes::PSUBD as u32, // fa
     NONE,
-    WITH_QUADWORD + BYTES + lanes::PADDB as u32,
-    WITH_QUADWORD + WORDS + lanes::PADDW as u32,
-    WITH_QUADWORD + DOUBLEWORDS + lanes::PADDD as u32,
+    WITH_QUADWORD + BYTES + lanes::PADDB as u32, // fc
+    WITH_QUADWORD + WORDS + lanes::PADDW as u32, // fd
+    WITH_QUADWORD + DOUBLEWORDS + lanes::PADDD as u32, // fe
     NONE,
 ];

@@ -3,7 +3,7 @@ use Rattle.basis.specs.Names.{ℕ, _+_, _*_, _/_, _^_, _<_, min, Bool, true, fa
 use Rattle.basis.proofs.Names.{mod-lt, div-le-self, lt-of-le-of-lt, arith, pow-pos}
 use Rattle.lanes.specs.Lane.{lane}
 use Rattle.lanes.specs.Signed.{signed, wrap, clampSigned, clampUnsigned}
-use Rattle.lanes.specs.Rules.{pairwise, sum, difference, sumSigned, differenceSigned, sumUnsigned, differenceUnsigned, mask, equal, greater, productLow, productHigh, productSum, pack, unpack, shift, left, right, rightSigned}
+use Rattle.lanes.specs.Rules.{pairwise, sum, difference, sumSigned, differenceSigned, sumUnsigned, differenceUnsigned, allOnes, equal, greater, productLow, productHigh, productSum, pack, unpack, shift, left, right, rightSigned}
 use Rattle.lanes.proofs.Registers.{lane-lt}
 
 pub record Fits (rule : ℕ → ℕ → ℕ → ℕ → ℕ) : Type 0 where
@@ -14,7 +14,7 @@ unfolding wrap
 wrap-lt w (pos n) = mod-lt n (pow-pos w)
 wrap-lt w (negsuc n) = omega (arith, pow-pos w)
 
-mask-lt : (w : ℕ) (t : Bool) → mask w t < 2 ^ w
+mask-lt : (w : ℕ) (t : Bool) → allOnes w t < 2 ^ w
 mask-lt w true = omega (arith, pow-pos w)
 mask-lt w false = pow-pos w
 

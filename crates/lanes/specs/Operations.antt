@@ -1,5 +1,6 @@
--- The packed operations by the manual's headings, in the order of document 01's table of opcode bytes: the number, lane width and rule of each.
-use Rattle.basis.specs.Names.{ℕ, _≡_, refl, List, [], _∷_, getD, bitAnd, bitOr, bitXor}
+-- The packed operations by the manual's headings, in the order of document 01's table of opcode bytes, with MOVE, which leaves the source, and KEEP,
+-- which leaves the destination: the number, lane width and rule of each.
+use Rattle.basis.specs.Names.{ℕ, List, [], _∷_, getD, bitAnd, bitOr, bitXor}
 use Rattle.lanes.specs.Signed.{clampSigned, clampUnsigned}
 use Rattle.lanes.specs.Rules.{packed, pairwise, sum, difference, sumSigned, differenceSigned, sumUnsigned, differenceUnsigned, equal, greater, productLow, productHigh, productSum, pack, unpackLow, unpackHigh, andNot, shift, left, right, rightSigned}
 
@@ -28,8 +29,8 @@ pub record Described : Type 0 where
 abbrev inLanes : ℕ → ℕ → (ℕ → ℕ → ℕ → ℕ → ℕ) → Described
 inLanes number width rule = record { number = number; width = width; leaves = packed rule width }
 
-abbrev whole : ℕ → (ℕ → ℕ → ℕ) → Described
-whole number f = record { number = number; width = 64; leaves = f }
+abbrev ofRegisters : ℕ → (ℕ → ℕ → ℕ) → Described
+ofRegisters number f = record { number = number; width = 64; leaves = f }
 
 abbrev pub described : Operation → Described
 described PUNPCKLBW = inLanes 0 8 unpackLow
@@ -45,7 +46,7 @@ described PUNPCKHBW = inLanes 9 8 unpackHigh
 described PUNPCKHWD = inLanes 10 16 unpackHigh
 described PUNPCKHDQ = inLanes 11 32 unpackHigh
 -- MOVD and MOVQ leave the source
-described MOVE = whole 12 (λ destination source. source)
+described MOVE = ofRegisters 12 (λ destination source. source)
 described PCMPEQB = inLanes 13 8 (pairwise equal)
 described PCMPEQW = inLanes 14 16 (pairwise equal)
 described PCMPEQD = inLanes 15 32 (pairwise equal)
@@ -68,10 +69,10 @@ described PSUBSB = inLanes 31 8 (pairwise differenceSigned)
 described PSUBSW = inLanes 32 16 (pairwise differenceSigned)
 described PADDSB = inLanes 33 8 (pairwise sumSigned)
 described PADDSW = inLanes 34 16 (pairwise sumSigned)
-described PAND = whole 35 bitAnd
-described PANDN = whole 36 andNot
-described POR = whole 37 bitOr
-described PXOR = whole 38 bitXor
+described PAND = ofRegisters 35 bitAnd
+described PANDN = ofRegisters 36 andNot
+described POR = ofRegisters 37 bitOr
+described PXOR = ofRegisters 38 bitXor
 described PSUBB = inLanes 39 8 (pairwise difference)
 described PSUBW = inLanes 40 16 (pairwise difference)
 described PSUBD = inLanes 41 32 (pairwise difference)
@@ -79,7 +80,7 @@ described PADDB = inLanes 42 8 (pairwise sum)
 described PADDW = inLanes 43 16 (pairwise sum)
 described PADDD = inLanes 44 32 (pairwise sum)
 -- an instruction that computes nothing keeps its destination
-described KEEP = whole 255 (λ destination source. destination)
+described KEEP = ofRegisters 255 (λ destination source. destination)
 
 unfoldable pub operate : Operation → ℕ → ℕ → ℕ
 operate operation = described operation .leaves

@@ -39,14 +39,14 @@ differenceUnsigned w a b = wrap w (clampUnsigned w (pos a -ℤ pos b))
 
 -- PCMPEQ, PCMPGT: all ones or all zeros; PCMPGT is signed, destination against source
 
-abbrev pub mask : ℕ → Bool → ℕ
-mask w t = cond t (2 ^ w - 1) 0
+abbrev pub allOnes : ℕ → Bool → ℕ
+allOnes w t = cond t (2 ^ w - 1) 0
 
 unfoldable pub equal : ℕ → ℕ → ℕ → ℕ
-equal w a b = mask w (eqb a b)
+equal w a b = allOnes w (eqb a b)
 
 unfoldable pub greater : ℕ → ℕ → ℕ → ℕ
-greater w a b = mask w (ltZ (signed w b) (signed w a))
+greater w a b = allOnes w (ltZ (signed w b) (signed w a))
 
 -- PMULL, PMULH: the low and the high half of the signed product
 

@@ -1,6 +1,6 @@
 // PCMPEQ and PCMPGT: all ones or all zeros.
 ghost use Rattle.basis.specs.Names.{_≡_, _≤_};
-ghost use Rattle.lanes.specs.Rules.{packed, pairwise, mask, equal, greater};
+ghost use Rattle.lanes.specs.Rules.{packed, pairwise, allOnes, equal, greater};
 ghost use Rattle.lanes.specs.inner.Widths.{Within, Fills};
 use crate::lane::QUADWORD;
 use crate::lane::half;
@@ -10,7 +10,7 @@ use crate::lane::with_lane;
 
 fn mask_of(yes: bool, w: u64) -> u64
     requires { ⌜ (1 ≤ w) × (w ≤ 32) ⌝ }
-    ensures { λ r. ⌜ r ≡ mask w yes ⌝ }
+    ensures { λ r. ⌜ r ≡ allOnes w yes ⌝ }
 {
     if yes {
         return ones(w);

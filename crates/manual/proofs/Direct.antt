@@ -13,7 +13,7 @@ use Rattle.manual.specs.Places.{Place, mmx, integer, byte, look, put}
 use Rattle.manual.specs.Kinds.{marked}
 use Rattle.manual.specs.Addresses.{Address, address}
 use Rattle.manual.specs.Locations.{Location, mmxRegister, integerRegister, memory, bytesFrom, fits, placesOf}
-use Rattle.manual.specs.Effects.{Effect, width, valueIn, contentsOf, unlessMarked, planOn, placed, perform as performs}
+use Rattle.manual.specs.Effects.{Effect, placeCount, valueIn, contentsOf, unlessMarked, planOn, placed, perform as performs}
 use Rattle.manual.specs.inner.Unmarked.{directly}
 use Rattle.manual.proofs.Marking.{past-marks}
 use Rattle.manual.proofs.Shapes.{both, move}
@@ -50,7 +50,7 @@ module _ (s : State) where
 
   -- an operand that is taken, alone or as the last one
   abbrev Taken : Location → Result ℕ → Result (List Place) → Type 0
-  Taken x (done v) (done ps) = valueIn x (take (width x) (looks look s (ps ++ []))) ≡ v
+  Taken x (done v) (done ps) = valueIn x (take (placeCount x) (looks look s (ps ++ []))) ≡ v
   Taken x (done v) (refused n) = ⊥
   Taken x (refused n) (done ps) = ⊥
   Taken x (refused n) (refused n′) = n ≡ n′

@@ -1,4 +1,4 @@
--- Fetched what is left of a code is local, as the codec's reading is: it takes at least two bytes and none past the end, and depends on its
+-- Reading the rest of a code is local, as the codec's reading is: it takes at least two bytes and none past the end, and depends on its
 -- own bytes alone.
 use Rattle.basis.specs.Names.{_≡_, List, ℕ}
 use Rattle.basis.proofs.Names.{false≢true, ap, arith}

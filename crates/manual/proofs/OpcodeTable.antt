@@ -1,10 +1,10 @@
 -- A second opinion on the list of instructions: document 01's table of opcode bytes, in its own order, with its words on operands. Each instruction has the
 -- effect that its row says, for every operand and immediate: by computation.
-use Rattle.basis.specs.Names.{_≡_, refl, cond, not, List, [], _∷_, map, ℕ, _%_, _^_, bitAnd, bitOr, bitXor, eqb, length}
+use Rattle.basis.specs.Names.{_≡_, refl, cond, not, _&&_, List, [], _∷_, map, ℕ, _%_, _^_, bitAnd, bitOr, bitXor, eqb, length}
 use Rattle.lanes.specs.Signed.{clampSigned, clampUnsigned}
 use Rattle.lanes.specs.Rules.{packed, pairwise, sum, difference, sumSigned, differenceSigned, sumUnsigned, differenceUnsigned, equal, greater, productLow, productHigh, productSum, pack, unpackLow, unpackHigh, andNot, shift, left, right, rightSigned}
-use Rattle.lanes.specs.Operations.{operate}
-use Rattle.codec.specs.Forms.{isAmong, isAbsent}
+use Rattle.lanes.specs.Operations.{described, operate}
+use Rattle.codec.specs.Forms.{isAmong, isAbsent, hasOperand, immediateSize}
 use Rattle.codec.specs.Opcodes.{escape, formAt, operationAt}
 use Rattle.codec.specs.Table.{listed}
 use Rattle.codec.specs.Reads.{instructionOf}
@@ -40,36 +40,50 @@ four f w = both f (mmxOfReg w) (mmxOr 4 w)
 abbrev copies : (ℕ → ℕ) → (Operand → Location) → (Operand → Location) → Operand → Effect
 copies f destination source w = move f (destination w) (source w)
 
-abbrev whole : ℕ → ℕ
-whole x = x
+abbrev unchanged : ℕ → ℕ
+unchanged x = x
 
 abbrev lowHalf : ℕ → ℕ
 lowHalf x = x % 2 ^ 32
 
 abbrev table : List (ℕ × (Operand → Effect))
 table =
+    -- 60 61 62: PUNPCKLBW, PUNPCKLWD, PUNPCKLDQ
     (0x60, four (packed unpackLow 8)) ∷ (0x61, four (packed unpackLow 16)) ∷ (0x62, four (packed unpackLow 32))
+    -- 63 67 6B: PACKSSWB, PACKUSWB, PACKSSDW
     ∷ (0x63, eight (packed (pack clampSigned) 8)) ∷ (0x67, eight (packed (pack clampUnsigned) 8)) ∷ (0x6b, eight (packed (pack clampSigned) 16))
+    -- 64 65 66: PCMPGTB, W, D
     ∷ (0x64, eight (packed (pairwise greater) 8)) ∷ (0x65, eight (packed (pairwise greater) 16)) ∷ (0x66, eight (packed (pairwise greater) 32))
+    -- 68 69 6A: PUNPCKHBW, PUNPCKHWD, PUNPCKHDQ
     ∷ (0x68, eight (packed unpackHigh 8)) ∷ (0x69, eight (packed unpackHigh 16)) ∷ (0x6a, eight (packed unpackHigh 32))
-    ∷ (0x6e, copies whole mmxOfReg (integerOr 4)) ∷ (0x7e, copies lowHalf (integerOr 4) mmxOfReg)
-    ∷ (0x6f, copies whole mmxOfReg (mmxOr 8)) ∷ (0x7f, copies whole (mmxOr 8) mmxOfReg)
+    -- 6E 7E: MOVD to MMX, MOVD from MMX
+    ∷ (0x6e, copies unchanged mmxOfReg (integerOr 4)) ∷ (0x7e, copies lowHalf (integerOr 4) mmxOfReg)
+    -- 6F 7F: MOVQ load form, MOVQ store form
+    ∷ (0x6f, copies unchanged mmxOfReg (mmxOr 8)) ∷ (0x7f, copies unchanged (mmxOr 8) mmxOfReg)
+    -- 74 75 76: PCMPEQB, W, D
     ∷ (0x74, eight (packed (pairwise equal) 8)) ∷ (0x75, eight (packed (pairwise equal) 16)) ∷ (0x76, eight (packed (pairwise equal) 32))
+    -- 77: EMMS
     ∷ (0x77, λ w. bare Emms)
+    -- D1 D2 D3, E1 E2, F1 F2 F3: PSRLW D Q, PSRAW D, PSLLW D Q
     ∷ (0xd1, eight (packed (shift right) 16)) ∷ (0xd2, eight (packed (shift right) 32)) ∷ (0xd3, eight (packed (shift right) 64))
     ∷ (0xe1, eight (packed (shift rightSigned) 16)) ∷ (0xe2, eight (packed (shift rightSigned) 32))
     ∷ (0xf1, eight (packed (shift left) 16)) ∷ (0xf2, eight (packed (shift left) 32)) ∷ (0xf3, eight (packed (shift left) 64))
+    -- D5 E5 F5: PMULLW, PMULHW, PMADDWD
     ∷ (0xd5, eight (packed (pairwise productLow) 16)) ∷ (0xe5, eight (packed (pairwise productHigh) 16)) ∷ (0xf5, eight (packed (pairwise productSum) 32))
+    -- D8 D9, DC DD: PSUBUSB W, PADDUSB W
     ∷ (0xd8, eight (packed (pairwise differenceUnsigned) 8)) ∷ (0xd9, eight (packed (pairwise differenceUnsigned) 16))
     ∷ (0xdc, eight (packed (pairwise sumUnsigned) 8)) ∷ (0xdd, eight (packed (pairwise sumUnsigned) 16))
+    -- E8 E9, EC ED: PSUBSB W, PADDSB W
     ∷ (0xe8, eight (packed (pairwise differenceSigned) 8)) ∷ (0xe9, eight (packed (pairwise differenceSigned) 16))
     ∷ (0xec, eight (packed (pairwise sumSigned) 8)) ∷ (0xed, eight (packed (pairwise sumSigned) 16))
+    -- DB DF EB EF: PAND, PANDN, POR, PXOR
     ∷ (0xdb, eight bitAnd) ∷ (0xdf, eight andNot) ∷ (0xeb, eight bitOr) ∷ (0xef, eight bitXor)
+    -- F8 F9 FA, FC FD FE: PSUBB W D, PADDB W D
     ∷ (0xf8, eight (packed (pairwise difference) 8)) ∷ (0xf9, eight (packed (pairwise difference) 16)) ∷ (0xfa, eight (packed (pairwise difference) 32))
     ∷ (0xfc, eight (packed (pairwise sum) 8)) ∷ (0xfd, eight (packed (pairwise sum) 16)) ∷ (0xfe, eight (packed (pairwise sum) 32)) ∷ []
 
--- "immediate shifts of W, D, Q: /2 right logical, /4 right arithmetic (71 and 72 only), /6 left": the byte, the digit, and what is left of a register
--- and a count
+-- "immediate shifts of W, D, Q: /2 right logical, /4 right arithmetic (71 and 72 only), /6 left": the byte, the digit, and what the register becomes by a
+-- count
 abbrev shifts : List (ℕ × (ℕ × (ℕ → ℕ → ℕ)))
 shifts =
     (0x71, (2, packed (shift right) 16)) ∷ (0x71, (4, packed (shift rightSigned) 16)) ∷ (0x71, (6, packed (shift left) 16))
@@ -80,21 +94,28 @@ abbrev withDigit : ℕ → Operand → Operand
 withDigit digit w =
     record { mode = w .mode; reg = digit; rm = w .rm; scale = w .scale; index = w .index; base = w .base; displacement = w .displacement }
 
-abbrev secondBytes : List ℕ
-secondBytes = 0x71 ∷ 0x72 ∷ 0x73 ∷ map (λ (x : ℕ × (Operand → Effect)). x .0) table
+abbrev tableBytes : List ℕ
+tableBytes = 0x71 ∷ 0x72 ∷ 0x73 ∷ map (λ (x : ℕ × (Operand → Effect)). x .0) table
 
 pub record Agrees : Type 0 where
   -- "That is 52 second bytes", and the list has no other
-  pub count : length secondBytes ≡ 52
-  pub bytes : listed (λ b. isAmong b secondBytes) 0 256 ≡ listed (λ b. not (isAbsent (formAt b))) 0 256
+  pub count : length tableBytes ≡ 52
+  pub bytes : listed (λ b. isAmong b tableBytes) 0 256 ≡ listed (λ b. not (isAbsent (formAt b))) 0 256
   pub effects : (w : Operand) (immediate : ℕ)
       → map (λ (x : ℕ × (Operand → Effect)). effectOf (instructionOf escape (x .0) w immediate)) table
       ≡ map (λ (x : ℕ × (Operand → Effect)). x .1 w) table
-  -- "71-73 then have one immediate byte and shift the register named by rm"
+  -- "All but EMMS have a ModRM byte; 71-73 then have one immediate byte"
+  pub operand-bytes : listed (λ b. hasOperand (formAt b)) 0 256 ≡ listed (λ b. isAmong b tableBytes && not (eqb b 0x77)) 0 256
+  pub immediates : listed (λ b. immediateSize (formAt b)) 0 256 ≡ listed (λ b. cond (isAmong b (0x71 ∷ 0x72 ∷ 0x73 ∷ [])) 1 0) 0 256
+  -- the lane widths of the table: of 71 to 73, then in the order of the rows
+  pub widths : map (λ b. described (operationAt b 2) .width) tableBytes
+      ≡ 16 ∷ 32 ∷ 64 ∷ 8 ∷ 16 ∷ 32 ∷ 8 ∷ 8 ∷ 16 ∷ 8 ∷ 16 ∷ 32 ∷ 8 ∷ 16 ∷ 32 ∷ 64 ∷ 64 ∷ 64 ∷ 64 ∷ 8 ∷ 16 ∷ 32 ∷ 64
+      ∷ 16 ∷ 32 ∷ 64 ∷ 16 ∷ 32 ∷ 16 ∷ 32 ∷ 64 ∷ 16 ∷ 16 ∷ 32 ∷ 8 ∷ 16 ∷ 8 ∷ 16 ∷ 8 ∷ 16 ∷ 8 ∷ 16 ∷ 64 ∷ 64 ∷ 64 ∷ 64 ∷ 8 ∷ 16 ∷ 32 ∷ 8 ∷ 16 ∷ 32 ∷ []
+  -- "and shift the register named by rm"
   pub shifted : (w : Operand) (immediate : ℕ)
       → map (λ (x : ℕ × (ℕ × (ℕ → ℕ → ℕ))). effectOf (instructionOf escape (x .0) (withDigit (x .1 .0) w) immediate)) shifts
       ≡ map (λ (x : ℕ × (ℕ × (ℕ → ℕ → ℕ))). move (λ y. x .1 .1 y immediate) (mmxRegister (w .rm)) (mmxRegister (w .rm))) shifts
 
 pub agrees : Agrees
 unfolding operate formAt operationAt rmOf effectOf
-agrees = record { count = refl; bytes = refl; effects = λ w immediate. refl; shifted = λ w immediate. refl }
+agrees = record { count = refl; bytes = refl; operand-bytes = refl; immediates = refl; widths = refl; effects = λ w immediate. refl; shifted = λ w immediate. refl }

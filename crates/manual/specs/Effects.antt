@@ -30,10 +30,10 @@ registersBehindAll [] = []
 registersBehindAll (x ∷ xs) = registersBehind x ++ registersBehindAll xs
 
 -- how many places an operand has
-abbrev pub width : Location → ℕ
-width (mmxRegister k) = 1
-width (integerRegister k) = 1
-width (memory a size) = size
+abbrev pub placeCount : Location → ℕ
+placeCount (mmxRegister k) = 1
+placeCount (integerRegister k) = 1
+placeCount (memory a size) = size
 
 -- the number of an operand: what stands in its register, or the little-endian number of its bytes
 abbrev pub valueIn : Location → List ℕ → ℕ
@@ -44,7 +44,7 @@ valueIn (memory a size) contents = number contents
 -- one number for each operand, from what stands in all their places
 abbrev pub valuesIn : List Location → List ℕ → List ℕ
 valuesIn [] contents = []
-valuesIn (x ∷ xs) contents = valueIn x (take (width x) contents) ∷ valuesIn xs (drop (width x) contents)
+valuesIn (x ∷ xs) contents = valueIn x (take (placeCount x) contents) ∷ valuesIn xs (drop (placeCount x) contents)
 
 -- and back: what stands in the places of an operand that has this number
 abbrev pub contentsOf : Location → ℕ → List ℕ

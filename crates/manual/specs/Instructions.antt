@@ -25,28 +25,28 @@ targets ((read, x) ∷ xs) = targets xs
 targets ((written, x) ∷ xs) = x ∷ targets xs
 targets ((updated, x) ∷ xs) = x ∷ targets xs
 
--- what an operand takes of a number: one that may be an integer register, the low doubleword
-abbrev held : File → ℕ → ℕ
-held mmxFile x = x
-held integerFile x = x % 2 ^ 32
+-- what an operand keeps of a number: one that may be an integer register, the low doubleword
+abbrev kept : File → ℕ → ℕ
+kept mmxFile x = x
+kept integerFile x = x % 2 ^ 32
 
-abbrev pub heldBy : Slot → ℕ → ℕ
-heldBy (reg file) x = held file x
-heldBy (rm file) x = held file x
-heldBy (rm/mem file size) x = held file x
+abbrev pub keptBy : Slot → ℕ → ℕ
+keptBy (reg file) x = kept file x
+keptBy (rm file) x = kept file x
+keptBy (rm/mem file size) x = kept file x
 
--- the operation's second number: the immediate, where there is one, or the last that is read
-abbrev pub secondOf : Form → ℕ → List ℕ → ℕ
-secondOf form immediate values = cond (eqb (form .immediate) 0) (getD values (length (sources (form .operands)) - 1) 0) immediate
+-- the operation's source: the immediate, where the form has one, else the last number that is read
+abbrev pub sourceNumber : Form → ℕ → List ℕ → ℕ
+sourceNumber form immediate values = cond (eqb (form .immediate) 0) (getD values (length (sources (form .operands)) - 1) 0) immediate
 
--- the effect of an instruction by a form and an operation: what is written becomes what the operation makes of the first number that is read and its
--- second number
+-- the effect of an instruction by a form and an operation: every operand that is written becomes what the operation leaves of a destination, the first
+-- number that is read, and a source (a move reads one number, which is both)
 abbrev pub effectBy : Form → Operation → Instruction → Effect
 effectBy form operation i =
     record {
       takes = map (locate i) (sources (form .operands));
       gives = map (locate i) (targets (form .operands));
-      value = λ values. done (map (λ x. heldBy x (operate operation (getD values 0 0) (secondOf form (i .immediate) values))) (targets (form .operands)));
+      value = λ values. done (map (λ x. keptBy x (operate operation (getD values 0 0) (sourceNumber form (i .immediate) values))) (targets (form .operands)));
       kind = form .kind;
     }
 

@@ -1,5 +1,5 @@
 -- The manual's rules, each after what it builds on: the state, its places and kinds, where an operand is, what each instruction takes and gives,
--- one step, the run, footprints.
+-- one step, the run, footprints; then a word of private contracts.
 pub mod State
 pub mod Refusals
 pub mod Places

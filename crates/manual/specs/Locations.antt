@@ -18,10 +18,11 @@ abbrev pub registerIn : File → ℕ → Location
 registerIn mmxFile k = mmxRegister k
 registerIn integerFile k = integerRegister k
 
--- the operand that r/m names: a register at mod 11, else so many bytes in memory
+-- the operand that r/m names: a register at mod 11 (`mode` 3), else so many bytes in memory
 unfoldable pub rmOf : File → ℕ → Operand → Location
 rmOf file size w = cond (eqb (w .mode) 3) (registerIn file (w .rm)) (memory (addressOf w) size)
 
+-- the operand of a slot (where rm must be a register, every other mod is refused by 6)
 abbrev pub locate : Instruction → Slot → Location
 locate i (reg file) = registerIn file (i .operand .reg)
 locate i (rm file) = registerIn file (i .operand .rm)
@@ -36,6 +37,7 @@ bytesFrom a (suc size) = byte a ∷ bytesFrom (a + 1) size
 abbrev pub fits : ℕ → ℕ → ℕ → Bool
 fits room size a = leb (a + size) room
 
+-- its places, or 10
 abbrev pub tested : ℕ → ℕ → ℕ → Result (List Place)
 tested room size a = cond (fits room size a) (done (bytesFrom a size)) (refused outsideMemory)
 

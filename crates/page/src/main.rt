@@ -3,7 +3,7 @@
 use libc::STDERR_FILENO;
 use libc::STDIN_FILENO;
 use libc::STDOUT_FILENO;
-ghost use Rattle.page.specs.inner.Inputs.{Within};
+ghost use Rattle.page.specs.inner.Inputs.{ReadWithin};
 
 // One byte more than the longest page file has, so that a longer one is seen as such.
 const FILE_BYTES: usize = pagefile::LONGEST_FILE + 1;
@@ -16,7 +16,7 @@ enum Input {
 
 // Reads until the input ends or the buffer is full. A pipe gives its bytes in parts, so that a short read is no end: an answer of 0 is.
 fn read(file: &mut [u8]) -> Input
-    ensures { λ r. ⌜ Within r (now (file .exit)) ⌝ }
+    ensures { λ r. ⌜ ReadWithin r (now (file .exit)) ⌝ }
 {
     let mut n: usize = 0;
     while n < file.len() {

@@ -1,7 +1,6 @@
 -- The lines of a text, and what the definition computes to: the first line of each ending, the tags line of each mark, and the memory's lines of
 -- three rows.
-use Rattle.basis.specs.Names.{_≡_, refl, true, false, List, [], _∷_, _++_, ℕ}
-use Prim.Native.String.{String}
+use Rattle.basis.specs.Names.{_≡_, refl, true, false, List, [], _∷_, _++_, ℕ, String}
 use Rattle.machine.specs.declared.End.the-variants.{Done, Spent, Refused}
 use Rattle.printout.specs.Characters.{ascii, newline, digits, places, decimal}
 use Rattle.printout.specs.Lines.{answer, firstLine, tagsLine, memoryLine, byteLines}

@@ -4,6 +4,6 @@ use Rattle.page.specs.declared.Input.{Input}
 use Rattle.page.specs.declared.Input.the-variants.{Whole, Failed}
 
 -- a length that was read lies within the buffer
-abbrev pub Within : Input → List ℕ → Type 0
-Within (Whole n) file = n ≤ length file
-Within Failed file = Unit {0}
+abbrev pub ReadWithin : Input → List ℕ → Type 0
+ReadWithin (Whole n) file = n ≤ length file
+ReadWithin Failed file = Unit {0}

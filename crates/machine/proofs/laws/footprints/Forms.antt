@@ -10,7 +10,7 @@ use Rattle.codec.specs.declared.Instruction.{Instruction}
 use Rattle.codec.specs.declared.Kind.the-variants.{Ordinary, Emms}
 use Rattle.manual.specs.State.{State}
 use Rattle.manual.specs.Locations.{Location, rmOf, placesOf}
-use Rattle.manual.specs.Instructions.{heldBy, effectBy}
+use Rattle.manual.specs.Instructions.{keptBy, effectBy}
 use Rattle.machine.specs.declared.Places.{Places}
 use Rattle.machine.specs.declared.Footprint.{Footprint}
 use Rattle.machine.specs.declared.reaches.Reach.{Reach}
@@ -40,7 +40,7 @@ module _ (s : State) (entry : ℕ) (i : Instruction) where
 
   footprints : (y : Way) (f : Form) → Shape form y f → unmarkedFootprint (effectBy f named i) s ≡ shaped (shapedAs y register) (reachOf (other f) (placesOf s (other f)))
   unfolding unmarkedFootprint
-  footprints y f (stores file size x) = store-footprint s register (other f) (λ v. heldBy (rm/mem file size) (copied v)) (placesOf s (other f))
+  footprints y f (stores file size x) = store-footprint s register (other f) (λ v. keptBy (rm/mem file size) (copied v)) (placesOf s (other f))
   footprints y f (loads file size x) = load-footprint s register (other f) copied (placesOf s (other f))
   footprints y f (computes file size x) = compute-footprint s register (other f) (operate named) (placesOf s (other f))
 

@@ -20,7 +20,7 @@ use Rattle.manual.specs.Kinds.{marked}
 use Rattle.manual.specs.Addresses.{address, addressOf}
 use Rattle.manual.specs.Locations.{Location, mmxRegister, memory, rmOf, fits}
 use Rattle.manual.specs.inner.Unmarked.{directly}
-use Rattle.manual.specs.Instructions.{heldBy, effectBy}
+use Rattle.manual.specs.Instructions.{keptBy, effectBy}
 use Rattle.manual.specs.Steps.{concluded}
 use Rattle.manual.proofs.Direct.{valueAt, putAt, move-direct, both-direct}
 use Rattle.machine.specs.declared.gathering.Work.{Work}
@@ -52,10 +52,10 @@ module _ (s : State) (o : Operation) (i : Instruction) where
   module _ (n : ℕ) where
     -- a store, which moves, gives what the operand takes of the register's number
     stored-by : (form : Form) → Shape n storing form → (isMove form ≡ true → o ≡ MOVE)
-        → leftBy form ≡ putAt s (there form) (heldBy (rm/mem (fileIn (form .operands)) (memorySize form)) (getD (s .mmx) (own .reg) 0))
+        → leftBy form ≡ putAt s (there form) (keptBy (rm/mem (fileIn (form .operands)) (memorySize form)) (getD (s .mmx) (own .reg) 0))
     unfolding operate
     stored-by form (stores file size x) m =
-        ap (λ (q : Operation). directly (effectBy form q i) s) (m refl) ∙ move-direct s (heldBy (rm/mem file size)) (rmOf file size own) (mmxRegister (own .reg))
+        ap (λ (q : Operation). directly (effectBy form q i) s) (m refl) ∙ move-direct s (keptBy (rm/mem file size)) (rmOf file size own) (mmxRegister (own .reg))
 
     -- the others give the operation's, as a load moves
     abbrev computedAs : Operation → Form → Result State
@@ -93,7 +93,7 @@ module _ (registers integers m : List ℕ) (next : ℕ) where
 
     -- a value that is put there
     abbrev Puts : ℕ → File → Location → Type 0
-    Puts v f x = bytes size (heldBy (rm/mem f size) v) ≡ bytes size v → Leaves (putWork (spot x) size v next) (λ s. putAt s x (heldBy (rm/mem f size) v))
+    Puts v f x = bytes size (keptBy (rm/mem f size) v) ≡ bytes size v → Leaves (putWork (spot x) size v next) (λ s. putAt s x (keptBy (rm/mem f size) v))
 
     puts : (file : File) (v : ℕ) → Puts v file (rmOf file size w)
     unfolding performed operate
@@ -184,7 +184,7 @@ module _ (registers integers m : List ℕ) (entry : ℕ) (i : Instruction) (next
           let v = getD registers (w .reg) 0 in
           let y = spotOf integers (length m) (otherOf formIn w) in
           rw (e, found, l .sized two)
-          (of-work (putWork y size v next) (λ s. putAt s (otherOf formIn w) (heldBy (rm/mem file size) (getD (s .mmx) (w .reg) 0)))
+          (of-work (putWork y size v next) (λ s. putAt s (otherOf formIn w) (keptBy (rm/mem file size) (getD (s .mmx) (w .reg) 0)))
           (sound-put y size v next there-named)
           (λ s. stored-by s named i formIn form (subst (λ (y : Way). Shape formIn y form) (way-storing formIn g) (shape formIn (l .listed) two)) moves)
           (puts registers integers m next size w (other formIn (l .listed) two .most) file v (other formIn (l .listed) two .kept v)))

@@ -5,7 +5,7 @@ use Rattle.words.specs.Number.{bytes}
 use Rattle.codec.specs.Forms.{Use, read, written, updated, File, mmxFile, integerFile, Slot, rm/mem, mmreg1, Form, mmreg1·imm8/2/4/6, mmreg1·imm8/2/6, isAmong, memorySize}
 use Rattle.codec.specs.Table.{formOf}
 use Rattle.codec.specs.declared.Kind.the-variants.{Ordinary}
-use Rattle.manual.specs.Instructions.{heldBy}
+use Rattle.manual.specs.Instructions.{keptBy}
 use Rattle.machine.specs.inner.Spots.{fileIn}
 use Rattle.machine.specs.inner.Shapes.{Way, storing, loading, computing, wayOf}
 use Rattle.machine.specs.inner.Works.{numbers, isListed}
@@ -16,7 +16,7 @@ pub record Other (n : ℕ) (file : File) (size : ℕ) : Type 0 where
   pub past : 17 < n → file ≡ mmxFile
   pub some : 0 < size
   pub most : size ≤ 8
-  pub kept : (v : ℕ) → bytes size (heldBy (rm/mem file size) v) ≡ bytes size v
+  pub kept : (v : ℕ) → bytes size (keptBy (rm/mem file size) v) ≡ bytes size v
 
 doubleword : (n : ℕ) → n ≤ 17 → Other n integerFile 4
 doubleword n h = record { low = λ l. refl; past = λ g. absurd (omega arith); some = omega arith; most = omega arith; kept = λ v i. first v i ∷ second v i ∷ third v i ∷ fourth v i ∷ [] }
