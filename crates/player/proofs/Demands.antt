@@ -2,6 +2,8 @@
 
 -- 1. "Every code block, register setting, lent memory and file gets an answer, and every call ends." No public function asks for anything, and a
 -- function that is proved ends; each contract allows one answer; and no text is cut.
+pub use Rattle.lanes.proofs.Allowed.{operate-one}
+pub use Rattle.words.proofs.Allowed.{load-one, store-one}
 pub use Rattle.codec.proofs.Allowed.{table-one, read-from-one, read-one, write-one}
 pub use Rattle.machine.proofs.Allowed.{from-page-one, step-one, run-one, footprint-one, meets-one}
 pub use Rattle.pagefile.proofs.Allowed.{read-one as page-one, code-one, memory-one, mmx-registers-one, integer-registers-one}
@@ -26,7 +28,10 @@ pub use Rattle.manual.proofs.OpcodeTable.{agrees}
 -- "Each instruction form has exactly the bytes the manual gives it, and those bytes give that form back."
 pub use Rattle.codec.proofs.Theorems.{read-writes-back, written-reads-back, reading-in-range}
 -- "Each completed step leaves exactly the registers, memory and tag mark the manual states": the contract of `Machine::step` is an equation with the
--- definition; what the definition says of tags; and that a step goes by what its footprint reads and changes what it writes.
+-- definition, and a run's turn is a step; the plates; what the definition says of tags; and that a step goes by what its footprint reads and changes
+-- what it writes.
+pub use Rattle.manual.proofs.Turns.{turn}
+pub use Rattle.manual.proofs.Computed.{computed}
 pub use Rattle.manual.proofs.Uses.{tag-after, emms-leaves, goes-by-reads, changes-writes, footprint-exactly}
 -- 3. "Put its instructions in any other order that keeps, for each pair whose footprints meet in that run, the earlier one earlier. .. the new block also
 -- runs to its end, in as many instructions, and leaves exactly the registers, tag mark and memory." Over the definitions, and over calls of the
