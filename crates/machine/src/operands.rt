@@ -12,11 +12,11 @@ ghost use Rattle.codec.specs.inner.Fields.{Registers};
 ghost use Rattle.machine.specs.inner.Works.{Listed};
 ghost use Rattle.machine.specs.inner.Spots.{otherOf, spotOf};
 
-// The number of the MMX register or of the integer register, the address of the first byte, or the refusal.
+// The number of the MMX register or of the integer register, the address of the first byte with how many they are, or the refusal.
 pub(crate) enum Spot {
     Mmx(u8),
     Integer(u8),
-    Bytes(usize),
+    Bytes(usize, u8),
     Refused(u8),
 }
 
@@ -37,8 +37,9 @@ pub(crate) fn located(integers: &[u32; 8], entry: u32, operand: Operand, room: u
 {
     if operand.mode != REGISTER {
         let address = addresses::address_of(integers, operand) as usize;
-        if lies_inside(room, address, (entry / SIZE % PART) as usize) {
-            return Spot::Bytes(address);
+        let size = (entry / SIZE % PART) as u8;
+        if lies_inside(room, address, size as usize) {
+            return Spot::Bytes(address, size);
         }
         return Spot::Refused(OUTSIDE_MEMORY);
     }

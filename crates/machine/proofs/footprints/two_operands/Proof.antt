@@ -1,4 +1,4 @@
--- `footprints::two_operands` meets its contract: each form with two operands has its shape, unless its operand is refused.
+-- `footprints::two_operands` meets its contract: each way has its footprint, unless the operand of r/m is refused.
 use Rattle.machine.proofs.laws.footprints.Forms.{form-rules}
 use Rattle.machine.proofs.footprints.two_operands.Statement.{statement}
 use Rattle.machine.proofs.footprints.two_operands.Tie as tie

@@ -1,0 +1,34 @@
+// The ways that the forms of instructions go. Only here is a form's number sorted.
+use codec::forms::EMMS;
+use codec::forms::LOAD_D;
+use codec::forms::LOAD_Q;
+use codec::forms::STORE_D;
+use codec::forms::STORE_Q;
+use codec::forms::TWO_OPERANDS;
+ghost use Rattle.basis.specs.Names.{_≡_};
+ghost use Rattle.machine.specs.inner.Ways.{wayOf};
+
+// The tag mark is set empty; a register is shifted by an immediate; an MMX register is stored in the operand of r/m, loaded from it, or computed with it.
+pub(crate) enum Way {
+    Empties,
+    Shifts,
+    Stores,
+    Loads,
+    Computes,
+}
+
+pub(crate) fn way_of(form: u32) -> Way
+    ensures { λ r. ⌜ r ≡ wayOf form ⌝ }
+{
+    if TWO_OPERANDS <= form {
+        return match form {
+            STORE_D | STORE_Q => Way::Stores,
+            LOAD_D | LOAD_Q => Way::Loads,
+            _ => Way::Computes,
+        };
+    }
+    if form == EMMS {
+        return Way::Empties;
+    }
+    Way::Shifts
+}
