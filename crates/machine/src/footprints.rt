@@ -16,12 +16,11 @@ use codec::Operand;
 use codec::forms::FORM;
 use codec::refusals::CODE_TOO_LONG;
 use codec::refusals::LONGEST_CODE;
-ghost use Rattle.basis.specs.Names.{_≡_, _/_, _^_, _≤_};
+ghost use Rattle.basis.specs.Names.{_≡_};
 ghost use Rattle.codec.specs.inner.Fields.{Registers};
 ghost use Rattle.machine.specs.State.{stateOf};
 ghost use Rattle.machine.specs.Footprints.{maskedAt, paperOfFootprint};
 ghost use Rattle.machine.specs.inner.Reaches.{ordinaryFootprint, footprintOfWay, unmarkedFootprint};
-ghost use Rattle.machine.specs.inner.Ways.{wayOf};
 ghost use Rattle.machine.specs.inner.Works.{effectIn, Listed};
 
 // What is read, with the address registers, and what is written.
@@ -63,19 +62,14 @@ fn footprint_of_way(way: Way, operand: Operand, registers: u8, places: Places) -
     }
 }
 
-// An instruction with two operands.
-fn two_operands(
-    machine: Machine,
-    way: Way,
-    entry: u32,
-    instruction: Instruction,
-    memory: &[u8],
-) -> Tracing
-    requires { ⌜ Registers (instruction .operand) × (Listed entry × ((16 ≤ entry / 2 ^ 24) × (way ≡ wayOf (entry / 2 ^ 24)))) ⌝ }
+// An instruction that the control marks let pass.
+fn unmarked(machine: Machine, entry: u32, instruction: Instruction, memory: &[u8]) -> Tracing
+    requires { ⌜ Registers (instruction .operand) × Listed entry ⌝ }
     ensures { λ r. ⌜ paperOfFootprint r ≡ unmarkedFootprint (effectIn entry instruction) (stateOf machine (now (memory .entry))) ⌝ }
 {
     let operand = instruction.operand;
-    match reaches::reach_operand(machine, entry, operand, memory) {
+    let way = ways::way_of(entry / FORM);
+    match reaches::reach_of_way(machine, way, entry, operand, memory) {
         Reach::Inside(registers, places) => Tracing::Traced(footprint_of_way(
             way,
             operand,
@@ -83,31 +77,6 @@ fn two_operands(
             places,
         )),
         Reach::Refused(refusal) => Tracing::Refused(refusal),
-    }
-}
-
-// An instruction that the control marks let pass.
-fn unmarked(machine: Machine, entry: u32, instruction: Instruction, memory: &[u8]) -> Tracing
-    requires { ⌜ Registers (instruction .operand) × Listed entry ⌝ }
-    ensures { λ r. ⌜ paperOfFootprint r ≡ unmarkedFootprint (effectIn entry instruction) (stateOf machine (now (memory .entry))) ⌝ }
-{
-    let way = ways::way_of(entry / FORM);
-    match way {
-        Way::Empties => Tracing::Traced(footprint_of_way(
-            way,
-            instruction.operand,
-            0,
-            reaches::NOWHERE,
-        )),
-        Way::Shifts => Tracing::Traced(footprint_of_way(
-            way,
-            instruction.operand,
-            0,
-            reaches::NOWHERE,
-        )),
-        Way::Stores => two_operands(machine, way, entry, instruction, memory),
-        Way::Loads => two_operands(machine, way, entry, instruction, memory),
-        Way::Computes => two_operands(machine, way, entry, instruction, memory),
     }
 }
 

@@ -14,12 +14,13 @@ use codec::forms::LANE;
 use codec::forms::PART;
 use lanes::MOVE;
 use manual::Marks;
-ghost use Rattle.basis.specs.Names.{_≡_, _/_, _%_, _^_, _≤_, length};
+ghost use Rattle.basis.specs.Names.{_≡_, true, _/_, _%_, _^_, _≤_, length};
 ghost use Rattle.codec.specs.inner.Fields.{Registers};
 ghost use Rattle.codec.specs.Table.{opcodeTable};
 ghost use Rattle.codec.specs.Reads.{longestCode};
 ghost use Rattle.manual.specs.State.{longestMemory};
 ghost use Rattle.machine.specs.inner.Spots.{otherOf, spotOf};
+ghost use Rattle.machine.specs.inner.Ways.{hasTwo, wayOf};
 ghost use Rattle.machine.specs.inner.Works.{barredBy, effectIn, Listed, workOf, refusedWork, putWork, takeWork, Does, Gathered};
 
 // How many values a doubleword has.
@@ -110,7 +111,7 @@ fn computed(
     next: usize,
     memory: &[u8],
 ) -> Work
-    requires { ⌜ Registers operand × (Listed entry × (16 ≤ entry / 2 ^ 24)) ⌝ }
+    requires { ⌜ Registers operand × (Listed entry × (hasTwo (wayOf (entry / 2 ^ 24)) ≡ true)) ⌝ }
     ensures { λ r. ⌜ r ≡ takeWork (now (mmx .entry)) (now (integers .entry)) (now (memory .entry)) (entry % 256) (operand .reg) (spotOf (now (integers .entry)) (length (now (memory .entry))) (otherOf (entry / 2 ^ 24) operand)) next ⌝ }
 {
     let number = (entry % PART) as u8;

@@ -13,12 +13,14 @@ use Rattle.machine.specs.declared.operands.Spot.the-variants.{Mmx, Integ
 use Rattle.machine.specs.declared.operands.Spot.the-variants as spots
 use Rattle.machine.specs.declared.reaches.Reach.{Reach}
 use Rattle.machine.specs.declared.reaches.Reach.the-variants.{Inside, Refused}
+use Rattle.machine.specs.declared.ways.Way.{Way}
 use Rattle.machine.specs.Footprints.{mmxNumber, integerNumber, numbersOf, mask, setOf}
-use Rattle.machine.specs.inner.Reaches.{nowhere, beside, reachOf, behind}
+use Rattle.machine.specs.inner.Reaches.{nowhere, beside, reachOf, behind, reachOfWay}
 use Rattle.machine.specs.inner.Spots.{fileIn, otherOf, spotOf}
+use Rattle.machine.specs.inner.Ways.{wayOf, hasTwo}
 use Rattle.machine.specs.inner.Works.{Listed}
 use Rattle.machine.proofs.laws.meetings.Ranges.{count-bytes}
-use Rattle.machine.proofs.laws.ways.Numbering.{other}
+use Rattle.machine.proofs.laws.ways.Numbering.{other, two-operands}
 use Rattle.machine.proofs.laws.operands.Locating.{spot-named, register-mmx, register-integer}
 
 no-mmx : (size a : ℕ) → numbersOf mmxNumber (bytesFrom a size) ≡ []
@@ -66,7 +68,7 @@ module _ (s : State) (w : Operand) where
       by true integerFile = simp or-zero-r
       by false f = inside (fits (length (s .memory)) size start) refl
 
-  module _ (entry : ℕ) (l : Listed entry) (two : 16 ≤ entry / 2 ^ 24) where
+  module _ (entry : ℕ) (l : Listed entry) (two : hasTwo (wayOf (entry / 2 ^ 24)) ≡ true) where
     abbrev there : Location
     there = otherOf (entry / 2 ^ 24) w
 
@@ -75,10 +77,20 @@ module _ (s : State) (w : Operand) where
       pub reach-there : (r : Reach) → r ≡ reachAt m y → r ≡ reachOf there (placesOf s there)
       reach-there r h =
           let form = formOf (entry / 2 ^ 24) in
-          h ∙ rw (masked, ← e, found) (reached (fileIn (form .operands)) (memorySize form) (other (entry / 2 ^ 24) (l .listed) two .some))
+          h ∙ rw (masked, ← e, found) (reached (fileIn (form .operands)) (memorySize form) (other entry l two .some))
 
       pub reach-integer : (k b : ℕ) → y ≡ Integer k → b ≡ 2 ^ k
           → Inside m (record { mmx = 0; integers = b; start = 0; length = 0 }) ≡ reachOf there (placesOf s there)
       reach-integer k b i f = reach-there (Inside m (record { mmx = 0; integers = b; start = 0; length = 0 })) (simp (i, f))
 
+-- by the way
+module _ (y z : Way) (r : Reach) (e : y ≡ z) where
+  pub reach-few : hasTwo z ≡ false → Inside 0 nowhere ≡ reachOfWay y r
+  reach-few few = simp (e, few)
+
+  pub reach-two : (x : Reach) → hasTwo z ≡ true → x ≡ r → x ≡ reachOfWay y r
+  reach-two x two h = h ∙ simp (e, two)
+
 pub ruleset reach-rules = (needs, spot-named, register-mmx, register-integer, reach-there, reach-integer)
+
+pub ruleset reach-way-rules = (needs, two-operands, reach-few, reach-two)

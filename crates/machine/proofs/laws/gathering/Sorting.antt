@@ -1,6 +1,6 @@
 -- The work that the code makes of an instruction does what its effect does: one rule for each way, whatever operand r/m names.
-use Rattle.basis.specs.Names.{_≡_, refl, Bool, true, false, not, List, ℕ, _/_, _%_, _^_, _≤_, _<_, length, getD}
-use Rattle.basis.proofs.Names.{sym, ap, subst, _∙_, false≢true, needs, le-leb, not-true}
+use Rattle.basis.specs.Names.{_≡_, refl, Bool, true, false, not, List, ℕ, _/_, _%_, _^_, _≤_, length, getD}
+use Rattle.basis.proofs.Names.{sym, ap, _∙_, needs, le-leb, not-true}
 use Rattle.lanes.specs.Operations.{Operation, operationOf, operate, MOVE}
 use Rattle.words.specs.Number.{bytes}
 use Rattle.words.proofs.Laws.{loaded-bytewise, stored-bytewise}
@@ -25,14 +25,14 @@ use Rattle.manual.proofs.Direct.{valueAt, putAt, move-direct, both-direct}
 use Rattle.machine.specs.declared.gathering.Work.{Work}
 use Rattle.machine.specs.declared.operands.Spot.{Spot}
 use Rattle.machine.specs.declared.ways.Way.{Way}
-use Rattle.machine.specs.declared.ways.Way.the-variants.{Empties, Shifts, Stores}
+use Rattle.machine.specs.declared.ways.Way.the-variants.{Empties, Shifts, Stores, Loads, Computes}
 use Rattle.machine.specs.State.{stateOf}
 use Rattle.machine.specs.inner.Spots.{fileIn, otherOf, spotOf, Named}
-use Rattle.machine.specs.inner.Ways.{wayOf}
+use Rattle.machine.specs.inner.Ways.{wayOf, hasTwo}
 use Rattle.machine.specs.inner.Works.{machineOf, effectIn, isMove, Listed, toOperate, toEmpty, workOf, putWork, takeWork, performed, Sound, Does}
 use Rattle.machine.proofs.laws.gathering.Soundness.{sound-operation, sound-empties, sound-put, sound-take}
 use Rattle.machine.proofs.laws.operands.Locating.{by-place, spot-named, register-mmx, register-integer}
-use Rattle.machine.proofs.laws.ways.Numbering.{HasWay, empties, shifts-WD, shifts-Q, stores, loads, computes, has-way, other, hasTwo, isTaking, taking-two, two-operands}
+use Rattle.machine.proofs.laws.ways.Numbering.{Other, HasWay, empties, shifts-WD, shifts-Q, stores, loads, computes, goes, other, two-operands}
 
 -- what a form's effect leaves, by its way
 module _ (s : State) (o : Operation) (i : Instruction) where
@@ -48,8 +48,8 @@ module _ (s : State) (o : Operation) (i : Instruction) where
   module _ (n : ℕ) where
     -- a shift by an immediate gives its register's number, shifted
     shifted-by : (form : Form) → HasWay n Shifts form → leftBy form ≡ putAt s (mmxRegister (own .rm)) (operate o (getD (s .mmx) (own .rm) 0) (i .immediate))
-    shifted-by form (shifts-WD few) = refl
-    shifted-by form (shifts-Q few) = refl
+    shifted-by form shifts-WD = refl
+    shifted-by form shifts-Q = refl
 
     -- a store, which moves, gives what the operand takes of the register's number
     stored-by : (form : Form) → HasWay n Stores form → (isMove form ≡ true → o ≡ MOVE)
@@ -62,21 +62,19 @@ module _ (s : State) (o : Operation) (i : Instruction) where
     abbrev computedAs : Operation → Form → Result State
     computedAs p form = andThen (valueAt s (there form)) (λ v. putAt s (mmxRegister (own .reg)) (operate p (getD (s .mmx) (own .reg) 0) v))
 
-    computed-by : (y : Way) (form : Form) → HasWay n y form → isTaking y ≡ true → (isMove form ≡ true → o ≡ MOVE) → leftBy form ≡ computedAs o form
+    loaded-by : (form : Form) → HasWay n Loads form → (isMove form ≡ true → o ≡ MOVE) → leftBy form ≡ computedAs o form
     unfolding operate
-    computed-by y form (empties few) g m = absurd (false≢true g)
-    computed-by y form (shifts-WD few) g m = absurd (false≢true g)
-    computed-by y form (shifts-Q few) g m = absurd (false≢true g)
-    computed-by y form (stores file size x) g m = absurd (false≢true g)
-    computed-by y form (loads file size x) g m =
+    loaded-by form (loads file size x) m =
         ap (λ (q : Operation). directly (effectBy form q i) s) (m refl)
         ∙ move-direct s (λ v. v) (mmxRegister (own .reg)) (rmOf file size own)
         ∙ ap (λ (q : Operation). computedAs q form) (sym (m refl))
-    computed-by y form (computes file size x) g m = both-direct s (operate o) (own .reg) (rmOf file size own)
+
+    computed-by : (form : Form) → HasWay n Computes form → leftBy form ≡ computedAs o form
+    computed-by form (computes file size x) = both-direct s (operate o) (own .reg) (rmOf file size own)
 
 shift-digits : (n : ℕ) (form : Form) → HasWay n Shifts form → hasDigits form ≡ true
-shift-digits n form (shifts-WD few) = refl
-shift-digits n form (shifts-Q few) = refl
+shift-digits n form shifts-WD = refl
+shift-digits n form shifts-Q = refl
 
 -- works over lent registers and memory
 module _ (registers integers m : List ℕ) (next : ℕ) where
@@ -142,29 +140,26 @@ module _ (registers integers m : List ℕ) (entry : ℕ) (i : Instruction) (next
       record { sound = sound; does = λ marks at. let s = state registers integers m next marks in performs marks at ∙ sym (ap (concluded at next s) (leaves s)) }
 
   module _ (r : Registers w) (l : Listed entry) (y : Way) (way : y ≡ wayOf formIn) (work : Work) where
-    gone : (z : Way) → y ≡ z → HasWay formIn z form
-    gone z e = subst (λ (x : Way). HasWay formIn x form) (sym way ∙ e) (has-way formIn (l .listed) (l .present))
-
     pub does-empties : y ≡ Empties → work ≡ workOf toEmpty 0 0 0 next → Does work registers integers m (effectIn entry i) next
     unfolding performed
     does-empties e made =
-        rw made (of-work (workOf toEmpty 0 0 0 next) (λ s. done (marked Emms s)) (sound-empties next) (λ s. by s form (gone Empties e)) (λ marks at. refl))
+        rw made (of-work (workOf toEmpty 0 0 0 next) (λ s. done (marked Emms s)) (sound-empties next) (λ s. by s form (goes entry l y Empties way e)) (λ marks at. refl))
       where
         by : (s : State) (f : Form) → HasWay formIn Empties f → directly (effectBy f named i) s ≡ done (marked Emms s)
-        by s f (empties few) = refl
+        by s f empties = refl
 
     -- the shifts by an immediate
     pub does-shift : (number : ℕ) → y ≡ Shifts → operationOf number ≡ shiftOf (entry / 2 ^ 8 % 256) (w .reg)
         → work ≡ workOf toOperate number (w .rm) (i .immediate) next → Does work registers integers m (effectIn entry i) next
     unfolding performed operationIn
     does-shift number z e made =
-        let same : named ≡ operationOf number = simp (shift-digits formIn form (gone Shifts z)) (sym e) in
+        let same : named ≡ operationOf number = simp (shift-digits formIn form (goes entry l y Shifts way z)) (sym e) in
         rw made
         (of-work (workOf toOperate number (w .rm) (i .immediate) next)
         (λ s. putAt s (mmxRegister (w .rm)) (operate (operationOf number) (getD (s .mmx) (w .rm) 0) (i .immediate)))
         (sound-operation number (w .rm) (i .immediate) next (r .rm))
         (λ s.
-        shifted-by s named i formIn form (gone Shifts z)
+        shifted-by s named i formIn form (goes entry l y Shifts way z)
         ∙ ap (λ (o : Operation). putAt s (mmxRegister (w .rm)) (operate o (getD (s .mmx) (w .rm) 0) (i .immediate))) same)
         (λ marks at. refl))
 
@@ -181,36 +176,40 @@ module _ (registers integers m : List ℕ) (entry : ℕ) (i : Instruction) (next
     abbrev size : ℕ
     size = memorySize form
 
-    module _ (z : Way) (e : y ≡ z) where
-      two : hasTwo z ≡ true → 16 ≤ formIn
-      two = two-operands entry y z l way e
+    module _ (z : Way) (e : y ≡ z) (two : hasTwo z ≡ true) where
+      abbrev its : Other formIn file size
+      its = other entry l (two-operands formIn y z way e two)
 
-      plain : hasTwo z ≡ true → named ≡ operationOf (entry % 256)
+      plain : named ≡ operationOf (entry % 256)
       unfolding operationIn
-      plain h = simp (not-true (hasDigits form) (number-passes (λ f. not (hasDigits f)) 16 formIn (two h) refl refl))
+      plain = simp (not-true (hasDigits form) (number-passes (λ f. not (hasDigits f)) 16 formIn (its .two) refl refl))
 
-    pub does-put : (x : Spot) → y ≡ Stores → x ≡ here → work ≡ putWork x (getD registers (w .reg) 0) next → Does work registers integers m (effectIn entry i) next
-    does-put x g found e =
+      moves : isMove form ≡ true → named ≡ MOVE
+      moves e = plain ∙ l .moves e
+
+      take : ((s : State) → directly (effectIn entry i) s ≡ computedAs s named i formIn named form) → work ≡ takeWork registers integers m (entry % 256) (w .reg) here next
+          → Does work registers integers m (effectIn entry i) next
+      take left made =
+          rw made
+          (of-work (takeWork registers integers m (entry % 256) (w .reg) here next) (λ s. computedAs s named i formIn (operationOf (entry % 256)) form)
+          (sound-take registers integers m (entry % 256) (w .reg) here next (r .reg) here-named)
+          (λ s. left s ∙ ap (λ (o : Operation). computedAs s named i formIn o form) plain)
+          (takes registers integers m next size w (its .most) file (entry % 256) (w .reg)))
+
+    pub does-store : (x : Spot) → y ≡ Stores → x ≡ here → work ≡ putWork x (getD registers (w .reg) 0) next → Does work registers integers m (effectIn entry i) next
+    does-store x e found made =
         let v = getD registers (w .reg) 0 in
-        let o = other formIn (l .listed) (two Stores g refl) in
-        rw (e, found)
+        rw (made, found)
         (of-work (putWork here v next) (λ s. putAt s (otherOf formIn w) (heldBy (rm/mem file size) (getD (s .mmx) (w .reg) 0)))
         (sound-put here v next here-named)
-        (λ s. stored-by s named i formIn form (gone Stores g) (λ e. plain Stores g refl ∙ l .moves e))
-        (puts registers integers m next size w (o .most) file v (o .kept v)))
+        (λ s. stored-by s named i formIn form (goes entry l y Stores way e) (moves Stores e refl))
+        (puts registers integers m next size w (its Stores e refl .most) file v (its Stores e refl .kept v)))
 
-    pub does-take : (z : Way) → y ≡ z → isTaking z ≡ true → work ≡ takeWork registers integers m (entry % 256) (w .reg) here next
-        → Does work registers integers m (effectIn entry i) next
-    does-take z g taking e =
-        let h = taking-two z taking in
-        let o = other formIn (l .listed) (two z g h) in
-        rw e
-        (of-work (takeWork registers integers m (entry % 256) (w .reg) here next) (λ s. computedAs s named i formIn (operationOf (entry % 256)) form)
-        (sound-take registers integers m (entry % 256) (w .reg) here next (r .reg) here-named)
-        (λ s.
-        computed-by s named i formIn z form (gone z g) taking (λ e. plain z g h ∙ l .moves e)
-        ∙ ap (λ (o : Operation). computedAs s named i formIn o form) (plain z g h))
-        (takes registers integers m next size w (o .most) file (entry % 256) (w .reg)))
+    pub does-load : y ≡ Loads → work ≡ takeWork registers integers m (entry % 256) (w .reg) here next → Does work registers integers m (effectIn entry i) next
+    does-load e = take Loads e refl (λ s. loaded-by s named i formIn form (goes entry l y Loads way e) (moves Loads e refl))
+
+    pub does-compute : y ≡ Computes → work ≡ takeWork registers integers m (entry % 256) (w .reg) here next → Does work registers integers m (effectIn entry i) next
+    does-compute e = take Computes e refl (λ s. computed-by s named i formIn form (goes entry l y Computes way e))
 
 -- what the code makes where the operand is
 module _ (x y : Spot) (next : ℕ) (work : Work) (e : x ≡ y) where
@@ -225,7 +224,7 @@ module _ (x y : Spot) (next : ℕ) (work : Work) (e : x ≡ y) where
         → v ≡ u → work ≡ takeWork registers integers m number place there next
     made-taken v u h g same = made-take (h ∙ ap (λ (z : ℕ). workOf toOperate number place z next) same ∙ g)
 
-pub ruleset sorting = (needs, two-operands, does-empties, does-shift, does-put, does-take)
+pub ruleset sorting = (needs, two-operands, does-empties, does-shift, does-store, does-load, does-compute)
 
 pub ruleset putting = (needs, made-put)
 

@@ -11,6 +11,7 @@ use Rattle.manual.specs.Locations.{Location, mmxRegister, integerRegister, memo
 use Rattle.machine.specs.declared.operands.Spot.{Spot}
 use Rattle.machine.specs.declared.operands.Spot.the-variants.{Mmx, Integer, Bytes, Refused}
 use Rattle.machine.specs.inner.Spots.{fileIn, otherOf, spotOf, Named}
+use Rattle.machine.specs.inner.Ways.{wayOf, hasTwo}
 use Rattle.machine.specs.inner.Works.{Listed}
 use Rattle.machine.proofs.laws.ways.Numbering.{other}
 
@@ -46,17 +47,17 @@ module _ (integers : List ℕ) (room : ℕ) where
     pub spot-named : (x : Spot) → x ≡ here → Registers w → Named x
     spot-named x e r = subst Named (sym e) (named (fileIn (formOf form .operands)) (memorySize (formOf form)) w (r .rm))
 
-    module _ (l : Listed entry) (two : 16 ≤ form) where
+    module _ (l : Listed entry) (two : hasTwo (wayOf form) ≡ true) where
       module _ (register : w .mode ≡ 3) where
         in-register : (file : File) → fileIn (formOf form .operands) ≡ file → spotOf integers room (registerIn file (w .rm)) ≡ here
         unfolding rmOf
         in-register file e = simp (eq-eqb (w .mode) 3 register, e)
 
         pub spot-mmx : 17 < form → Mmx (w .rm) ≡ here
-        spot-mmx h = in-register mmxFile (other form (l .listed) two .past h)
+        spot-mmx h = in-register mmxFile (other entry l two .past h)
 
         pub spot-integer : form ≤ 17 → Integer (w .rm) ≡ here
-        spot-integer h = in-register integerFile (other form (l .listed) two .low h)
+        spot-integer h = in-register integerFile (other entry l two .low h)
 
       module _ (elsewhere : w .mode ≡ 3 → ⊥) (a : ℕ) (there : a ≡ address integers (addressOf w))
           (t : Bool) (test : t ≡ leb (a + entry / 2 ^ 16 % 256) room) where

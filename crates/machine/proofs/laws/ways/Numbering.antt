@@ -10,7 +10,7 @@ use Rattle.manual.specs.Instructions.{heldBy}
 use Rattle.machine.specs.declared.ways.Way.{Way}
 use Rattle.machine.specs.declared.ways.Way.the-variants.{Empties, Shifts, Stores, Loads, Computes}
 use Rattle.machine.specs.inner.Spots.{fileIn}
-use Rattle.machine.specs.inner.Ways.{wayOf}
+use Rattle.machine.specs.inner.Ways.{wayOf, hasTwo}
 use Rattle.machine.specs.inner.Works.{numbers, isListed, Listed}
 
 -- the register file and the size of r/m: MOVD's register is an integer register; of some bytes and at most eight, which a number that it takes keeps
@@ -47,9 +47,9 @@ pair number destination source =
 
 -- the forms of each way, by their operands
 pub data HasWay (n : ℕ) : Way → Form → Type 0 where
-  empties : n < 16 → HasWay n Empties alone
-  shifts-WD : n < 16 → HasWay n Shifts mmreg2·imm8/642
-  shifts-Q : n < 16 → HasWay n Shifts mmreg2·imm8/62
+  empties : HasWay n Empties alone
+  shifts-WD : HasWay n Shifts mmreg2·imm8/642
+  shifts-Q : HasWay n Shifts mmreg2·imm8/62
   stores : (file : File) (size : ℕ) → Other n file size → HasWay n Stores (pair n (written, rm/mem file size) mmreg1)
   loads : (file : File) (size : ℕ) → Other n file size → HasWay n Loads (pair n (written, mmreg1) (rm/mem file size))
   computes : (file : File) (size : ℕ) → Other n file size → HasWay n Computes (pair n (updated, mmreg1) (rm/mem file size))
@@ -75,7 +75,7 @@ pub has-way : (n : ℕ) → isListed n ≡ true → (n ≡ 0 → ⊥) → HasWay
 unfolding wayOf
 has-way n h =
     among (λ k. (k ≡ 0 → ⊥) → HasWay k (wayOf k) (formOf k)) n numbers h
-    (λ g. absurd (g refl)) (λ g. empties (omega arith)) (λ g. shifts-WD (omega arith)) (λ g. shifts-Q (omega arith))
+    (λ g. absurd (g refl)) (λ g. empties) (λ g. shifts-WD) (λ g. shifts-Q)
     (λ g. stores integerFile 4 (doubleword 16 (omega arith) (omega arith)))
     (λ g. loads integerFile 4 (doubleword 17 (omega arith) (omega arith)))
     (λ g. stores mmxFile 8 (multimedia 18 8 (omega arith) (omega arith) (omega arith)))
@@ -83,50 +83,27 @@ has-way n h =
     (λ g. computes mmxFile 4 (multimedia 20 4 (omega arith) (omega arith) (omega arith)))
     (λ g. computes mmxFile 8 (multimedia 21 8 (omega arith) (omega arith) (omega arith)))
 
-pub other : (n : ℕ) → isListed n ≡ true → 16 ≤ n → Other n (fileIn (formOf n .operands)) (memorySize (formOf n))
-other n h two = by (wayOf n) (formOf n) (has-way n h (λ e. omega arith))
-  where
-    by : (y : Way) (f : Form) → HasWay n y f → Other n (fileIn (f .operands)) (memorySize f)
-    by y f (empties few) = absurd (omega arith)
-    by y f (shifts-WD few) = absurd (omega arith)
-    by y f (shifts-Q few) = absurd (omega arith)
-    by y f (stores file size x) = x
-    by y f (loads file size x) = x
-    by y f (computes file size x) = x
+-- what is read, by its number in the table
+module _ (entry : ℕ) (l : Listed entry) where
+  abbrev form : ℕ
+  form = entry / 2 ^ 24
 
--- the ways of two operands, and of them those that take a number from the one of r/m
-abbrev pub hasTwo : Way → Bool
-hasTwo Empties = false
-hasTwo Shifts = false
-hasTwo Stores = true
-hasTwo Loads = true
-hasTwo Computes = true
+  pub goes : (y z : Way) → y ≡ wayOf form → y ≡ z → HasWay form z (formOf form)
+  goes y z w e = subst (λ (x : Way). HasWay form x (formOf form)) (sym w ∙ e) (has-way form (l .listed) (l .present))
 
-abbrev pub isTaking : Way → Bool
-isTaking Empties = false
-isTaking Shifts = false
-isTaking Stores = false
-isTaking Loads = true
-isTaking Computes = true
+  pub other : hasTwo (wayOf form) ≡ true → Other form (fileIn (formOf form .operands)) (memorySize (formOf form))
+  other = by (wayOf form) (formOf form) (goes (wayOf form) (wayOf form) refl refl)
+    where
+      by : (y : Way) (f : Form) → HasWay form y f → hasTwo y ≡ true → Other form (fileIn (f .operands)) (memorySize f)
+      by y f empties two = absurd (false≢true two)
+      by y f shifts-WD two = absurd (false≢true two)
+      by y f shifts-Q two = absurd (false≢true two)
+      by y f (stores file size x) two = x
+      by y f (loads file size x) two = x
+      by y f (computes file size x) two = x
 
-pub taking-two : (y : Way) → isTaking y ≡ true → hasTwo y ≡ true
-taking-two Empties e = e
-taking-two Shifts e = e
-taking-two Stores e = refl
-taking-two Loads e = refl
-taking-two Computes e = refl
-
-pub two-operands : (entry : ℕ) (y z : Way) → Listed entry → y ≡ wayOf (entry / 2 ^ 24) → y ≡ z → hasTwo z ≡ true → 16 ≤ entry / 2 ^ 24
-two-operands entry y z l w e two =
-    by (wayOf (entry / 2 ^ 24)) (formOf (entry / 2 ^ 24)) (has-way (entry / 2 ^ 24) (l .listed) (l .present)) (ap hasTwo (sym w ∙ e) ∙ two)
-  where
-    by : (y : Way) (f : Form) → HasWay (entry / 2 ^ 24) y f → hasTwo y ≡ true → 16 ≤ entry / 2 ^ 24
-    by y f (empties few) h = absurd (false≢true h)
-    by y f (shifts-WD few) h = absurd (false≢true h)
-    by y f (shifts-Q few) h = absurd (false≢true h)
-    by y f (stores file size x) h = x .two
-    by y f (loads file size x) h = x .two
-    by y f (computes file size x) h = x .two
+pub two-operands : (n : ℕ) (y z : Way) → y ≡ wayOf n → y ≡ z → hasTwo z ≡ true → hasTwo (wayOf n) ≡ true
+two-operands n y z w e two = ap hasTwo (sym w ∙ e) ∙ two
 
 -- the tests of the code
 module _ (n : ℕ) where
