@@ -69,15 +69,18 @@ fn unmarked(machine: Machine, entry: u32, instruction: Instruction, memory: &[u8
 {
     let operand = instruction.operand;
     let way = ways::way_of(entry / FORM);
-    match reaches::reach_of_way(machine, way, entry, operand, memory) {
-        Reach::Inside(registers, places) => Tracing::Traced(footprint_of_way(
-            way,
-            operand,
-            registers,
-            places,
-        )),
-        Reach::Refused(refusal) => Tracing::Refused(refusal),
+    if ways::has_two_operands(way) {
+        return match reaches::reach_operand(machine, entry, operand, memory) {
+            Reach::Inside(registers, places) => Tracing::Traced(footprint_of_way(
+                way,
+                operand,
+                registers,
+                places,
+            )),
+            Reach::Refused(refusal) => Tracing::Refused(refusal),
+        };
     }
+    Tracing::Traced(footprint_of_way(way, operand, 0, reaches::NOWHERE))
 }
 
 impl Machine {

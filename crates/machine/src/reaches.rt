@@ -4,13 +4,12 @@ use crate::Places;
 use crate::operands;
 use crate::operands::Spot;
 use crate::register_masks;
-use crate::ways::Way;
 use codec::Operand;
 ghost use Rattle.basis.specs.Names.{_≡_, true, _/_, _^_, _<_};
 ghost use Rattle.codec.specs.inner.Fields.{Registers};
 ghost use Rattle.manual.specs.Locations.{placesOf};
 ghost use Rattle.machine.specs.State.{stateOf};
-ghost use Rattle.machine.specs.inner.Reaches.{beside, reachOf, reachOfWay};
+ghost use Rattle.machine.specs.inner.Reaches.{beside, reachOf};
 ghost use Rattle.machine.specs.inner.Spots.{otherOf};
 ghost use Rattle.machine.specs.inner.Ways.{hasTwo, wayOf};
 ghost use Rattle.machine.specs.inner.Works.{Listed};
@@ -43,7 +42,7 @@ pub(crate) fn with_register(register: u8, places: Places) -> Places
 }
 
 // The operand that r/m names.
-fn reach_operand(machine: Machine, entry: u32, operand: Operand, memory: &[u8]) -> Reach
+pub(crate) fn reach_operand(machine: Machine, entry: u32, operand: Operand, memory: &[u8]) -> Reach
     requires { ⌜ Registers operand × (Listed entry × (hasTwo (wayOf (entry / 2 ^ 24)) ≡ true)) ⌝ }
     ensures { λ r. ⌜ r ≡ reachOf (otherOf (entry / 2 ^ 24) operand) (placesOf (stateOf machine (now (memory .entry))) (otherOf (entry / 2 ^ 24) operand)) ⌝ }
 {
@@ -71,25 +70,5 @@ fn reach_operand(machine: Machine, entry: u32, operand: Operand, memory: &[u8]) 
             },
         ),
         Spot::Refused(refusal) => Reach::Refused(refusal),
-    }
-}
-
-// The operand that r/m names where there are two; else nowhere.
-pub(crate) fn reach_of_way(
-    machine: Machine,
-    way: Way,
-    entry: u32,
-    operand: Operand,
-    memory: &[u8],
-) -> Reach
-    requires { ⌜ Registers operand × (Listed entry × (way ≡ wayOf (entry / 2 ^ 24))) ⌝ }
-    ensures { λ r. ⌜ r ≡ reachOfWay way (reachOf (otherOf (entry / 2 ^ 24) operand) (placesOf (stateOf machine (now (memory .entry))) (otherOf (entry / 2 ^ 24) operand))) ⌝ }
-{
-    match way {
-        Way::Empties => Reach::Inside(0, NOWHERE),
-        Way::Shifts => Reach::Inside(0, NOWHERE),
-        Way::Stores => reach_operand(machine, entry, operand, memory),
-        Way::Loads => reach_operand(machine, entry, operand, memory),
-        Way::Computes => reach_operand(machine, entry, operand, memory),
     }
 }

@@ -6,7 +6,7 @@ use codec::forms::STORE_D;
 use codec::forms::STORE_Q;
 use codec::forms::TWO_OPERANDS;
 ghost use Rattle.basis.specs.Names.{_≡_};
-ghost use Rattle.machine.specs.inner.Ways.{wayOf};
+ghost use Rattle.machine.specs.inner.Ways.{hasTwo, wayOf};
 
 // The tag mark is set empty; a register is shifted by an immediate; an MMX register is stored in the operand of r/m, loaded from it, or computed with it.
 pub(crate) enum Way {
@@ -31,4 +31,16 @@ pub(crate) fn way_of(form: u32) -> Way
         return Way::Empties;
     }
     Way::Shifts
+}
+
+pub(crate) fn has_two_operands(way: Way) -> bool
+    ensures { λ r. ⌜ r ≡ hasTwo way ⌝ }
+{
+    match way {
+        Way::Empties => false,
+        Way::Shifts => false,
+        Way::Stores => true,
+        Way::Loads => true,
+        Way::Computes => true,
+    }
 }

@@ -16,7 +16,6 @@ use Rattle.machine.specs.declared.reaches.Reach.the-variants.{Inside, Re
 use Rattle.machine.specs.declared.ways.Way.{Way}
 use Rattle.machine.specs.declared.ways.Way.the-variants.{Empties, Shifts, Stores, Loads, Computes}
 use Rattle.machine.specs.Footprints.{mask, setOf, masked}
-use Rattle.machine.specs.inner.Ways.{hasTwo}
 
 abbrev pub nowhere : Places
 nowhere = setOf []
@@ -43,10 +42,6 @@ behind w = cond (eqb (w .mode) 3) 0 (mask (addressRegisters (addressOf w)))
 -- what is read, beside the address registers, and what is written
 abbrev pub ordinaryFootprint : ℕ → Places → Places → Footprint
 ordinaryFootprint registers reads writes = record { reads = through registers reads; writes = writes; kind = Ordinary }
-
--- by the way: nowhere, unless there are two operands
-abbrev pub reachOfWay : Way → Reach → Reach
-reachOfWay way there = cond (hasTwo way) there (Inside 0 nowhere)
 
 -- what each way reads and writes, and of two operands the one of r/m has these address registers and places
 abbrev pub footprintOfWay : Way → Operand → ℕ → Places → Footprint

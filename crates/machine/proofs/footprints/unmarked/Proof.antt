@@ -7,5 +7,5 @@ pub unmarked-spec : {M : Type 1} → statement M
 unmarked-spec =
     tie.close
     (tie.spec
-    (λ c κs. search form-rules) (λ c κs. search form-rules) (λ c. search form-rules) (λ c κs. search form-rules) (λ c. search form-rules)
-    (λ c. search form-rules) (λ c. search form-rules))
+    (λ c κs. search form-rules) (λ c κs. search form-rules) (λ c κs. search form-rules) (λ c. search form-rules) (λ c κs. search form-rules)
+    (λ c. search form-rules) (λ c. search form-rules) (λ c. search form-rules) (λ c κs. search form-rules) (λ c. search form-rules))

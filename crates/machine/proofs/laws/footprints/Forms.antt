@@ -1,5 +1,5 @@
 -- The footprint that no control mark stops, by the way. Rules for what the code makes of an instruction.
-use Rattle.basis.specs.Names.{_≡_, refl, ℕ, _/_, _^_}
+use Rattle.basis.specs.Names.{_≡_, refl, Bool, true, false, cond, ℕ, _/_, _^_}
 use Rattle.basis.proofs.Names.{needs}
 use Rattle.lanes.specs.Operations.{Operation, operate}
 use Rattle.reorder.specs.Result.{done, refused}
@@ -15,11 +15,11 @@ use Rattle.machine.specs.declared.Footprint.{Footprint}
 use Rattle.machine.specs.declared.reaches.Reach.{Reach}
 use Rattle.machine.specs.declared.reaches.Reach.the-variants.{Inside, Refused}
 use Rattle.machine.specs.declared.ways.Way.{Way}
-use Rattle.machine.specs.inner.Reaches.{reachOf, reachOfWay, footprintOfWay, unmarkedFootprint}
+use Rattle.machine.specs.inner.Reaches.{nowhere, reachOf, footprintOfWay, unmarkedFootprint}
 use Rattle.machine.specs.inner.Spots.{fileIn, otherOf}
-use Rattle.machine.specs.inner.Ways.{wayOf}
+use Rattle.machine.specs.inner.Ways.{wayOf, hasTwo}
 use Rattle.machine.specs.inner.Works.{effectIn, Listed}
-use Rattle.machine.proofs.laws.ways.Numbering.{HasWay, empties, shifts-WD, shifts-Q, stores, loads, computes, goes}
+use Rattle.machine.proofs.laws.ways.Numbering.{HasWay, empties, shifts-WD, shifts-Q, stores, loads, computes, goes, two-tested}
 use Rattle.machine.proofs.laws.footprints.ByWay.{tracedAs, store-footprint, load-footprint, compute-footprint}
 
 module _ (s : State) (entry : ℕ) (i : Instruction) where
@@ -36,8 +36,8 @@ module _ (s : State) (entry : ℕ) (i : Instruction) where
   abbrev copied : ℕ → ℕ
   copied v = operate named v v
 
-  footprints : (y : Way) (f : Form) → HasWay form y f
-      → unmarkedFootprint (effectBy f named i) s ≡ tracedAs (footprintOfWay y (i .operand)) (reachOfWay y (reachOf (other f) (placesOf s (other f))))
+  footprints : (y : Way) (f : Form) → HasWay form y f → unmarkedFootprint (effectBy f named i) s
+      ≡ tracedAs (footprintOfWay y (i .operand)) (cond (hasTwo y) (reachOf (other f) (placesOf s (other f))) (Inside 0 nowhere))
   unfolding unmarkedFootprint
   footprints y f empties = refl
   footprints y f shifts-WD = refl
@@ -46,15 +46,15 @@ module _ (s : State) (entry : ℕ) (i : Instruction) where
   footprints y f (loads file size x) = load-footprint s (i .operand) (other f) copied (placesOf s (other f))
   footprints y f (computes file size x) = compute-footprint s (i .operand) (other f) (operate named) (placesOf s (other f))
 
-  module _ (l : Listed entry) (y : Way) (way : y ≡ wayOf form) (r : Reach)
-      (reached : r ≡ reachOfWay y (reachOf (otherOf form (i .operand)) (placesOf s (otherOf form (i .operand))))) where
-    by-way : unmarkedFootprint (effectIn entry i) s ≡ tracedAs (footprintOfWay y (i .operand)) r
-    by-way = rw reached (footprints y (formOf form) (goes entry l y y way refl))
+  module _ (l : Listed entry) (y : Way) (way : y ≡ wayOf form) (t : Bool) (test : t ≡ hasTwo y) where
+    pub traced-few : (f : Footprint) → t ≡ false → f ≡ footprintOfWay y (i .operand) 0 nowhere → done f ≡ unmarkedFootprint (effectIn entry i) s
+    traced-few f few e = simp (footprints y (formOf form) (goes entry l y y way refl), ← test, few, e)
 
-    pub traced-inside : (f : Footprint) (m : ℕ) (p : Places) → r ≡ Inside m p → f ≡ footprintOfWay y (i .operand) m p → done f ≡ unmarkedFootprint (effectIn entry i) s
-    traced-inside f m p inside e = simp (by-way, inside, e)
+    module _ (two : t ≡ true) (r : Reach) (reached : r ≡ reachOf (otherOf form (i .operand)) (placesOf s (otherOf form (i .operand)))) where
+      pub traced-inside : (f : Footprint) (m : ℕ) (p : Places) → r ≡ Inside m p → f ≡ footprintOfWay y (i .operand) m p → done f ≡ unmarkedFootprint (effectIn entry i) s
+      traced-inside f m p inside e = simp (footprints y (formOf form) (goes entry l y y way refl), ← test, two, ← reached, inside, e)
 
-    pub traced-outside : (n : ℕ) → r ≡ Refused n → refused n ≡ unmarkedFootprint (effectIn entry i) s
-    traced-outside n e = simp (by-way, e)
+      pub traced-outside : (n : ℕ) → r ≡ Refused n → refused n ≡ unmarkedFootprint (effectIn entry i) s
+      traced-outside n e = simp (footprints y (formOf form) (goes entry l y y way refl), ← test, two, ← reached, e)
 
-pub ruleset form-rules = (needs, traced-inside, traced-outside)
+pub ruleset form-rules = (needs, two-tested, traced-few, traced-inside, traced-outside)

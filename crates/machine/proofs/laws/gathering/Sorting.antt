@@ -178,7 +178,7 @@ module _ (registers integers m : List ℕ) (entry : ℕ) (i : Instruction) (next
 
     module _ (z : Way) (e : y ≡ z) (two : hasTwo z ≡ true) where
       abbrev its : Other formIn file size
-      its = other entry l (two-operands formIn y z way e two)
+      its = other entry l (two-operands formIn y way z e two)
 
       plain : named ≡ operationOf (entry % 256)
       unfolding operationIn

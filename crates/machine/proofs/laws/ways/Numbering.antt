@@ -102,8 +102,13 @@ module _ (entry : ℕ) (l : Listed entry) where
       by y f (loads file size x) two = x
       by y f (computes file size x) two = x
 
-pub two-operands : (n : ℕ) (y z : Way) → y ≡ wayOf n → y ≡ z → hasTwo z ≡ true → hasTwo (wayOf n) ≡ true
-two-operands n y z w e two = ap hasTwo (sym w ∙ e) ∙ two
+-- two operands, by which way it is or by the code's test
+module _ (n : ℕ) (y : Way) (way : y ≡ wayOf n) where
+  pub two-operands : (z : Way) → y ≡ z → hasTwo z ≡ true → hasTwo (wayOf n) ≡ true
+  two-operands z e two = ap hasTwo (sym way ∙ e) ∙ two
+
+  pub two-tested : (t : Bool) → t ≡ hasTwo y → t ≡ true → hasTwo (wayOf n) ≡ true
+  two-tested t test two = ap hasTwo (sym way) ∙ sym test ∙ two
 
 -- the tests of the code
 module _ (n : ℕ) where
@@ -130,4 +135,8 @@ module _ (n : ℕ) where
   way-computes h s l =
       simp (le-leb 16 n h, ne-eqb n 16 (λ e. s (inl e)), ne-eqb n 18 (λ e. s (inr e)), ne-eqb n 17 (λ e. l (inl e)), ne-eqb n 19 (λ e. l (inr e)))
 
-pub ruleset way-rules = (needs, way-empties, way-shifts, way-stores, way-loads, way-computes)
+-- by which way it is
+pub two-by : (y z : Way) (b : Bool) → y ≡ z → b ≡ hasTwo z → b ≡ hasTwo y
+two-by y z b e h = h ∙ ap hasTwo (sym e)
+
+pub ruleset way-rules = (needs, way-empties, way-shifts, way-stores, way-loads, way-computes, two-by)
