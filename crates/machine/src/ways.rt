@@ -1,4 +1,4 @@
-// The ways that the forms of instructions go. Only here is a form's number sorted.
+// The ways that instructions go, by the numbers of their forms: sorted here for the step and for the footprint.
 use codec::forms::EMMS;
 use codec::forms::LOAD_D;
 use codec::forms::LOAD_Q;

@@ -32,27 +32,21 @@ tracedAs made (Inside registers p) = done (made registers p)
 tracedAs made (Refused n) = refused n
 
 module _ (s : State) (w : Operand) (x : Location) where
-  abbrev own : Location
-  own = mmxRegister (w .reg)
-
-  abbrev ownPlace : List Place
-  ownPlace = mmx (w .reg) ∷ []
-
   -- from these places, with this plan
   abbrev shown : Effect → Result (List Place) → Result (List Place) → Result Footprint
   shown e sources targets =
       mapResult masked (footprintIn look (via e) s (andThen sources (λ source. mapResult (planOn e source) targets)))
 
-  pub store-footprint : (f : ℕ → ℕ) (o : Result (List Place)) → shown (move f x own) (done ownPlace) (one o) ≡ tracedAs (footprintOfWay Stores w) (reachOf x o)
+  pub store-footprint : (f : ℕ → ℕ) (o : Result (List Place)) → shown (move f x (mmxRegister (w .reg))) (done (mmx (w .reg) ∷ [])) (one o) ≡ tracedAs (footprintOfWay Stores w) (reachOf x o)
   store-footprint f (done ps) = simp (append-nil, set-through)
   store-footprint f (refused n) = refl
 
-  pub load-footprint : (f : ℕ → ℕ) (o : Result (List Place)) → shown (move f own x) (one o) (done ownPlace) ≡ tracedAs (footprintOfWay Loads w) (reachOf x o)
+  pub load-footprint : (f : ℕ → ℕ) (o : Result (List Place)) → shown (move f (mmxRegister (w .reg)) x) (one o) (done (mmx (w .reg) ∷ [])) ≡ tracedAs (footprintOfWay Loads w) (reachOf x o)
   load-footprint f (done ps) = simp (append-nil, set-through)
   load-footprint f (refused n) = refl
 
   pub compute-footprint : (f : ℕ → ℕ → ℕ) (o : Result (List Place))
-      → shown (both f own x) (mapResult (λ qs. mmx (w .reg) ∷ qs) (one o)) (done ownPlace) ≡ tracedAs (footprintOfWay Computes w) (reachOf x o)
+      → shown (both f (mmxRegister (w .reg)) x) (mapResult (λ qs. mmx (w .reg) ∷ qs) (one o)) (done (mmx (w .reg) ∷ [])) ≡ tracedAs (footprintOfWay Computes w) (reachOf x o)
   compute-footprint f (done ps) = simp (append-nil, set-through)
   compute-footprint f (refused n) = refl
 

@@ -185,7 +185,7 @@ module _ (registers integers m : List ℕ) (entry : ℕ) (i : Instruction) (next
       plain = simp (not-true (hasDigits form) (number-passes (λ f. not (hasDigits f)) 16 formIn (its .two) refl refl))
 
       moves : isMove form ≡ true → named ≡ MOVE
-      moves e = plain ∙ l .moves e
+      moves m = plain ∙ l .moves m
 
       take : ((s : State) → directly (effectIn entry i) s ≡ computedAs s named i formIn named form) → work ≡ takeWork registers integers m (entry % 256) (w .reg) here next
           → Does work registers integers m (effectIn entry i) next

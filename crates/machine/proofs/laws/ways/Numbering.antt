@@ -135,8 +135,8 @@ module _ (n : ℕ) where
   way-computes h s l =
       simp (le-leb 16 n h, ne-eqb n 16 (λ e. s (inl e)), ne-eqb n 18 (λ e. s (inr e)), ne-eqb n 17 (λ e. l (inl e)), ne-eqb n 19 (λ e. l (inr e)))
 
--- by which way it is
-pub two-by : (y z : Way) (b : Bool) → y ≡ z → b ≡ hasTwo z → b ≡ hasTwo y
-two-by y z b e h = h ∙ ap hasTwo (sym e)
+-- the answer of the code by which way it is
+pub two-by : (y z : Way) (t : Bool) → y ≡ z → t ≡ hasTwo z → t ≡ hasTwo y
+two-by y z t e h = h ∙ ap hasTwo (sym e)
 
 pub ruleset way-rules = (needs, way-empties, way-shifts, way-stores, way-loads, way-computes, two-by)
