@@ -1,4 +1,5 @@
 -- The words of private contracts: nobody has to believe them.
+pub mod Ways
 pub mod Spots
 pub mod Works
-pub mod Shapes
+pub mod Reaches

@@ -1,4 +1,4 @@
-// The footprint of the step at a position: what each form reads and writes, after the tests of the step.
+// The footprint of the step at a position: what each way reads and writes, after the tests of the step.
 use crate::Footprint;
 use crate::Machine;
 use crate::Places;
@@ -8,22 +8,19 @@ use crate::reaches;
 use crate::reaches::Reach;
 use crate::refusals::LONGEST_MEMORY;
 use crate::refusals::MEMORY_TOO_LONG;
+use crate::ways;
+use crate::ways::Way;
 use codec::Instruction;
 use codec::Kind;
-use codec::forms::EMMS;
+use codec::Operand;
 use codec::forms::FORM;
-use codec::forms::LOAD_D;
-use codec::forms::LOAD_Q;
-use codec::forms::STORE_D;
-use codec::forms::STORE_Q;
-use codec::forms::TWO_OPERANDS;
 use codec::refusals::CODE_TOO_LONG;
 use codec::refusals::LONGEST_CODE;
-ghost use Rattle.basis.specs.Names.{_≡_, _/_, _^_, _≤_, _<_};
+ghost use Rattle.basis.specs.Names.{_≡_};
 ghost use Rattle.codec.specs.inner.Fields.{Registers};
 ghost use Rattle.machine.specs.State.{stateOf};
 ghost use Rattle.machine.specs.Footprints.{maskedAt, paperOfFootprint};
-ghost use Rattle.machine.specs.inner.Shapes.{ordinaryFootprint, wayOf, shapedAs, unmarkedFootprint};
+ghost use Rattle.machine.specs.inner.Reaches.{ordinaryFootprint, footprintOfWay, unmarkedFootprint};
 ghost use Rattle.machine.specs.inner.Works.{effectIn, Listed};
 
 // What is read, with the address registers, and what is written.
@@ -43,34 +40,25 @@ fn ordinary(registers: u8, reads: Places, writes: Places) -> Footprint
     }
 }
 
-// An MMX register is stored in the operand of r/m, or loaded from it, or computed with it: then both are read.
-fn shaped(form: u32, register: u8, registers: u8, places: Places) -> Footprint
-    requires { ⌜ register < 8 ⌝ }
-    ensures { λ r. ⌜ r ≡ shapedAs (wayOf form) register registers places ⌝ }
+// What each way reads and writes: of two operands the one of r/m has these address registers and places.
+fn footprint_of_way(way: Way, operand: Operand, registers: u8, places: Places) -> Footprint
+    requires { ⌜ Registers operand ⌝ }
+    ensures { λ r. ⌜ r ≡ footprintOfWay way operand registers places ⌝ }
 {
-    let own = reaches::with_register(register, reaches::NOWHERE);
-    match form {
-        STORE_D | STORE_Q => ordinary(registers, own, places),
-        LOAD_D | LOAD_Q => ordinary(registers, places, own),
-        _ => ordinary(registers, reaches::with_register(register, places), own),
-    }
-}
-
-// An instruction with two operands.
-fn two_operands(machine: Machine, entry: u32, instruction: Instruction, memory: &[u8]) -> Tracing
-    requires { ⌜ Registers (instruction .operand) × (Listed entry × (16 ≤ entry / 2 ^ 24)) ⌝ }
-    ensures { λ r. ⌜ paperOfFootprint r ≡ unmarkedFootprint (effectIn entry instruction) (stateOf machine (now (memory .entry))) ⌝ }
-{
-    let operand = instruction.operand;
-    let reached = reaches::reach_operand(machine, entry, operand, memory);
-    match reached {
-        Reach::Inside(registers, places) => Tracing::Traced(shaped(
-            entry / FORM,
-            operand.reg,
-            registers,
-            places,
-        )),
-        Reach::Refused(refusal) => Tracing::Refused(refusal),
+    let own = reaches::with_register(operand.reg, reaches::NOWHERE);
+    match way {
+        Way::Empties => Footprint {
+            reads: reaches::NOWHERE,
+            writes: reaches::NOWHERE,
+            kind: Kind::Emms,
+        },
+        Way::Shifts => {
+            let shifted = reaches::with_register(operand.rm, reaches::NOWHERE);
+            ordinary(0, shifted, shifted)
+        }
+        Way::Stores => ordinary(registers, own, places),
+        Way::Loads => ordinary(registers, places, own),
+        Way::Computes => ordinary(registers, reaches::with_register(operand.reg, places), own),
     }
 }
 
@@ -79,23 +67,20 @@ fn unmarked(machine: Machine, entry: u32, instruction: Instruction, memory: &[u8
     requires { ⌜ Registers (instruction .operand) × Listed entry ⌝ }
     ensures { λ r. ⌜ paperOfFootprint r ≡ unmarkedFootprint (effectIn entry instruction) (stateOf machine (now (memory .entry))) ⌝ }
 {
-    let form = entry / FORM;
-    if TWO_OPERANDS <= form {
-        return two_operands(machine, entry, instruction, memory);
+    let operand = instruction.operand;
+    let way = ways::way_of(entry / FORM);
+    if ways::has_two_operands(way) {
+        return match reaches::reach_operand(machine, entry, operand, memory) {
+            Reach::Inside(registers, places) => Tracing::Traced(footprint_of_way(
+                way,
+                operand,
+                registers,
+                places,
+            )),
+            Reach::Refused(refusal) => Tracing::Refused(refusal),
+        };
     }
-    if form == EMMS {
-        return Tracing::Traced(Footprint {
-            reads: reaches::NOWHERE,
-            writes: reaches::NOWHERE,
-            kind: Kind::Emms,
-        });
-    }
-    let register = reaches::with_register(instruction.operand.rm, reaches::NOWHERE);
-    Tracing::Traced(Footprint {
-        reads: register,
-        writes: register,
-        kind: Kind::Ordinary,
-    })
+    Tracing::Traced(footprint_of_way(way, operand, 0, reaches::NOWHERE))
 }
 
 impl Machine {

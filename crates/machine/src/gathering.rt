@@ -5,23 +5,22 @@ use crate::refusals::INVALID_OPCODE;
 use crate::refusals::IS_PENDING;
 use crate::refusals::NOT_AVAILABLE;
 use crate::shifts;
+use crate::ways;
+use crate::ways::Way;
 use codec::Instruction;
-use codec::forms::EMMS;
+use codec::Operand;
 use codec::forms::FORM;
 use codec::forms::LANE;
 use codec::forms::PART;
-use codec::forms::SIZE;
-use codec::forms::STORE_D;
-use codec::forms::STORE_Q;
-use codec::forms::TWO_OPERANDS;
 use lanes::MOVE;
 use manual::Marks;
-ghost use Rattle.basis.specs.Names.{_≡_, _/_, _%_, _^_, _≤_, length};
+ghost use Rattle.basis.specs.Names.{_≡_, true, _/_, _%_, _^_, _≤_, length};
 ghost use Rattle.codec.specs.inner.Fields.{Registers};
 ghost use Rattle.codec.specs.Table.{opcodeTable};
 ghost use Rattle.codec.specs.Reads.{longestCode};
 ghost use Rattle.manual.specs.State.{longestMemory};
-ghost use Rattle.machine.specs.inner.Spots.{Named};
+ghost use Rattle.machine.specs.inner.Spots.{otherOf, spotOf};
+ghost use Rattle.machine.specs.inner.Ways.{hasTwo, wayOf};
 ghost use Rattle.machine.specs.inner.Works.{barredBy, effectIn, Listed, workOf, refusedWork, putWork, takeWork, Does, Gathered};
 
 // How many values a doubleword has.
@@ -86,13 +85,13 @@ pub(crate) fn barred(marks: Marks) -> u8
 }
 
 // A value is put where the operand is: in memory so many bytes of it.
-fn put(spot: Spot, size: u8, value: u64, next: usize) -> Work
-    ensures { λ r. ⌜ r ≡ putWork spot size value next ⌝ }
+fn put(spot: Spot, value: u64, next: usize) -> Work
+    ensures { λ r. ⌜ r ≡ putWork spot value next ⌝ }
 {
     match spot {
         Spot::Mmx(register) => work_of(OPERATE, MOVE, register as usize, value, next),
         Spot::Integer(register) => work_of(TO_INTEGER, 0, register as usize, value, next),
-        Spot::Bytes(address) => work_of(STORE, size, address, value, next),
+        Spot::Bytes(address, size) => work_of(STORE, size, address, value, next),
         Spot::Refused(refusal) => refused(refusal),
     }
 }
@@ -108,17 +107,16 @@ fn computed(
     mmx: &[u64; 8],
     integers: &[u32; 8],
     entry: u32,
-    register: usize,
-    spot: Spot,
+    operand: Operand,
     next: usize,
     memory: &[u8],
 ) -> Work
-    requires { ⌜ Named spot ⌝ }
-    ensures { λ r. ⌜ r ≡ takeWork (now (mmx .entry)) (now (integers .entry)) (now (memory .entry)) (entry % 256) register (entry / 2 ^ 16 % 256) spot next ⌝ }
+    requires { ⌜ Registers operand × (Listed entry × (hasTwo (wayOf (entry / 2 ^ 24)) ≡ true)) ⌝ }
+    ensures { λ r. ⌜ r ≡ takeWork (now (mmx .entry)) (now (integers .entry)) (now (memory .entry)) (entry % 256) (operand .reg) (spotOf (now (integers .entry)) (length (now (memory .entry))) (otherOf (entry / 2 ^ 24) operand)) next ⌝ }
 {
     let number = (entry % PART) as u8;
-    let size = (entry / SIZE % PART) as usize;
-    match spot {
+    let register = operand.reg as usize;
+    match operands::located(integers, entry, operand, memory.len()) {
         Spot::Mmx(other) => work_of(OPERATE, number, register, mmx[other as usize], next),
         Spot::Integer(other) => work_of(
             OPERATE,
@@ -127,11 +125,11 @@ fn computed(
             widened(integers[other as usize]),
             next,
         ),
-        Spot::Bytes(address) => work_of(
+        Spot::Bytes(address, size) => work_of(
             OPERATE,
             number,
             register,
-            words::load(memory, address, size),
+            words::load(memory, address, size as usize),
             next,
         ),
         Spot::Refused(refusal) => refused(refusal),
@@ -151,26 +149,25 @@ fn sorted(
     ensures { λ r. ⌜ Does r (now (mmx .entry)) (now (integers .entry)) (now (memory .entry)) (effectIn entry instruction) next ⌝ }
 {
     let operand = instruction.operand;
-    let form = entry / FORM;
-    let register = operand.reg as usize;
-    if TWO_OPERANDS <= form {
-        let spot = operands::located(integers, entry, operand, memory.len());
-        return match form {
-            STORE_D | STORE_Q => put(spot, (entry / SIZE % PART) as u8, mmx[register], next),
-            _ => computed(mmx, integers, entry, register, spot, next, memory),
-        };
+    match ways::way_of(entry / FORM) {
+        Way::Empties => work_of(EMPTY, 0, 0, 0, next),
+        Way::Shifts => {
+            let number = shifts::shift_number((entry / LANE % PART) as u8, operand.reg);
+            work_of(
+                OPERATE,
+                number,
+                operand.rm as usize,
+                instruction.immediate as u64,
+                next,
+            )
+        }
+        Way::Stores => {
+            let spot = operands::located(integers, entry, operand, memory.len());
+            put(spot, mmx[operand.reg as usize], next)
+        }
+        Way::Loads => computed(mmx, integers, entry, operand, next, memory),
+        Way::Computes => computed(mmx, integers, entry, operand, next, memory),
     }
-    if form == EMMS {
-        return work_of(EMPTY, 0, 0, 0, next);
-    }
-    let number = shifts::shift_number((entry / LANE % PART) as u8, operand.reg);
-    work_of(
-        OPERATE,
-        number,
-        operand.rm as usize,
-        instruction.immediate as u64,
-        next,
-    )
 }
 
 // The instruction at a position: the reader's refusals, then `bar`, that of the control marks or 0, then that of its operand.

@@ -11,6 +11,7 @@ mod running;
 mod shifts;
 mod starting;
 mod stepping;
+mod ways;
 
 use codec::Kind;
 use manual::Marks;

@@ -7,16 +7,17 @@ use codec::forms::LOAD_D;
 use codec::forms::PART;
 use codec::forms::SIZE;
 use codec::modes::REGISTER;
-ghost use Rattle.basis.specs.Names.{_≡_, _+_, _/_, _^_, _≤_, leb};
+ghost use Rattle.basis.specs.Names.{_≡_, true, _+_, _/_, _^_, leb};
 ghost use Rattle.codec.specs.inner.Fields.{Registers};
-ghost use Rattle.machine.specs.inner.Works.{Listed};
 ghost use Rattle.machine.specs.inner.Spots.{otherOf, spotOf};
+ghost use Rattle.machine.specs.inner.Ways.{hasTwo, wayOf};
+ghost use Rattle.machine.specs.inner.Works.{Listed};
 
-// The number of the MMX register or of the integer register, the address of the first byte, or the refusal.
+// The number of the MMX register or of the integer register, the address of the first byte with how many they are, or the refusal.
 pub(crate) enum Spot {
     Mmx(u8),
     Integer(u8),
-    Bytes(usize),
+    Bytes(usize, u8),
     Refused(u8),
 }
 
@@ -32,13 +33,14 @@ fn lies_inside(room: usize, address: usize, size: usize) -> bool
 
 // MOVD's register is an integer register.
 pub(crate) fn located(integers: &[u32; 8], entry: u32, operand: Operand, room: usize) -> Spot
-    requires { ⌜ Registers operand × (Listed entry × (16 ≤ entry / 2 ^ 24)) ⌝ }
+    requires { ⌜ Registers operand × (Listed entry × (hasTwo (wayOf (entry / 2 ^ 24)) ≡ true)) ⌝ }
     ensures { λ r. ⌜ r ≡ spotOf (now (integers .entry)) room (otherOf (entry / 2 ^ 24) operand) ⌝ }
 {
     if operand.mode != REGISTER {
         let address = addresses::address_of(integers, operand) as usize;
-        if lies_inside(room, address, (entry / SIZE % PART) as usize) {
-            return Spot::Bytes(address);
+        let size = (entry / SIZE % PART) as u8;
+        if lies_inside(room, address, size as usize) {
+            return Spot::Bytes(address, size);
         }
         return Spot::Refused(OUTSIDE_MEMORY);
     }

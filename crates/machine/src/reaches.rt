@@ -5,14 +5,13 @@ use crate::operands;
 use crate::operands::Spot;
 use crate::register_masks;
 use codec::Operand;
-use codec::forms::PART;
-use codec::forms::SIZE;
-ghost use Rattle.basis.specs.Names.{_≡_, _/_, _^_, _≤_, _<_};
+ghost use Rattle.basis.specs.Names.{_≡_, true, _/_, _^_, _<_};
 ghost use Rattle.codec.specs.inner.Fields.{Registers};
 ghost use Rattle.manual.specs.Locations.{placesOf};
 ghost use Rattle.machine.specs.State.{stateOf};
-ghost use Rattle.machine.specs.inner.Shapes.{beside, reachOf};
+ghost use Rattle.machine.specs.inner.Reaches.{beside, reachOf};
 ghost use Rattle.machine.specs.inner.Spots.{otherOf};
+ghost use Rattle.machine.specs.inner.Ways.{hasTwo, wayOf};
 ghost use Rattle.machine.specs.inner.Works.{Listed};
 
 // No places.
@@ -44,7 +43,7 @@ pub(crate) fn with_register(register: u8, places: Places) -> Places
 
 // The operand that r/m names.
 pub(crate) fn reach_operand(machine: Machine, entry: u32, operand: Operand, memory: &[u8]) -> Reach
-    requires { ⌜ Registers operand × (Listed entry × (16 ≤ entry / 2 ^ 24)) ⌝ }
+    requires { ⌜ Registers operand × (Listed entry × (hasTwo (wayOf (entry / 2 ^ 24)) ≡ true)) ⌝ }
     ensures { λ r. ⌜ r ≡ reachOf (otherOf (entry / 2 ^ 24) operand) (placesOf (stateOf machine (now (memory .entry))) (otherOf (entry / 2 ^ 24) operand)) ⌝ }
 {
     let integers = machine.integers;
@@ -61,13 +60,13 @@ pub(crate) fn reach_operand(machine: Machine, entry: u32, operand: Operand, memo
                 length: 0,
             },
         ),
-        Spot::Bytes(address) => Reach::Inside(
+        Spot::Bytes(address, size) => Reach::Inside(
             registers,
             Places {
                 mmx: 0,
                 integers: 0,
                 start: address,
-                length: (entry / SIZE % PART) as usize,
+                length: size as usize,
             },
         ),
         Spot::Refused(refusal) => Reach::Refused(refusal),

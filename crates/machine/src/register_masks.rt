@@ -9,7 +9,7 @@ ghost use Rattle.basis.specs.Names.{_≡_, _^_, _<_};
 ghost use Rattle.codec.specs.inner.Fields.{Registers};
 ghost use Rattle.manual.specs.Addresses.{baseOf, indexOf, registersOf};
 ghost use Rattle.machine.specs.Footprints.{mask};
-ghost use Rattle.machine.specs.inner.Shapes.{behind};
+ghost use Rattle.machine.specs.inner.Reaches.{behind};
 
 // The mask of one register.
 pub(crate) fn bit(register: u8) -> u8

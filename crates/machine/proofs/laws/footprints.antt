@@ -1,6 +1,6 @@
 -- The rules for the footprint that the code makes.
 pub mod Registers
 pub mod Reaching
-pub mod Shaping
+pub mod ByWay
 pub mod Forms
 pub mod Tests

@@ -1,3 +1,2 @@
 -- The rules for where an operand is, by the form.
-pub mod Numbering
 pub mod Locating

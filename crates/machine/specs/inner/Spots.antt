@@ -24,11 +24,11 @@ otherOf number w = rmOf (fileIn (formOf number .operands)) (memorySize (formOf n
 abbrev pub spotOf : List ℕ → ℕ → Location → Spot
 spotOf integers room (mmxRegister k) = Mmx k
 spotOf integers room (integerRegister k) = Integer k
-spotOf integers room (memory a size) = cond (fits room size (address integers a)) (Bytes (address integers a)) (Refused outsideMemory)
+spotOf integers room (memory a size) = cond (fits room size (address integers a)) (Bytes (address integers a) size) (Refused outsideMemory)
 
 -- the register that it names is there, and a refusal has a number
 abbrev pub Named : Spot → Type 0
 Named (Mmx k) = k < 8
 Named (Integer k) = k < 8
-Named (Bytes a) = Unit {0}
+Named (Bytes a size) = Unit {0}
 Named (Refused n) = n ≡ 0 → ⊥

@@ -1,6 +1,6 @@
 -- The parts of the code's step in the words of the definitions: lent registers with marks are a machine, what is left to do leaves a state, and
 -- how a step ended is an outcome. Only the contracts of the code's own functions use them.
-use Rattle.basis.specs.Names.{_≡_, Bool, true, false, cond, List, [], _∷_, map, ℕ, _/_, _%_, _^_, _≤_, _<_, eqb, getD}
+use Rattle.basis.specs.Names.{_≡_, Bool, true, false, cond, List, [], _∷_, map, ℕ, _/_, _%_, _^_, _<_, eqb, getD}
 use Rattle.lanes.specs.Operations.{operationOf, operate, described, MOVE}
 use Rattle.words.specs.Buffer.{loaded, stored}
 use Rattle.codec.specs.Forms.{Use, read, written, updated, Slot, Form, forms, isAmong, memorySize}
@@ -57,7 +57,7 @@ isListed form = isAmong form numbers
 pub record Listed (number : ℕ) : Type 0 where
   pub listed : isListed (number / 2 ^ 24) ≡ true
   pub present : number / 2 ^ 24 ≡ 0 → ⊥
-  pub sized : 16 ≤ number / 2 ^ 24 → number / 2 ^ 16 % 256 ≡ memorySize (formOf (number / 2 ^ 24))
+  pub sized : number / 2 ^ 16 % 256 ≡ memorySize (formOf (number / 2 ^ 24))
   pub moves : isMove (formOf (number / 2 ^ 24)) ≡ true → operationOf (number % 256) ≡ MOVE
 
 -- what is left to do, by the code's numbers
@@ -84,19 +84,19 @@ workOf what number place value next = record { what = what; number = number; pla
 abbrev pub refusedWork : ℕ → Work
 refusedWork refusal = workOf toRefuse refusal 0 0 0
 
--- a value is put where an operand of that size is
-abbrev pub putWork : Spot → ℕ → ℕ → ℕ → Work
-putWork (Mmx k) size value next = workOf toOperate (described MOVE .number) k value next
-putWork (Integer k) size value next = workOf toInteger 0 k value next
-putWork (Bytes a) size value next = workOf toStore size a value next
-putWork (Refused n) size value next = refusedWork n
+-- a value is put where an operand is
+abbrev pub putWork : Spot → ℕ → ℕ → Work
+putWork (Mmx k) value next = workOf toOperate (described MOVE .number) k value next
+putWork (Integer k) value next = workOf toInteger 0 k value next
+putWork (Bytes a size) value next = workOf toStore size a value next
+putWork (Refused n) value next = refusedWork n
 
--- an operation on a register, with the number that an operand of that size has
-abbrev pub takeWork : List ℕ → List ℕ → List ℕ → ℕ → ℕ → ℕ → Spot → ℕ → Work
-takeWork registers integers memory number place size (Mmx k) next = workOf toOperate number place (getD registers k 0) next
-takeWork registers integers memory number place size (Integer k) next = workOf toOperate number place (getD integers k 0) next
-takeWork registers integers memory number place size (Bytes a) next = workOf toOperate number place (loaded memory a size) next
-takeWork registers integers memory number place size (Refused n) next = refusedWork n
+-- an operation on a register, with the number that an operand has
+abbrev pub takeWork : List ℕ → List ℕ → List ℕ → ℕ → ℕ → Spot → ℕ → Work
+takeWork registers integers memory number place (Mmx k) next = workOf toOperate number place (getD registers k 0) next
+takeWork registers integers memory number place (Integer k) next = workOf toOperate number place (getD integers k 0) next
+takeWork registers integers memory number place (Bytes a size) next = workOf toOperate number place (loaded memory a size) next
+takeWork registers integers memory number place (Refused n) next = refusedWork n
 
 -- what a work comes to at a position, in a state: an operation on an MMX register, a store, a move to an integer register, the tag mark set
 -- empty, or a refusal

@@ -7,7 +7,7 @@ pub computed-spec : {M : Type 1} → statement M
 computed-spec =
     tie.close
     (tie.spec
-    (λ c. search taking) (λ c. search taking) (λ c. search taking) (λ c. search taking) (λ c. search taking) (λ c. search taking)
-    (λ c κs. search taking) (λ c. search taking) (λ c. search taking) (λ c. search taking) (λ c. search taking) (λ c κs. search taking)
-    (λ c κs. search taking) (λ c. search taking) (λ c κs. search taking) (λ c κs. search taking) (λ c. search taking) (λ c κs. search taking)
-    (λ c. search taking) (λ c. search taking) (λ c. search taking) (λ c. search taking))
+    (λ c. search taking) (λ c. search taking) (λ c κs. search taking) (λ c. search taking) (λ c. search taking) (λ c. search taking)
+    (λ c. search taking) (λ c κs. search taking) (λ c. search taking) (λ c. search taking) (λ c. search taking) (λ c. search taking)
+    (λ c κs. search taking) (λ c κs. search taking) (λ c. search taking) (λ c. search taking) (λ c κs. search taking) (λ c κs. search taking)
+    (λ c. search taking) (λ c κs. search taking) (λ c. search taking) (λ c. search taking) (λ c. search taking) (λ c. search taking))

@@ -14,11 +14,12 @@ use Rattle.machine.specs.declared.operands.Spot.the-variants as spots
 use Rattle.machine.specs.declared.reaches.Reach.{Reach}
 use Rattle.machine.specs.declared.reaches.Reach.the-variants.{Inside, Refused}
 use Rattle.machine.specs.Footprints.{mmxNumber, integerNumber, numbersOf, mask, setOf}
-use Rattle.machine.specs.inner.Shapes.{nowhere, beside, reachOf, behind}
+use Rattle.machine.specs.inner.Reaches.{nowhere, beside, reachOf, behind}
 use Rattle.machine.specs.inner.Spots.{fileIn, otherOf, spotOf}
+use Rattle.machine.specs.inner.Ways.{wayOf, hasTwo}
 use Rattle.machine.specs.inner.Works.{Listed}
 use Rattle.machine.proofs.laws.meetings.Ranges.{count-bytes}
-use Rattle.machine.proofs.laws.operands.Numbering.{other}
+use Rattle.machine.proofs.laws.ways.Numbering.{other}
 use Rattle.machine.proofs.laws.operands.Locating.{spot-named, register-mmx, register-integer}
 
 no-mmx : (size a : ℕ) → numbersOf mmxNumber (bytesFrom a size) ≡ []
@@ -38,11 +39,11 @@ set-bytes (suc size) a h =
     λ i. record { mmx = mask (no-mmx (suc size) a i); integers = mask (no-integer (suc size) a i); start = a; length = count-bytes (suc size) a i }
 
 -- where the code finds an operand, with the mask of its address registers
-abbrev reachAt : ℕ → ℕ → Spot → Reach
-reachAt registers size (Mmx k) = Inside registers (beside k nowhere)
-reachAt registers size (Integer k) = Inside registers (record { mmx = 0; integers = 2 ^ k; start = 0; length = 0 })
-reachAt registers size (Bytes a) = Inside registers (range a size)
-reachAt registers size (spots.Refused n) = Refused n
+abbrev reachAt : ℕ → Spot → Reach
+reachAt registers (Mmx k) = Inside registers (beside k nowhere)
+reachAt registers (Integer k) = Inside registers (record { mmx = 0; integers = 2 ^ k; start = 0; length = 0 })
+reachAt registers (Bytes a size) = Inside registers (range a size)
+reachAt registers (spots.Refused n) = Refused n
 
 -- the operand of r/m, whatever it is
 module _ (s : State) (w : Operand) where
@@ -52,30 +53,30 @@ module _ (s : State) (w : Operand) where
   abbrev start : ℕ
   start = address (s .integers) (addressOf w)
 
-  reached : (file : File) (size : ℕ) → 0 < size → let x = rmOf file size w in reachAt (behind w) size (spot x) ≡ reachOf x (placesOf s x)
+  reached : (file : File) (size : ℕ) → 0 < size → let x = rmOf file size w in reachAt (behind w) (spot x) ≡ reachOf x (placesOf s x)
   unfolding rmOf
   reached file size some = by (eqb (w .mode) 3) file
     where
-      inside : (u : Bool) → fits (length (s .memory)) size start ≡ u → let x = memory (addressOf w) size in reachAt (mask (addressRegisters (addressOf w))) size (spot x) ≡ reachOf x (placesOf s x)
+      inside : (u : Bool) → fits (length (s .memory)) size start ≡ u → let x = memory (addressOf w) size in reachAt (mask (addressRegisters (addressOf w))) (spot x) ≡ reachOf x (placesOf s x)
       inside true h = simp (h, set-bytes size start some)
       inside false h = simp h
 
       by : (t : Bool) (f : File) → let x = cond t (registerIn f (w .rm)) (memory (addressOf w) size) in
-          reachAt (cond t 0 (mask (addressRegisters (addressOf w)))) size (spot x) ≡ reachOf x (placesOf s x)
+          reachAt (cond t 0 (mask (addressRegisters (addressOf w)))) (spot x) ≡ reachOf x (placesOf s x)
       by true mmxFile = refl
       by true integerFile = simp or-zero-r
       by false f = inside (fits (length (s .memory)) size start) refl
 
-  module _ (entry : ℕ) (l : Listed entry) (two : 16 ≤ entry / 2 ^ 24) where
+  module _ (entry : ℕ) (l : Listed entry) (two : hasTwo (wayOf (entry / 2 ^ 24)) ≡ true) where
     abbrev there : Location
     there = otherOf (entry / 2 ^ 24) w
 
     -- as the code finds it, by where it is
     module _ (x y : Spot) (m : ℕ) (found : x ≡ spot there) (masked : m ≡ behind w) (e : x ≡ y) where
-      pub reach-there : (r : Reach) → r ≡ reachAt m (entry / 2 ^ 16 % 256) y → r ≡ reachOf there (placesOf s there)
+      pub reach-there : (r : Reach) → r ≡ reachAt m y → r ≡ reachOf there (placesOf s there)
       reach-there r h =
           let form = formOf (entry / 2 ^ 24) in
-          h ∙ rw (masked, ← e, found, l .sized two) (reached (fileIn (form .operands)) (memorySize form) (other (entry / 2 ^ 24) (l .listed) two .some))
+          h ∙ rw (masked, ← e, found) (reached (fileIn (form .operands)) (memorySize form) (other entry l two .some))
 
       pub reach-integer : (k b : ℕ) → y ≡ Integer k → b ≡ 2 ^ k
           → Inside m (record { mmx = 0; integers = b; start = 0; length = 0 }) ≡ reachOf there (placesOf s there)

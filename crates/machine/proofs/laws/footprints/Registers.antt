@@ -6,7 +6,7 @@ use Rattle.codec.specs.declared.Operand.{Operand}
 use Rattle.manual.specs.Addresses.{baseOf, indexOf, addressOf, registersOf}
 use Rattle.machine.specs.declared.Places.{Places}
 use Rattle.machine.specs.Footprints.{mask}
-use Rattle.machine.specs.inner.Shapes.{beside, behind}
+use Rattle.machine.specs.inner.Reaches.{beside, behind}
 use Rattle.machine.proofs.laws.addresses.Addressing.{base-is, base-is-five, no-base, index-is, no-index}
 use Rattle.machine.proofs.laws.meetings.Masks.{mask-append}
 

@@ -26,7 +26,7 @@ use Rattle.machine.specs.declared.Machine.{Machine}
 use Rattle.machine.specs.declared.Tracing.{Tracing}
 use Rattle.machine.specs.State.{stateOf}
 use Rattle.machine.specs.Footprints.{masked, maskedAt, paperOfFootprint}
-use Rattle.machine.specs.inner.Shapes.{unmarkedFootprint}
+use Rattle.machine.specs.inner.Reaches.{unmarkedFootprint}
 use Rattle.machine.specs.inner.Works.{barredBy, effectIn}
 use Rattle.machine.proofs.laws.gathering.Fetching.{names-registers, is-listed, effect-found}
 use Rattle.machine.proofs.laws.gathering.Testing.{unbarred-by, barred-by}

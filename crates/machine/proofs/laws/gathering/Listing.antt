@@ -1,7 +1,7 @@
 -- What is read has a number of the table: its form is present, as an absent one is refused, and each number keeps what `Listed` says. Rules for what
 -- the code looks up.
 use Rattle.basis.specs.Names.{_≡_, refl, Bool, true, false, not, _&&_, _||_, ℕ, _/_, _%_, _^_, eqb, ltb, getD}
-use Rattle.basis.proofs.Names.{sym, ap, ap₂, _∙_, false≢true, ltb-true, ltb-false, le-ltb, eqb-true}
+use Rattle.basis.proofs.Names.{sym, ap, ap₂, _∙_, false≢true, ltb-true, ltb-false, eqb-true}
 use Rattle.lanes.specs.Operations.{Operation, operationOf, described, MOVE}
 use Rattle.codec.specs.Forms.{Form, isAbsent, memorySize}
 use Rattle.codec.specs.Opcodes.{formAt, operationAt}
@@ -19,7 +19,7 @@ use Rattle.machine.specs.inner.Works.{effectIn, isMove, isListed, Listed
 abbrev passes : ℕ → Bool
 passes number =
     isListed (number / 2 ^ 24)
-    && ((ltb (number / 2 ^ 24) 16 || eqb (number / 2 ^ 16 % 256) (memorySize (formOf (number / 2 ^ 24))))
+    && (eqb (number / 2 ^ 16 % 256) (memorySize (formOf (number / 2 ^ 24)))
     && (not (isMove (formOf (number / 2 ^ 24))) || eqb (number % 256) (described MOVE .number)))
 
 all-pass : listed (λ k. passes (entryAt k)) 0 256 ≡ listed (λ k. true) 0 256
@@ -29,11 +29,11 @@ all-pass = refl
 number-listed : (number : ℕ) → passes number ≡ true → (number / 2 ^ 24 ≡ 0 → ⊥) → Listed number
 number-listed number h p =
     let (a, rest) = and-both (isListed (number / 2 ^ 24)) _ h in
-    let (b, c) = and-both (ltb (number / 2 ^ 24) 16 || eqb (number / 2 ^ 16 % 256) (memorySize (formOf (number / 2 ^ 24)))) _ rest in
+    let (b, c) = and-both (eqb (number / 2 ^ 16 % 256) (memorySize (formOf (number / 2 ^ 24)))) _ rest in
     record {
       listed = a;
       present = p;
-      sized = λ two. eqb-true _ _ (simp (le-ltb (number / 2 ^ 24) 16 two) at b);
+      sized = eqb-true _ _ b;
       moves = λ m. ap operationOf (eqb-true (number % 256) (described MOVE .number) (simp m at c));
     }
 

@@ -1,6 +1,6 @@
--- The work that the code makes of an instruction does what its effect does: one rule for each shape of a form, whatever operand r/m names.
-use Rattle.basis.specs.Names.{_≡_, refl, Bool, true, false, not, List, ℕ, _/_, _%_, _^_, _≤_, _<_, length, getD}
-use Rattle.basis.proofs.Names.{sym, ap, subst, _∙_, needs, le-leb, not-true}
+-- The work that the code makes of an instruction does what its effect does: one rule for each way, whatever operand r/m names.
+use Rattle.basis.specs.Names.{_≡_, refl, Bool, true, false, not, List, ℕ, _/_, _%_, _^_, _≤_, length, getD}
+use Rattle.basis.proofs.Names.{sym, ap, _∙_, needs, le-leb, not-true}
 use Rattle.lanes.specs.Operations.{Operation, operationOf, operate, MOVE}
 use Rattle.words.specs.Number.{bytes}
 use Rattle.words.proofs.Laws.{loaded-bytewise, stored-bytewise}
@@ -25,15 +25,17 @@ use Rattle.manual.specs.Steps.{concluded}
 use Rattle.manual.proofs.Direct.{valueAt, putAt, move-direct, both-direct}
 use Rattle.machine.specs.declared.gathering.Work.{Work}
 use Rattle.machine.specs.declared.operands.Spot.{Spot}
+use Rattle.machine.specs.declared.ways.Way.{Way}
+use Rattle.machine.specs.declared.ways.Way.the-variants.{Empties, Shifts, Stores, Loads, Computes}
 use Rattle.machine.specs.State.{stateOf}
 use Rattle.machine.specs.inner.Spots.{fileIn, otherOf, spotOf, Named}
-use Rattle.machine.specs.inner.Shapes.{Way, storing, wayOf}
+use Rattle.machine.specs.inner.Ways.{wayOf, hasTwo}
 use Rattle.machine.specs.inner.Works.{machineOf, effectIn, isMove, Listed, toOperate, toEmpty, workOf, putWork, takeWork, performed, Sound, Does}
 use Rattle.machine.proofs.laws.gathering.Soundness.{sound-operation, sound-empties, sound-put, sound-take}
 use Rattle.machine.proofs.laws.operands.Locating.{by-place, spot-named, register-mmx, register-integer}
-use Rattle.machine.proofs.laws.operands.Numbering.{Shape, stores, loads, computes, Stores, way-storing, way-taking, shape, other, Shifting, shifts-WD, shifts-Q, shifting}
+use Rattle.machine.proofs.laws.ways.Numbering.{Other, HasWay, empties, shifts-WD, shifts-Q, stores, loads, computes, goes, other, two-operands}
 
--- what a form's effect leaves, by its shape
+-- what a form's effect leaves, by its way
 module _ (s : State) (o : Operation) (i : Instruction) where
   abbrev own : Operand
   own = i .operand
@@ -44,14 +46,14 @@ module _ (s : State) (o : Operation) (i : Instruction) where
   abbrev there : Form → Location
   there form = rmOf (fileIn (form .operands)) (memorySize form) own
 
-  -- a shift by an immediate gives its register's number, shifted
-  shifts : (form : Form) → Shifting form → leftBy form ≡ putAt s (mmxRegister (own .rm)) (operate o (getD (s .mmx) (own .rm) 0) (i .immediate))
-  shifts form shifts-WD = refl
-  shifts form shifts-Q = refl
-
   module _ (n : ℕ) where
+    -- a shift by an immediate gives its register's number, shifted
+    shifted-by : (form : Form) → HasWay n Shifts form → leftBy form ≡ putAt s (mmxRegister (own .rm)) (operate o (getD (s .mmx) (own .rm) 0) (i .immediate))
+    shifted-by form shifts-WD = refl
+    shifted-by form shifts-Q = refl
+
     -- a store, which moves, gives what the operand takes of the register's number
-    stored-by : (form : Form) → Shape n storing form → (isMove form ≡ true → o ≡ MOVE)
+    stored-by : (form : Form) → HasWay n Stores form → (isMove form ≡ true → o ≡ MOVE)
         → leftBy form ≡ putAt s (there form) (keptBy (rm/mem (fileIn (form .operands)) (memorySize form)) (getD (s .mmx) (own .reg) 0))
     unfolding operate
     stored-by form (stores file size x) m =
@@ -61,18 +63,19 @@ module _ (s : State) (o : Operation) (i : Instruction) where
     abbrev computedAs : Operation → Form → Result State
     computedAs p form = andThen (valueAt s (there form)) (λ v. putAt s (mmxRegister (own .reg)) (operate p (getD (s .mmx) (own .reg) 0) v))
 
-    computed-by : (y : Way) (form : Form) → Shape n y form → (y ≡ storing → ⊥) → (isMove form ≡ true → o ≡ MOVE) → leftBy form ≡ computedAs o form
+    loaded-by : (form : Form) → HasWay n Loads form → (isMove form ≡ true → o ≡ MOVE) → leftBy form ≡ computedAs o form
     unfolding operate
-    computed-by y form (stores file size x) g m = absurd (g refl)
-    computed-by y form (loads file size x) g m =
+    loaded-by form (loads file size x) m =
         ap (λ (q : Operation). directly (effectBy form q i) s) (m refl)
         ∙ move-direct s (λ v. v) (mmxRegister (own .reg)) (rmOf file size own)
         ∙ ap (λ (q : Operation). computedAs q form) (sym (m refl))
-    computed-by y form (computes file size x) g m = both-direct s (operate o) (own .reg) (rmOf file size own)
 
-shift-digits : (form : Form) → Shifting form → hasDigits form ≡ true
-shift-digits form shifts-WD = refl
-shift-digits form shifts-Q = refl
+    computed-by : (form : Form) → HasWay n Computes form → leftBy form ≡ computedAs o form
+    computed-by form (computes file size x) = both-direct s (operate o) (own .reg) (rmOf file size own)
+
+shift-digits : (n : ℕ) (form : Form) → HasWay n Shifts form → hasDigits form ≡ true
+shift-digits n form shifts-WD = refl
+shift-digits n form shifts-Q = refl
 
 -- works over lent registers and memory
 module _ (registers integers m : List ℕ) (next : ℕ) where
@@ -93,7 +96,7 @@ module _ (registers integers m : List ℕ) (next : ℕ) where
 
     -- a value that is put there
     abbrev Puts : ℕ → File → Location → Type 0
-    Puts v f x = bytes size (keptBy (rm/mem f size) v) ≡ bytes size v → Leaves (putWork (spot x) size v next) (λ s. putAt s x (keptBy (rm/mem f size) v))
+    Puts v f x = bytes size (keptBy (rm/mem f size) v) ≡ bytes size v → Leaves (putWork (spot x) v next) (λ s. putAt s x (keptBy (rm/mem f size) v))
 
     puts : (file : File) (v : ℕ) → Puts v file (rmOf file size w)
     unfolding performed operate
@@ -106,7 +109,7 @@ module _ (registers integers m : List ℕ) (next : ℕ) where
     -- an operation with the number that is there
     abbrev Takes : ℕ → ℕ → Location → Type 0
     Takes number place x =
-        Leaves (takeWork registers integers m number place size (spot x) next)
+        Leaves (takeWork registers integers m number place (spot x) next)
         (λ s. andThen (valueAt s x) (λ v. putAt s (mmxRegister place) (operate (operationOf number) (getD registers place 0) v)))
 
     takes : (file : File) (number place : ℕ) → Takes number place (rmOf file size w)
@@ -137,83 +140,93 @@ module _ (registers integers m : List ℕ) (entry : ℕ) (i : Instruction) (next
   of-work work left sound leaves performs =
       record { sound = sound; does = λ marks at. let s = state registers integers m next marks in performs marks at ∙ sym (ap (concluded at next s) (leaves s)) }
 
-  pub does-emms : (work : Work) → formIn ≡ 1 → work ≡ workOf toEmpty 0 0 0 next → Does work registers integers m (effectIn entry i) next
-  unfolding performed
-  does-emms work e made =
-      rw made
-      (of-work (workOf toEmpty 0 0 0 next) (λ s. done (marked Emms s)) (sound-empties next)
-      (λ s. ap (λ (n : ℕ). directly (effectBy (formOf n) named i) s) e) (λ marks at. refl))
+  module _ (r : Registers w) (l : Listed entry) (y : Way) (way : y ≡ wayOf formIn) (work : Work) where
+    pub does-empties : y ≡ Empties → work ≡ workOf toEmpty 0 0 0 next → Does work registers integers m (effectIn entry i) next
+    unfolding performed
+    does-empties e made =
+        rw made (of-work (workOf toEmpty 0 0 0 next) (λ s. done (marked Emms s)) (sound-empties next) (λ s. by s form (goes entry l y Empties way e)) (λ marks at. refl))
+      where
+        by : (s : State) (f : Form) → HasWay formIn Empties f → directly (effectBy f named i) s ≡ done (marked Emms s)
+        by s f empties = refl
 
-  module _ (r : Registers w) (l : Listed entry) where
     -- the shifts by an immediate
-    pub does-shift : (number : ℕ) (work : Work) → formIn < 16 → (formIn ≡ 1 → ⊥) → operationOf number ≡ shiftOf (entry / 2 ^ 8 % 256) (w .reg)
+    pub does-shift : (number : ℕ) → y ≡ Shifts → operationOf number ≡ shiftOf (entry / 2 ^ 8 % 256) (w .reg)
         → work ≡ workOf toOperate number (w .rm) (i .immediate) next → Does work registers integers m (effectIn entry i) next
     unfolding performed operationIn
-    does-shift number work h other e made =
-        let is : Shifting form = shifting formIn (l .listed) h other (l .present) in
-        let same : named ≡ operationOf number = simp (shift-digits form is) (sym e) in
+    does-shift number z e made =
+        let same : named ≡ operationOf number = simp (shift-digits formIn form (goes entry l y Shifts way z)) (sym e) in
         rw made
         (of-work (workOf toOperate number (w .rm) (i .immediate) next)
         (λ s. putAt s (mmxRegister (w .rm)) (operate (operationOf number) (getD (s .mmx) (w .rm) 0) (i .immediate)))
         (sound-operation number (w .rm) (i .immediate) next (r .rm))
         (λ s.
-        shifts s named i form is
+        shifted-by s named i formIn form (goes entry l y Shifts way z)
         ∙ ap (λ (o : Operation). putAt s (mmxRegister (w .rm)) (operate o (getD (s .mmx) (w .rm) 0) (i .immediate))) same)
         (λ marks at. refl))
 
-    -- the forms of a destination and a source
-    module _ (two : 16 ≤ formIn) (x : Spot) (found : x ≡ spotOf integers (length m) (otherOf formIn w)) (work : Work) where
+    -- two operands
+    abbrev here : Spot
+    here = spotOf integers (length m) (otherOf formIn w)
+
+    here-named : Named here
+    here-named = spot-named integers (length m) entry w here refl r
+
+    abbrev file : File
+    file = fileIn (form .operands)
+
+    abbrev size : ℕ
+    size = memorySize form
+
+    module _ (z : Way) (e : y ≡ z) (two : hasTwo z ≡ true) where
+      abbrev its : Other formIn file size
+      its = other entry l (two-operands formIn y way z e two)
+
       plain : named ≡ operationOf (entry % 256)
       unfolding operationIn
-      plain = simp (not-true (hasDigits form) (number-passes (λ f. not (hasDigits f)) 16 formIn two refl refl))
+      plain = simp (not-true (hasDigits form) (number-passes (λ f. not (hasDigits f)) 16 formIn (its .two) refl refl))
 
       moves : isMove form ≡ true → named ≡ MOVE
-      moves e = plain ∙ l .moves e
+      moves m = plain ∙ l .moves m
 
-      abbrev file : File
-      file = fileIn (form .operands)
-
-      abbrev size : ℕ
-      size = memorySize form
-
-      there-named : Named (spotOf integers (length m) (otherOf formIn w))
-      there-named = spot-named integers (length m) entry w (spotOf integers (length m) (otherOf formIn w)) refl r
-
-      pub does-put : Stores formIn → work ≡ putWork x (entry / 2 ^ 16 % 256) (getD registers (w .reg) 0) next → Does work registers integers m (effectIn entry i) next
-      does-put g e =
-          let v = getD registers (w .reg) 0 in
-          let y = spotOf integers (length m) (otherOf formIn w) in
-          rw (e, found, l .sized two)
-          (of-work (putWork y size v next) (λ s. putAt s (otherOf formIn w) (keptBy (rm/mem file size) (getD (s .mmx) (w .reg) 0)))
-          (sound-put y size v next there-named)
-          (λ s. stored-by s named i formIn form (subst (λ (y : Way). Shape formIn y form) (way-storing formIn g) (shape formIn (l .listed) two)) moves)
-          (puts registers integers m next size w (other formIn (l .listed) two .most) file v (other formIn (l .listed) two .kept v)))
-
-      pub does-take : (Stores formIn → ⊥) → work ≡ takeWork registers integers m (entry % 256) (w .reg) (entry / 2 ^ 16 % 256) x next
+      take : ((s : State) → directly (effectIn entry i) s ≡ computedAs s named i formIn named form) → work ≡ takeWork registers integers m (entry % 256) (w .reg) here next
           → Does work registers integers m (effectIn entry i) next
-      does-take g e =
-          let y = spotOf integers (length m) (otherOf formIn w) in
-          rw (e, found, l .sized two)
-          (of-work (takeWork registers integers m (entry % 256) (w .reg) size y next) (λ s. computedAs s named i formIn (operationOf (entry % 256)) form)
-          (sound-take registers integers m (entry % 256) (w .reg) size y next (r .reg) there-named)
-          (λ s. computed-by s named i formIn (wayOf formIn) form (shape formIn (l .listed) two) (way-taking formIn g) moves ∙ ap (λ (o : Operation). computedAs s named i formIn o form) plain)
-          (takes registers integers m next size w (other formIn (l .listed) two .most) file (entry % 256) (w .reg)))
+      take left made =
+          rw made
+          (of-work (takeWork registers integers m (entry % 256) (w .reg) here next) (λ s. computedAs s named i formIn (operationOf (entry % 256)) form)
+          (sound-take registers integers m (entry % 256) (w .reg) here next (r .reg) here-named)
+          (λ s. left s ∙ ap (λ (o : Operation). computedAs s named i formIn o form) plain)
+          (takes registers integers m next size w (its .most) file (entry % 256) (w .reg)))
+
+    pub does-store : (x : Spot) → y ≡ Stores → x ≡ here → work ≡ putWork x (getD registers (w .reg) 0) next → Does work registers integers m (effectIn entry i) next
+    does-store x e found made =
+        let v = getD registers (w .reg) 0 in
+        rw (made, found)
+        (of-work (putWork here v next) (λ s. putAt s (otherOf formIn w) (keptBy (rm/mem file size) (getD (s .mmx) (w .reg) 0)))
+        (sound-put here v next here-named)
+        (λ s. stored-by s named i formIn form (goes entry l y Stores way e) (moves Stores e refl))
+        (puts registers integers m next size w (its Stores e refl .most) file v (its Stores e refl .kept v)))
+
+    pub does-load : y ≡ Loads → work ≡ takeWork registers integers m (entry % 256) (w .reg) here next → Does work registers integers m (effectIn entry i) next
+    does-load e = take Loads e refl (λ s. loaded-by s named i formIn form (goes entry l y Loads way e) (moves Loads e refl))
+
+    pub does-compute : y ≡ Computes → work ≡ takeWork registers integers m (entry % 256) (w .reg) here next → Does work registers integers m (effectIn entry i) next
+    does-compute e = take Computes e refl (λ s. computed-by s named i formIn form (goes entry l y Computes way e))
 
 -- what the code makes where the operand is
-module _ (x y : Spot) (size next : ℕ) (work : Work) (e : x ≡ y) where
-  pub made-put : (value : ℕ) → work ≡ putWork y size value next → work ≡ putWork x size value next
-  made-put value h = h ∙ ap (λ (z : Spot). putWork z size value next) (sym e)
+module _ (x y : Spot) (next : ℕ) (work : Work) (e : x ≡ y) where
+  pub made-put : (value : ℕ) → work ≡ putWork y value next → work ≡ putWork x value next
+  made-put value h = h ∙ ap (λ (z : Spot). putWork z value next) (sym e)
 
-  module _ (registers integers m : List ℕ) (number place : ℕ) where
-    pub made-take : work ≡ takeWork registers integers m number place size y next → work ≡ takeWork registers integers m number place size x next
-    made-take h = h ∙ ap (λ (z : Spot). takeWork registers integers m number place size z next) (sym e)
+  module _ (there : Spot) (found : x ≡ there) (registers integers m : List ℕ) (number place : ℕ) where
+    pub made-take : work ≡ takeWork registers integers m number place y next → work ≡ takeWork registers integers m number place there next
+    made-take h = h ∙ ap (λ (z : Spot). takeWork registers integers m number place z next) (sym e ∙ found)
 
-    pub made-taken : (v u : ℕ) → work ≡ workOf toOperate number place v next → workOf toOperate number place u next ≡ takeWork registers integers m number place size y next
-        → v ≡ u → work ≡ takeWork registers integers m number place size x next
+    pub made-taken : (v u : ℕ) → work ≡ workOf toOperate number place v next → workOf toOperate number place u next ≡ takeWork registers integers m number place y next
+        → v ≡ u → work ≡ takeWork registers integers m number place there next
     made-taken v u h g same = made-take (h ∙ ap (λ (z : ℕ). workOf toOperate number place z next) same ∙ g)
 
-pub ruleset sorting = (needs, spot-named, does-emms, does-shift, does-put, does-take)
+pub ruleset sorting = (needs, two-operands, does-empties, does-shift, does-store, does-load, does-compute)
 
 pub ruleset putting = (needs, made-put)
 
-pub ruleset taking = (needs, register-mmx, register-integer, made-take, made-taken)
+pub ruleset taking = (needs, spot-named, register-mmx, register-integer, made-take, made-taken)

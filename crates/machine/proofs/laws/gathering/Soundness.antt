@@ -20,17 +20,17 @@ pub sound-refusal : (refusal : ℕ) → (refusal ≡ 0 → ⊥) → Sound (refus
 sound-refusal refusal h =
     record { operates = λ e. absurd (omega arith); moves = λ e. absurd (omega arith); refuses = λ a b c d. h }
 
-pub sound-put : (x : Spot) (size value next : ℕ) → Named x → Sound (putWork x size value next)
-sound-put (Mmx k) size value next h = sound-operation (described MOVE .number) k value next h
-sound-put (Integer k) size value next h =
+pub sound-put : (x : Spot) (value next : ℕ) → Named x → Sound (putWork x value next)
+sound-put (Mmx k) value next h = sound-operation (described MOVE .number) k value next h
+sound-put (Integer k) value next h =
     record { operates = λ e. absurd (omega arith); moves = λ e. h; refuses = λ a b c d. absurd (c refl) }
-sound-put (Bytes a) size value next h =
+sound-put (Bytes a size) value next h =
     record { operates = λ e. absurd (omega arith); moves = λ e. absurd (omega arith); refuses = λ a b c d. absurd (b refl) }
-sound-put (Refused n) size value next h = sound-refusal n h
+sound-put (Refused n) value next h = sound-refusal n h
 
-pub sound-take : (registers integers memory : List ℕ) (number place size : ℕ) (x : Spot) (next : ℕ) → place < 8 → Named x
-    → Sound (takeWork registers integers memory number place size x next)
-sound-take registers integers memory number place size (Mmx k) next p h = sound-operation number place (getD registers k 0) next p
-sound-take registers integers memory number place size (Integer k) next p h = sound-operation number place (getD integers k 0) next p
-sound-take registers integers memory number place size (Bytes a) next p h = sound-operation number place (loaded memory a size) next p
-sound-take registers integers memory number place size (Refused n) next p h = sound-refusal n h
+pub sound-take : (registers integers memory : List ℕ) (number place : ℕ) (x : Spot) (next : ℕ) → place < 8 → Named x
+    → Sound (takeWork registers integers memory number place x next)
+sound-take registers integers memory number place (Mmx k) next p h = sound-operation number place (getD registers k 0) next p
+sound-take registers integers memory number place (Integer k) next p h = sound-operation number place (getD integers k 0) next p
+sound-take registers integers memory number place (Bytes a size) next p h = sound-operation number place (loaded memory a size) next p
+sound-take registers integers memory number place (Refused n) next p h = sound-refusal n h

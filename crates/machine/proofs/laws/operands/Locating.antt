@@ -11,8 +11,9 @@ use Rattle.manual.specs.Locations.{Location, mmxRegister, integerRegister, memo
 use Rattle.machine.specs.declared.operands.Spot.{Spot}
 use Rattle.machine.specs.declared.operands.Spot.the-variants.{Mmx, Integer, Bytes, Refused}
 use Rattle.machine.specs.inner.Spots.{fileIn, otherOf, spotOf, Named}
+use Rattle.machine.specs.inner.Ways.{wayOf, hasTwo}
 use Rattle.machine.specs.inner.Works.{Listed}
-use Rattle.machine.proofs.laws.operands.Numbering.{other}
+use Rattle.machine.proofs.laws.ways.Numbering.{other}
 
 -- what holds of a register of either file, and of so many bytes in memory, holds of the operand that r/m names
 pub by-place : (P : File → Location → Type 0) (file : File) (size : ℕ) (w : Operand) → P mmxFile (mmxRegister (w .rm)) → P integerFile (integerRegister (w .rm))
@@ -32,7 +33,7 @@ module _ (integers : List ℕ) (room : ℕ) where
       by-place (λ f x. Named (spotOf integers room x)) file size w r r
       (λ f. inside (fits room size (address integers (addressOf w))) (address integers (addressOf w)))
     where
-      inside : (u : Bool) (a : ℕ) → Named (cond u (Bytes a) (Refused outsideMemory))
+      inside : (u : Bool) (a : ℕ) → Named (cond u (Bytes a size) (Refused outsideMemory))
       inside true a = tt
       inside false a = λ e. omega arith
 
@@ -46,25 +47,25 @@ module _ (integers : List ℕ) (room : ℕ) where
     pub spot-named : (x : Spot) → x ≡ here → Registers w → Named x
     spot-named x e r = subst Named (sym e) (named (fileIn (formOf form .operands)) (memorySize (formOf form)) w (r .rm))
 
-    module _ (l : Listed entry) (two : 16 ≤ form) where
+    module _ (l : Listed entry) (two : hasTwo (wayOf form) ≡ true) where
       module _ (register : w .mode ≡ 3) where
         in-register : (file : File) → fileIn (formOf form .operands) ≡ file → spotOf integers room (registerIn file (w .rm)) ≡ here
         unfolding rmOf
         in-register file e = simp (eq-eqb (w .mode) 3 register, e)
 
         pub spot-mmx : 17 < form → Mmx (w .rm) ≡ here
-        spot-mmx h = in-register mmxFile (other form (l .listed) two .past h)
+        spot-mmx h = in-register mmxFile (other entry l two .past h)
 
         pub spot-integer : form ≤ 17 → Integer (w .rm) ≡ here
-        spot-integer h = in-register integerFile (other form (l .listed) two .low h)
+        spot-integer h = in-register integerFile (other entry l two .low h)
 
       module _ (elsewhere : w .mode ≡ 3 → ⊥) (a : ℕ) (there : a ≡ address integers (addressOf w))
           (t : Bool) (test : t ≡ leb (a + entry / 2 ^ 16 % 256) room) where
-        tested : cond t (Bytes a) (Refused outsideMemory) ≡ here
+        tested : cond t (Bytes a (entry / 2 ^ 16 % 256)) (Refused outsideMemory) ≡ here
         unfolding rmOf
-        tested = simp (ne-eqb (w .mode) 3 elsewhere, ← l .sized two, ← there, ← test)
+        tested = simp (ne-eqb (w .mode) 3 elsewhere, ← l .sized, ← there, ← test)
 
-        pub spot-inside : t ≡ true → Bytes a ≡ here
+        pub spot-inside : t ≡ true → Bytes a (entry / 2 ^ 16 % 256) ≡ here
         spot-inside e = simp e at tested
 
         pub spot-outside : t ≡ false → Refused outsideMemory ≡ here

@@ -1,8 +1,8 @@
--- The footprint as the program makes it, in masks and ranges: first where an operand is, then what each shape of effect reads and writes.
-use Rattle.basis.specs.Names.{cond, _||_, List, [], ℕ, _^_, bitOr, eqb}
+-- The footprint as the program makes it, in masks and ranges: first where an operand is, then what each way reads and writes.
+use Rattle.basis.specs.Names.{cond, List, [], ℕ, _^_, bitOr, eqb}
 use Rattle.reorder.specs.Result.{Result, done, refused, mapResult}
 use Rattle.reorder.specs.Footprint.{footprintIn}
-use Rattle.codec.specs.declared.Kind.the-variants.{Ordinary}
+use Rattle.codec.specs.declared.Kind.the-variants.{Ordinary, Emms}
 use Rattle.codec.specs.declared.Operand.{Operand}
 use Rattle.manual.specs.State.{State}
 use Rattle.manual.specs.Places.{Place, look}
@@ -13,6 +13,8 @@ use Rattle.machine.specs.declared.Places.{Places}
 use Rattle.machine.specs.declared.Footprint.{Footprint}
 use Rattle.machine.specs.declared.reaches.Reach.{Reach}
 use Rattle.machine.specs.declared.reaches.Reach.the-variants.{Inside, Refused}
+use Rattle.machine.specs.declared.ways.Way.{Way}
+use Rattle.machine.specs.declared.ways.Way.the-variants.{Empties, Shifts, Stores, Loads, Computes}
 use Rattle.machine.specs.Footprints.{mask, setOf, masked}
 
 abbrev pub nowhere : Places
@@ -41,19 +43,13 @@ behind w = cond (eqb (w .mode) 3) 0 (mask (addressRegisters (addressOf w)))
 abbrev pub ordinaryFootprint : ℕ → Places → Places → Footprint
 ordinaryFootprint registers reads writes = record { reads = through registers reads; writes = writes; kind = Ordinary }
 
--- an MMX register is stored in the operand of r/m, loaded from it, or computed with it
-pub data Way : Type 0 where
-  storing loading computing : Way
-
--- by the form's number
-unfoldable pub wayOf : ℕ → Way
-wayOf form = cond (eqb form 16 || eqb form 18) storing (cond (eqb form 17 || eqb form 19) loading computing)
-
--- what each reads and writes: the register, and the operand, whose address registers and places are given
-abbrev pub shapedAs : Way → ℕ → ℕ → Places → Footprint
-shapedAs storing register registers p = ordinaryFootprint registers (beside register nowhere) p
-shapedAs loading register registers p = ordinaryFootprint registers p (beside register nowhere)
-shapedAs computing register registers p = ordinaryFootprint registers (beside register p) (beside register nowhere)
+-- what each way reads and writes, and of two operands the one of r/m has these address registers and places
+abbrev pub footprintOfWay : Way → Operand → ℕ → Places → Footprint
+footprintOfWay Empties w registers p = record { reads = nowhere; writes = nowhere; kind = Emms }
+footprintOfWay Shifts w registers p = ordinaryFootprint 0 (beside (w .rm) nowhere) (beside (w .rm) nowhere)
+footprintOfWay Stores w registers p = ordinaryFootprint registers (beside (w .reg) nowhere) p
+footprintOfWay Loads w registers p = ordinaryFootprint registers p (beside (w .reg) nowhere)
+footprintOfWay Computes w registers p = ordinaryFootprint registers (beside (w .reg) p) (beside (w .reg) nowhere)
 
 -- the footprint of an effect that no control mark stops
 unfoldable pub unmarkedFootprint : Effect → State → Result Footprint

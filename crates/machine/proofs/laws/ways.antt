@@ -1,0 +1,2 @@
+-- The rules for the ways of the forms.
+pub mod Numbering

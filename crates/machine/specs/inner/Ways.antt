@@ -1,0 +1,18 @@
+-- The way that an instruction goes, by its form's number. Only the contracts of the code's own functions use it.
+use Rattle.basis.specs.Names.{Bool, true, false, cond, _||_, ℕ, eqb, leb}
+use Rattle.machine.specs.declared.ways.Way.{Way}
+use Rattle.machine.specs.declared.ways.Way.the-variants.{Empties, Shifts, Stores, Loads, Computes}
+
+unfoldable pub wayOf : ℕ → Way
+wayOf form =
+    cond (leb 16 form)
+    (cond (eqb form 16 || eqb form 18) Stores (cond (eqb form 17 || eqb form 19) Loads Computes))
+    (cond (eqb form 1) Empties Shifts)
+
+-- whether there are two operands, of which r/m names one
+abbrev pub hasTwo : Way → Bool
+hasTwo Empties = false
+hasTwo Shifts = false
+hasTwo Stores = true
+hasTwo Loads = true
+hasTwo Computes = true
