@@ -1,6 +1,6 @@
 -- The opcode bytes, all 256 of each: of the first, document 01's eleven are refused by 4 on their own, 0F goes on, and every other byte is refused by
 -- 5; of the second, after 0F, every byte that the list has not is.
-use Rattle.basis.specs.Names.{ℕ, zero, suc, _≡_, refl, Bool, false, not, cond, List, [], _∷_, eqb, length}
+use Rattle.basis.specs.Names.{ℕ, zero, suc, _≡_, refl, Bool, false, cond, List, [], _∷_, eqb, length}
 use Rattle.codec.specs.Refusals.{codeEnds, prefixed, notListed}
 use Rattle.codec.specs.Forms.{isAbsent}
 use Rattle.codec.specs.Opcodes.{formAt}

@@ -64,28 +64,28 @@ abbrev pub mmreg1·imm8/2/6 : Form
 mmreg1·imm8/2/6 = record { number = 3; digits = 2 ∷ 6 ∷ []; operands = (updated, mmreg2) ∷ []; immediate = 1; kind = Ordinary }
 
 -- an ordinary instruction of a destination and a source
-abbrev of : ℕ → Use × Slot → Slot → Form
-of number destination source =
+abbrev pub pair : ℕ → Use × Slot → Slot → Form
+pair number destination source =
     record { number = number; digits = []; operands = destination ∷ (read, source) ∷ []; immediate = 0; kind = Ordinary }
 
 abbrev pub reg32/mem32←mmreg1 : Form
-reg32/mem32←mmreg1 = of 16 (written, reg32/mem32) mmreg1
+reg32/mem32←mmreg1 = pair 16 (written, reg32/mem32) mmreg1
 
 abbrev pub mmreg1←reg32/mem32 : Form
-mmreg1←reg32/mem32 = of 17 (written, mmreg1) reg32/mem32
+mmreg1←reg32/mem32 = pair 17 (written, mmreg1) reg32/mem32
 
 abbrev pub mmreg2/mem64←mmreg1 : Form
-mmreg2/mem64←mmreg1 = of 18 (written, mmreg2/mem64) mmreg1
+mmreg2/mem64←mmreg1 = pair 18 (written, mmreg2/mem64) mmreg1
 
 abbrev pub mmreg1←mmreg2/mem64 : Form
-mmreg1←mmreg2/mem64 = of 19 (written, mmreg1) mmreg2/mem64
+mmreg1←mmreg2/mem64 = pair 19 (written, mmreg1) mmreg2/mem64
 
 abbrev pub mmreg1·mmreg2/mem32 : Form
-mmreg1·mmreg2/mem32 = of 20 (updated, mmreg1) mmreg2/mem32
+mmreg1·mmreg2/mem32 = pair 20 (updated, mmreg1) mmreg2/mem32
 
 -- (the usual form)
 abbrev pub mmreg1·mmreg2/mem64 : Form
-mmreg1·mmreg2/mem64 = of 21 (updated, mmreg1) mmreg2/mem64
+mmreg1·mmreg2/mem64 = pair 21 (updated, mmreg1) mmreg2/mem64
 
 abbrev pub forms : List Form
 forms =

@@ -64,12 +64,12 @@ footprint-as-step code memory at n s stepped p step masked-is =
     by (taken.Refused m) (tracing.Refused k) (refused j) t e = (λ h. cc, λ h. cc)
 
 -- a refused run has come to a step that is refused by the same number
-pub run-as-step : (code after left : List ℕ) (budget n : ℕ) (s : State) (ran : Ran) (stepped : Stepped)
+pub run-as-step : (code after kept : List ℕ) (budget n : ℕ) (s : State) (ran : Ran) (stepped : Stepped)
     → paperOfRun ran after ≡ runOf code budget s → ran .end ≡ end.Refused n
-    → paperOfStep stepped left ≡ stepAt code (ran .at) (stateOf (ran .machine) after)
+    → paperOfStep stepped kept ≡ stepAt code (ran .at) (stateOf (ran .machine) after)
     → stepped .answer ≡ taken.Refused n
-run-as-step code after left budget n s ran stepped run-is refusal step =
+run-as-step code after kept budget n s ran stepped run-is refusal step =
     let t : State = stateOf (ran .machine) after in
     let stops : runOf code budget s ≡ stopped n (ran .at) (ran .count) t =
     sym run-is ∙ ap (λ (e : End). paperOfEnd e (ran .at) (ran .count) t) refusal in
-    step-refused stepped left n (ran .at) t (step ∙ refused-run code budget n (ran .at) (ran .count) s t stops .0)
+    step-refused stepped kept n (ran .at) t (step ∙ refused-run code budget n (ran .at) (ran .count) s t stops .0)

@@ -31,7 +31,7 @@ pub record RunCall (machine : Machine) (code memory : List ℕ) (budget : ℕ) (
   pub with-code : now (given .1 .0) ≡ code
   pub with-memory : now (given .1 .1 .0) ≡ memory
   pub with-budget : given .1 .1 .1 .0 ≡ budget
-  pub left : now (exit .1 .1 .0) ≡ after
+  pub leaves : now (exit .1 .1 .0) ≡ after
 
 -- machine.footprint(code, at, memory) handed back `answer`
 pub record FootprintCall (machine : Machine) (code : List ℕ) (at : ℕ) (memory : List ℕ) (answer : Tracing) : Type 1 where
@@ -58,7 +58,7 @@ pub record MeetsCall (first second : Footprint) (answer : Bool) : Type 1 where
 pub run-says : (machine : Machine) (code memory : List ℕ) (budget : ℕ) (answer : Ran) (after : List ℕ) → RunCall machine code memory budget answer after
     → paperOfRun answer after ≡ runOf code budget (stateOf machine memory)
 run-says machine code memory budget answer after c =
-    ap (paperOfRun answer) (sym (c .left)) ∙ c .met
+    ap (paperOfRun answer) (sym (c .leaves)) ∙ c .met
     ∙ ap₂ (λ (x : List ℕ) (n : ℕ). runOf x n (stateOf (c .given .0) (now (c .given .1 .1 .0)))) (c .with-code) (c .with-budget)
     ∙ ap₂ (λ (m : Machine) (x : List ℕ). runOf code budget (stateOf m x)) (c .with-machine) (c .with-memory)
 
@@ -90,7 +90,7 @@ run-there machine code memory budget answer after e =
       with-code = refl;
       with-memory = refl;
       with-budget = refl;
-      left = refl;
+      leaves = refl;
     }
 
 pub footprint-there : (machine : Machine) (code : List ℕ) (at : ℕ) (memory : List ℕ) (answer : Tracing)

@@ -54,10 +54,10 @@ fn scaled(index: u32, scale: u8) -> u32
     ensures { λ r. ⌜ r ≡ index * 2 ^ scale % 2 ^ 32 ⌝ }
 {
     let mut doubled = index;
-    let mut left = scale;
-    while 0 < left {
+    let mut remaining = scale;
+    while 0 < remaining {
         doubled = std::num::wrapping_add_u32(doubled, doubled);
-        left -= 1;
+        remaining -= 1;
     }
     doubled
 }

@@ -1,4 +1,4 @@
-// The instruction at a position is read and its operands are gathered; what is left to do is then plain numbers. Nothing is written here.
+// The instruction at a position is read and its operands are gathered; what remains to be done is then plain numbers. Nothing is written here.
 use crate::operands;
 use crate::operands::Spot;
 use crate::refusals::INVALID_OPCODE;
@@ -26,7 +26,8 @@ ghost use Rattle.machine.specs.inner.Works.{barredBy, effectIn, Listed, 
 // How many values a doubleword has.
 pub(crate) const DOUBLEWORD_RANGE: u64 = 0x100000000;
 
-// What is left of an instruction: what to do with a number, a place and a value, and the position after it.
+// What remains of an instruction: what to do, with a number (the operation, the bytes to store, or the refusal), a place (the register, or the address)
+// and a value, and the position after it.
 pub(crate) struct Work {
     pub(crate) what: u8,
     pub(crate) number: u8,
@@ -102,7 +103,7 @@ fn widened(doubleword: u32) -> u64
     doubleword as u64
 }
 
-// An operation on an MMX register, with the number that the operand has.
+// An operation on an MMX register, with the number that the operand has; a load's is MOVE.
 fn computed(
     mmx: &[u64; 8],
     integers: &[u32; 8],

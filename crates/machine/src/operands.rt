@@ -22,7 +22,7 @@ pub(crate) enum Spot {
 }
 
 // Whether all bytes of an operand are below the memory's length.
-fn lies_inside(room: usize, address: usize, size: usize) -> bool
+fn is_inside(room: usize, address: usize, size: usize) -> bool
     ensures { λ r. ⌜ r ≡ leb (address + size) room ⌝ }
 {
     if room < size {
@@ -31,7 +31,8 @@ fn lies_inside(room: usize, address: usize, size: usize) -> bool
     address <= room - size
 }
 
-// MOVD's register is an integer register.
+// Where the operand that r/m names is: at mod 11 a register, an integer register for MOVD, whose forms go up to LOAD_D, else an MMX register; else its
+// bytes in memory, refused where one is outside.
 pub(crate) fn located(integers: &[u32; 8], entry: u32, operand: Operand, room: usize) -> Spot
     requires { ⌜ Registers operand × (Listed entry × (hasTwo (wayOf (entry / 2 ^ 24)) ≡ true)) ⌝ }
     ensures { λ r. ⌜ r ≡ spotOf (now (integers .entry)) room (otherOf (entry / 2 ^ 24) operand) ⌝ }
@@ -39,7 +40,7 @@ pub(crate) fn located(integers: &[u32; 8], entry: u32, operand: Operand, room: u
     if operand.mode != REGISTER {
         let address = addresses::address_of(integers, operand) as usize;
         let size = (entry / SIZE % PART) as u8;
-        if lies_inside(room, address, size as usize) {
+        if is_inside(room, address, size as usize) {
             return Spot::Bytes(address, size);
         }
         return Spot::Refused(OUTSIDE_MEMORY);

@@ -12,7 +12,7 @@ use Rattle.manual.specs.State.{State, withMemory}
 use Rattle.manual.specs.Places.{Place, mmx, integer, byte, look, put}
 use Rattle.manual.specs.Kinds.{marked}
 use Rattle.manual.specs.Addresses.{Address, address}
-use Rattle.manual.specs.Locations.{Location, mmxRegister, integerRegister, memory, bytesFrom, fits, placesOf}
+use Rattle.manual.specs.Locations.{Location, mmxRegister, integerRegister, memory, bytesFrom, liesInside, placesOf}
 use Rattle.manual.specs.Effects.{Effect, placeCount, valueIn, contentsOf, unlessMarked, planOn, placed, perform as performs}
 use Rattle.manual.specs.inner.Unmarked.{directly}
 use Rattle.manual.proofs.Marking.{past-marks}
@@ -24,7 +24,7 @@ one places = andThen places (λ ps. mapResult (λ qs. ps ++ qs) (done []))
 
 module _ (s : State) where
   abbrev inside : Address → ℕ → Bool
-  inside a size = fits (length (s .memory)) size (address (s .integers) a)
+  inside a size = liesInside (length (s .memory)) size (address (s .integers) a)
 
   -- the number that an operand has
   abbrev pub valueAt : Location → Result ℕ

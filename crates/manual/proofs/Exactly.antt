@@ -12,7 +12,7 @@ use Rattle.manual.specs.State.{State, isTooLong}
 use Rattle.manual.specs.Places.{Place, look, put}
 use Rattle.manual.specs.Kinds.{marked}
 use Rattle.manual.specs.Addresses.{address}
-use Rattle.manual.specs.Locations.{Location, mmxRegister, integerRegister, memory, fits, bytesFrom, placesOf}
+use Rattle.manual.specs.Locations.{Location, mmxRegister, integerRegister, memory, liesInside, bytesFrom, placesOf}
 use Rattle.manual.specs.Effects.{placesOfAll, planOn, plan, unlessMarked}
 use Rattle.manual.specs.inner.Unmarked.{directly}
 use Rattle.manual.specs.Instructions.{effectOf, execute}
@@ -30,9 +30,9 @@ outside-refused s x o =
 refused-outside : (s : State) (x : Location) (n : ℕ) → placesOf s x ≡ refused n → (n ≡ outsideMemory) × Outside s x
 refused-outside s (mmxRegister k) n e = absurd (false≢true (cc))
 refused-outside s (integerRegister k) n e = absurd (false≢true (cc))
-refused-outside s (memory a size) n e = by (fits (length (s .memory)) size (address (s .integers) a)) refl e
+refused-outside s (memory a size) n e = by (liesInside (length (s .memory)) size (address (s .integers) a)) refl e
   where
-    by : (t : Bool) → fits (length (s .memory)) size (address (s .integers) a) ≡ t
+    by : (t : Bool) → liesInside (length (s .memory)) size (address (s .integers) a) ≡ t
         → cond t (done (bytesFrom (address (s .integers) a) size)) (refused outsideMemory) ≡ refused n → (n ≡ outsideMemory) × Outside s (memory a size)
     by true t e = absurd (false≢true (cc))
     by false t e = (cc, record { at = a; size = size; operand = refl; past = leb-false _ _ t })

@@ -34,12 +34,12 @@ bytesFrom a zero = []
 bytesFrom a (suc size) = byte a ∷ bytesFrom (a + 1) size
 
 -- the operand test, in a memory of so many bytes (`room`): all its bytes are below that
-abbrev pub fits : ℕ → ℕ → ℕ → Bool
-fits room size a = leb (a + size) room
+abbrev pub liesInside : ℕ → ℕ → ℕ → Bool
+liesInside room size a = leb (a + size) room
 
 -- its places, or 10
 abbrev pub tested : ℕ → ℕ → ℕ → Result (List Place)
-tested room size a = cond (fits room size a) (done (bytesFrom a size)) (refused outsideMemory)
+tested room size a = cond (liesInside room size a) (done (bytesFrom a size)) (refused outsideMemory)
 
 -- the places of an operand in a state
 abbrev pub placesOf : State → Location → Result (List Place)

@@ -1,4 +1,4 @@
--- The way that an instruction goes, by its form's number. Only the contracts of the code's own functions use it.
+-- The way that an instruction goes, by its form's number.
 use Rattle.basis.specs.Names.{Bool, true, false, cond, _||_, ℕ, eqb, leb}
 use Rattle.machine.specs.declared.ways.Way.{Way}
 use Rattle.machine.specs.declared.ways.Way.the-variants.{Empties, Shifts, Stores, Loads, Computes}

@@ -1,5 +1,5 @@
--- The parts of the code's step in the words of the definitions: lent registers with marks are a machine, what is left to do leaves a state, and
--- how a step ended is an outcome. Only the contracts of the code's own functions use them.
+-- The parts of the code's step in the words of the definitions: lent registers with marks are a machine, what remains to be done leaves a
+-- state, and how a step ended is an outcome.
 use Rattle.basis.specs.Names.{_≡_, Bool, true, false, cond, List, [], _∷_, map, ℕ, _/_, _%_, _^_, _<_, eqb, getD}
 use Rattle.lanes.specs.Operations.{operationOf, operate, described, MOVE}
 use Rattle.words.specs.Buffer.{loaded, stored}
@@ -32,9 +32,9 @@ machineOf registers integers marks = record { mmx = registers; integers = intege
 unfoldable pub barredBy : Marks → ℕ
 barredBy marks = cond (marks .em) invalidOpcode (cond (marks .ts) notAvailable (cond (marks .pending) isPending 0))
 
--- the effect of an instruction by the table's number for it
+-- the effect of an instruction by the table's entry for it
 abbrev pub effectIn : ℕ → Instruction → Effect
-effectIn number i = effectBy (formOf (number / 2 ^ 24)) (operationIn number (i .operand .reg)) i
+effectIn entry i = effectBy (formOf (entry / 2 ^ 24)) (operationIn entry (i .operand .reg)) i
 
 -- whether the destination is not read
 abbrev isWritten : List (Use × Slot) → Bool
@@ -53,14 +53,15 @@ numbers = map (λ form. form .number) forms
 abbrev pub isListed : ℕ → Bool
 isListed form = isAmong form numbers
 
--- what is said of every number that is read: its form is one of the list, and there; it has the operand's size, and a move moves
-pub record Listed (number : ℕ) : Type 0 where
-  pub listed : isListed (number / 2 ^ 24) ≡ true
-  pub present : number / 2 ^ 24 ≡ 0 → ⊥
-  pub sized : number / 2 ^ 16 % 256 ≡ memorySize (formOf (number / 2 ^ 24))
-  pub moves : isMove (formOf (number / 2 ^ 24)) ≡ true → operationOf (number % 256) ≡ MOVE
+-- what is said of every entry that is read: its form is one of the list, and not absent; its size is the form's; and a form that does not read its
+-- destination moves
+pub record Listed (entry : ℕ) : Type 0 where
+  pub listed : isListed (entry / 2 ^ 24) ≡ true
+  pub present : entry / 2 ^ 24 ≡ 0 → ⊥
+  pub sized : entry / 2 ^ 16 % 256 ≡ memorySize (formOf (entry / 2 ^ 24))
+  pub moves : isMove (formOf (entry / 2 ^ 24)) ≡ true → operationOf (entry % 256) ≡ MOVE
 
--- what is left to do, by the code's numbers
+-- what remains to be done, by the code's numbers
 abbrev pub toOperate : ℕ
 toOperate = 0
 

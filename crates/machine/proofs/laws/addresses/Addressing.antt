@@ -53,14 +53,14 @@ module _ (integers : List ℕ) (maybe : Option ℕ) where
 pub scale-starts : (x scale : ℕ) → x < 2 ^ 32 → x ≡ x * 2 ^ (scale - scale) % 2 ^ 32
 scale-starts x scale h = let nothing : scale - scale ≡ 0 = omega arith in rw nothing (rw mul-one (omega arith))
 
-pub scale-doubles : (x scale left d r : ℕ) → d ≡ x * 2 ^ (scale - left) % 2 ^ 32 → r ≡ (d + d) % 2 ^ 32 → 0 < left → left ≤ scale
-    → r ≡ x * 2 ^ (scale - (left - 1)) % 2 ^ 32
-scale-doubles x scale left d r e f more h =
-    let once-more : scale - (left - 1) ≡ suc (scale - left) = omega arith in
-    rw (once-more, two-pow-succ (scale - left), mul-add, add-mod, ← e) f
+pub scale-doubles : (x scale remaining d r : ℕ) → d ≡ x * 2 ^ (scale - remaining) % 2 ^ 32 → r ≡ (d + d) % 2 ^ 32 → 0 < remaining → remaining ≤ scale
+    → r ≡ x * 2 ^ (scale - (remaining - 1)) % 2 ^ 32
+scale-doubles x scale remaining d r e f more h =
+    let once-more : scale - (remaining - 1) ≡ suc (scale - remaining) = omega arith in
+    rw (once-more, two-pow-succ (scale - remaining), mul-add, add-mod, ← e) f
 
-pub scale-ends : (x scale left d : ℕ) → d ≡ x * 2 ^ (scale - left) % 2 ^ 32 → left ≤ 0 → d ≡ x * 2 ^ scale % 2 ^ 32
-scale-ends x scale left d e ended = e ∙ ap (λ (n : ℕ). x * 2 ^ n % 2 ^ 32) (omega arith)
+pub scale-ends : (x scale remaining d : ℕ) → d ≡ x * 2 ^ (scale - remaining) % 2 ^ 32 → remaining ≤ 0 → d ≡ x * 2 ^ scale % 2 ^ 32
+scale-ends x scale remaining d e ended = e ∙ ap (λ (n : ℕ). x * 2 ^ n % 2 ^ 32) (omega arith)
 
 -- the sums
 module _ (integers : List ℕ) (w : Operand) (d : ℕ) (displaced : d ≡ displacementOf (w .mode) (w .displacement) % 2 ^ 32) where

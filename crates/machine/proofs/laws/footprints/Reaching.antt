@@ -1,12 +1,12 @@
 -- The operand of r/m as masks and a range: the bytes of an operand are one range, and no registers. Rules for where the code finds it.
-use Rattle.basis.specs.Names.{_≡_, refl, Bool, true, false, cond, [], ℕ, zero, suc, _+_, _/_, _%_, _^_, _≤_, _<_, eqb, length}
+use Rattle.basis.specs.Names.{_≡_, refl, Bool, true, false, cond, [], ℕ, zero, suc, _+_, _/_, _^_, _<_, eqb, length}
 use Rattle.basis.proofs.Names.{_∙_, arith, needs, or-zero-r}
 use Rattle.codec.specs.Forms.{File, mmxFile, integerFile, memorySize}
 use Rattle.codec.specs.Table.{formOf}
 use Rattle.codec.specs.declared.Operand.{Operand}
 use Rattle.manual.specs.State.{State}
 use Rattle.manual.specs.Addresses.{addressOf, address, addressRegisters}
-use Rattle.manual.specs.Locations.{Location, memory, registerIn, rmOf, bytesFrom, fits, placesOf}
+use Rattle.manual.specs.Locations.{Location, memory, registerIn, rmOf, bytesFrom, liesInside, placesOf}
 use Rattle.machine.specs.declared.Places.{Places}
 use Rattle.machine.specs.declared.operands.Spot.{Spot}
 use Rattle.machine.specs.declared.operands.Spot.the-variants.{Mmx, Integer, Bytes}
@@ -57,7 +57,7 @@ module _ (s : State) (w : Operand) where
   unfolding rmOf
   reached file size some = by (eqb (w .mode) 3) file
     where
-      inside : (u : Bool) → fits (length (s .memory)) size start ≡ u → let x = memory (addressOf w) size in reachAt (mask (addressRegisters (addressOf w))) (spot x) ≡ reachOf x (placesOf s x)
+      inside : (u : Bool) → liesInside (length (s .memory)) size start ≡ u → let x = memory (addressOf w) size in reachAt (mask (addressRegisters (addressOf w))) (spot x) ≡ reachOf x (placesOf s x)
       inside true h = simp (h, set-bytes size start some)
       inside false h = simp h
 
@@ -65,7 +65,7 @@ module _ (s : State) (w : Operand) where
           reachAt (cond t 0 (mask (addressRegisters (addressOf w)))) (spot x) ≡ reachOf x (placesOf s x)
       by true mmxFile = refl
       by true integerFile = simp or-zero-r
-      by false f = inside (fits (length (s .memory)) size start) refl
+      by false f = inside (liesInside (length (s .memory)) size start) refl
 
   module _ (entry : ℕ) (l : Listed entry) (two : hasTwo (wayOf (entry / 2 ^ 24)) ≡ true) where
     abbrev there : Location

@@ -54,10 +54,10 @@ module _ (code : List ℕ) (at : ℕ) (machine : Machine) (memory : List ℕ) wh
       traced-unread h = sym (by-reading (decoded.refused (x .refusal)) (read-stop code at x table ours e fits h))
 
       module _ (passed : x .refusal ≡ 0) where
-        abbrev left : Result Footprint
-        left = unmarkedFootprint (effectIn (x .entry) (x .instruction)) here
+        abbrev answered : Result Footprint
+        answered = unmarkedFootprint (effectIn (x .entry) (x .instruction)) here
 
-        traced-found : maskedAt code at here ≡ unlessMarked (machine .marks) left
+        traced-found : maskedAt code at here ≡ unlessMarked (machine .marks) answered
         unfolding footprint unmarkedFootprint
         traced-found =
             by-reading (good (x .instruction) (x .next - at)) (read-on code at x table ours e fits passed)
@@ -70,7 +70,7 @@ module _ (code : List ℕ) (at : ℕ) (machine : Machine) (memory : List ℕ) wh
           pub traced-barred : (bar ≡ 0 → ⊥) → refused bar ≡ maskedAt code at here
           traced-barred h = ap refused found ∙ sym (traced-found ∙ barred-by (machine .marks) _ (λ z. h (found ∙ z)))
 
-          pub traced-unbarred : (r : Tracing) → bar ≡ 0 → paperOfFootprint r ≡ left → paperOfFootprint r ≡ maskedAt code at here
+          pub traced-unbarred : (r : Tracing) → bar ≡ 0 → paperOfFootprint r ≡ answered → paperOfFootprint r ≡ maskedAt code at here
           traced-unbarred r h p = p ∙ sym (traced-found ∙ unbarred-by (machine .marks) _ (sym found ∙ h))
 
 pub ruleset position-rules = (needs, names-registers, is-listed, traced-long, traced-code-long, traced-unread, traced-barred, traced-unbarred)

@@ -26,7 +26,7 @@ use Rattle.manual.proofs.Direct.{marks-first}
 use Rattle.machine.specs.declared.gathering.Work.{Work}
 use Rattle.machine.specs.State.{stateOf}
 use Rattle.machine.specs.inner.Works.{machineOf, effectIn, Listed, performed, Does, Gathered, refusedWork}
-use Rattle.machine.proofs.laws.gathering.Listing.{row-listed, effect-is}
+use Rattle.machine.proofs.laws.gathering.Listing.{entry-listed, effect-is}
 use Rattle.machine.proofs.laws.gathering.Soundness.{sound-refusal}
 use Rattle.machine.proofs.laws.gathering.Testing.{unbarred-by, barred-by}
 
@@ -49,7 +49,7 @@ module _ (table code : List ℕ) (at : ℕ) (x : Found) (ours : table ≡ opcode
           absurd (omega (arith, g .0))
 
   pub is-listed : x .refusal ≡ 0 → Listed (x .entry)
-  is-listed = found-known (λ y. Listed (y .entry)) (λ i n g. row-listed (i .second) (g .present))
+  is-listed = found-known (λ y. Listed (y .entry)) (λ i n g. entry-listed (i .second) (g .present))
 
   pub effect-found : x .refusal ≡ 0 → effectIn (x .entry) (x .instruction) ≡ effectOf (x .instruction)
   effect-found = found-known (λ y. effectIn (y .entry) (y .instruction) ≡ effectOf (y .instruction)) (λ i n g. effect-is i (g .registers))

@@ -38,8 +38,8 @@ number-listed number h p =
     }
 
 -- a second byte whose form is there has a number that is listed
-pub row-listed : (second : ℕ) → isAbsent (formAt second) ≡ false → Listed (getD opcodeTable second 0)
-row-listed second e = by (ltb second 256) refl
+pub entry-listed : (second : ℕ) → isAbsent (formAt second) ≡ false → Listed (getD opcodeTable second 0)
+entry-listed second e = by (ltb second 256) refl
   where
     by : (t : Bool) → ltb second 256 ≡ t → Listed (getD opcodeTable second 0)
     by true h =

@@ -18,7 +18,7 @@ use Rattle.manual.specs.declared.Marks.{Marks}
 use Rattle.manual.specs.State.{State}
 use Rattle.manual.specs.Kinds.{marked}
 use Rattle.manual.specs.Addresses.{address, addressOf}
-use Rattle.manual.specs.Locations.{Location, mmxRegister, memory, rmOf, fits}
+use Rattle.manual.specs.Locations.{Location, mmxRegister, memory, rmOf, liesInside}
 use Rattle.manual.specs.inner.Unmarked.{directly}
 use Rattle.manual.specs.Instructions.{keptBy, effectBy}
 use Rattle.manual.specs.Steps.{concluded}
@@ -84,7 +84,7 @@ module _ (registers integers m : List ℕ) (next : ℕ) where
 
   -- a work leaves what a result says
   abbrev Leaves : Work → (State → Result State) → Type 0
-  Leaves work left = (marks : Marks) (at : ℕ) → performed work at (state marks) ≡ concluded at next (state marks) (left (state marks))
+  Leaves work after = (marks : Marks) (at : ℕ) → performed work at (state marks) ≡ concluded at next (state marks) (after (state marks))
 
   -- for the operand of r/m, whatever it is
   module _ (size : ℕ) (w : Operand) (few : size ≤ 8) where
@@ -92,7 +92,7 @@ module _ (registers integers m : List ℕ) (next : ℕ) where
     spot x = spotOf integers (length m) x
 
     abbrev room : Bool
-    room = fits (length m) size (address integers (addressOf w))
+    room = liesInside (length m) size (address integers (addressOf w))
 
     -- a value that is put there
     abbrev Puts : ℕ → File → Location → Type 0
@@ -135,9 +135,9 @@ module _ (registers integers m : List ℕ) (entry : ℕ) (i : Instruction) (next
   named = operationIn entry (w .reg)
 
   -- what the effect leaves, and what the work leaves
-  of-work : (work : Work) (left : State → Result State) → Sound work → ((s : State) → directly (effectIn entry i) s ≡ left s)
-      → Leaves registers integers m next work left → Does work registers integers m (effectIn entry i) next
-  of-work work left sound leaves performs =
+  of-work : (work : Work) (after : State → Result State) → Sound work → ((s : State) → directly (effectIn entry i) s ≡ after s)
+      → Leaves registers integers m next work after → Does work registers integers m (effectIn entry i) next
+  of-work work after sound leaves performs =
       record { sound = sound; does = λ marks at. let s = state registers integers m next marks in performs marks at ∙ sym (ap (concluded at next s) (leaves s)) }
 
   module _ (r : Registers w) (l : Listed entry) (y : Way) (way : y ≡ wayOf formIn) (work : Work) where
@@ -190,11 +190,11 @@ module _ (registers integers m : List ℕ) (entry : ℕ) (i : Instruction) (next
 
       take : ((s : State) → directly (effectIn entry i) s ≡ computedAs s named i formIn named form) → work ≡ takeWork registers integers m (entry % 256) (w .reg) here next
           → Does work registers integers m (effectIn entry i) next
-      take left made =
+      take after made =
           rw made
           (of-work (takeWork registers integers m (entry % 256) (w .reg) here next) (λ s. computedAs s named i formIn (operationOf (entry % 256)) form)
           (sound-take registers integers m (entry % 256) (w .reg) here next (r .reg) here-named)
-          (λ s. left s ∙ ap (λ (o : Operation). computedAs s named i formIn o form) plain)
+          (λ s. after s ∙ ap (λ (o : Operation). computedAs s named i formIn o form) plain)
           (takes registers integers m next size w (its .most) file (entry % 256) (w .reg)))
 
     pub does-store : (x : Spot) → y ≡ Stores → x ≡ here → work ≡ putWork x (getD registers (w .reg) 0) next → Does work registers integers m (effectIn entry i) next

@@ -15,7 +15,7 @@ use Rattle.manual.specs.Refusals.{outsideMemory}
 use Rattle.manual.specs.State.{State}
 use Rattle.manual.specs.Places.{Place, integer, look}
 use Rattle.manual.specs.Addresses.{address, addressOf}
-use Rattle.manual.specs.Locations.{registerIn, locate, bytesFrom, fits, placesOf}
+use Rattle.manual.specs.Locations.{registerIn, locate, bytesFrom, liesInside, placesOf}
 use Rattle.manual.specs.Effects.{placesOfAll, addressRegistersOf, unlessMarked, planOn, via, footprintOf}
 use Rattle.manual.specs.Instructions.{sources, targets, effectBy, effectOf, footprint}
 use Rattle.manual.proofs.Marking.{by-marks}
@@ -116,7 +116,7 @@ module _ (s : State) (i : Instruction) where
       let a = address (s .integers) (addressOf (i .operand)) in
       by-place (λ f x. Each Range (before (placesOf s x) (places xs))) file size (i .operand)
       (register-before Range mmxFile (i .operand .rm) (places xs) rest) (register-before Range integerFile (i .operand .rm) (places xs) rest)
-      (λ f. bytes-before (fits (length (s .memory)) size a) size a (places xs) none)
+      (λ f. bytes-before (liesInside (length (s .memory)) size a) size a (places xs) none)
 
 -- a footprint whose reads and writes are each one range of bytes
 pub record OneRange (f : Footprint Place Kind) : Type 0 where

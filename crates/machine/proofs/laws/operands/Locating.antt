@@ -7,7 +7,7 @@ use Rattle.codec.specs.Table.{formOf}
 use Rattle.codec.specs.declared.Operand.{Operand}
 use Rattle.manual.specs.Refusals.{outsideMemory}
 use Rattle.manual.specs.Addresses.{address, addressOf}
-use Rattle.manual.specs.Locations.{Location, mmxRegister, integerRegister, memory, registerIn, rmOf, fits}
+use Rattle.manual.specs.Locations.{Location, mmxRegister, integerRegister, memory, registerIn, rmOf, liesInside}
 use Rattle.machine.specs.declared.operands.Spot.{Spot}
 use Rattle.machine.specs.declared.operands.Spot.the-variants.{Mmx, Integer, Bytes, Refused}
 use Rattle.machine.specs.inner.Spots.{fileIn, otherOf, spotOf, Named}
@@ -31,7 +31,7 @@ module _ (integers : List ℕ) (room : ℕ) where
   named : (file : File) (size : ℕ) (w : Operand) → w .rm < 8 → Named (spotOf integers room (rmOf file size w))
   named file size w r =
       by-place (λ f x. Named (spotOf integers room x)) file size w r r
-      (λ f. inside (fits room size (address integers (addressOf w))) (address integers (addressOf w)))
+      (λ f. inside (liesInside room size (address integers (addressOf w))) (address integers (addressOf w)))
     where
       inside : (u : Bool) (a : ℕ) → Named (cond u (Bytes a size) (Refused outsideMemory))
       inside true a = tt

@@ -21,7 +21,7 @@ use Rattle.machine.specs.inner.Works.{machineOf, barredBy, Advanced}
 
 -- a run from a position on, with what is left of its budget
 unfoldable pub remaining : ℕ → List ℕ → ℕ → ℕ → State → Answer State
-remaining left code at count s = runFrom read execute left code at count s
+remaining budget code at count s = runFrom read execute budget code at count s
 
 -- the start
 module _ (code : List ℕ) (budget : ℕ) (k : Machine) (m : List ℕ) where

@@ -3,7 +3,7 @@
 use Rattle.basis.specs.Names.{_≡_, refl, _⊎_, Bool, true, false, _||_, List, [], _∷_, ℕ, _/_, _%_, _^_, _≤_, _<_, eqb}
 use Rattle.basis.proofs.Names.{sym, ap, subst, _∙_, inl, inr, false≢true, arith, needs, ne-eqb, eqb-true, le-leb, lt-leb}
 use Rattle.words.specs.Number.{bytes}
-use Rattle.codec.specs.Forms.{Use, read, written, updated, File, mmxFile, integerFile, Slot, rm/mem, mmreg1, Form, alone, mmreg1·imm8/2/4/6, mmreg1·imm8/2/6, isAmong, memorySize}
+use Rattle.codec.specs.Forms.{Use, read, written, updated, File, mmxFile, integerFile, Slot, rm/mem, mmreg1, Form, pair, alone, mmreg1·imm8/2/4/6, mmreg1·imm8/2/6, isAmong, memorySize}
 use Rattle.codec.specs.Table.{formOf}
 use Rattle.codec.specs.declared.Kind.the-variants.{Ordinary}
 use Rattle.manual.specs.Instructions.{keptBy}
@@ -39,11 +39,6 @@ doubleword n two h = record { two = two; low = λ l. refl; past = λ g. absurd (
 
 multimedia : (n size : ℕ) → 17 < n → 0 < size → size ≤ 8 → Other n mmxFile size
 multimedia n size h a b = record { two = omega arith; low = λ l. absurd (omega arith); past = λ g. refl; some = a; most = b; kept = λ v. refl }
-
--- an ordinary form of a destination and a source
-abbrev pub pair : ℕ → Use × Slot → Slot → Form
-pair number destination source =
-    record { number = number; digits = []; operands = destination ∷ (read, source) ∷ []; immediate = 0; kind = Ordinary }
 
 -- the forms of each way, by their operands
 pub data HasWay (n : ℕ) : Way → Form → Type 0 where
