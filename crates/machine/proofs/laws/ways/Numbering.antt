@@ -3,9 +3,8 @@
 use Rattle.basis.specs.Names.{_≡_, refl, _⊎_, Bool, true, false, _||_, List, [], _∷_, ℕ, _/_, _%_, _^_, _≤_, _<_, eqb}
 use Rattle.basis.proofs.Names.{sym, ap, subst, _∙_, inl, inr, false≢true, arith, needs, ne-eqb, eqb-true, le-leb, lt-leb}
 use Rattle.words.specs.Number.{bytes}
-use Rattle.codec.specs.Forms.{Use, read, written, updated, File, mmxFile, integerFile, Slot, rm/mem, mmreg1, Form, pair, alone, mmreg1·imm8/2/4/6, mmreg1·imm8/2/6, isAmong, memorySize}
+use Rattle.codec.specs.Forms.{written, updated, File, mmxFile, integerFile, rm/mem, mmreg1, Form, pair, alone, mmreg1·imm8/2/4/6, mmreg1·imm8/2/6, isAmong, memorySize}
 use Rattle.codec.specs.Table.{formOf}
-use Rattle.codec.specs.declared.Kind.the-variants.{Ordinary}
 use Rattle.manual.specs.Instructions.{keptBy}
 use Rattle.machine.specs.declared.ways.Way.{Way}
 use Rattle.machine.specs.declared.ways.Way.the-variants.{Empties, Shifts, Stores, Loads, Computes}
