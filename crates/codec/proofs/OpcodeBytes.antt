@@ -1,8 +1,9 @@
 -- The opcode bytes, all 256 of each: of the first, document 01's eleven are refused by 4 on their own, 0F goes on, and every other byte is refused by
 -- 5; of the second, after 0F, every byte that the list has not is.
-use Rattle.basis.specs.Names.{ℕ, zero, suc, _≡_, refl, Bool, false, cond, List, [], _∷_, eqb, length}
+use Rattle.basis.specs.Names.{ℕ, zero, suc, _≡_, refl, Bool, false, cond, List, [], _∷_, eqb, length, not, map}
 use Rattle.codec.specs.Refusals.{codeEnds, prefixed, notListed}
-use Rattle.codec.specs.Forms.{isAbsent}
+use Rattle.codec.specs.Forms.{isAmong}
+use Rattle.codec.specs.Contents.{Line, lines}
 use Rattle.codec.specs.Opcodes.{formAt}
 use Rattle.codec.specs.Table.{listed}
 use Rattle.codec.specs.Reads.{readPart, immediateReader, modrmReader, formReader, refusalOf, secondReader, instructionReader}
@@ -28,7 +29,8 @@ pub first-bytes : FirstBytes
 unfolding refusalOf secondReader instructionReader
 first-bytes = record { four = refl; three = refl; five = refl }
 
--- after 0F, a second byte is refused by 5 exactly where the list has no form for it
-pub second-bytes : listed (λ b. isRefusedBy notListed (readPart (0x0f ∷ b ∷ []))) 0 256 ≡ listed (λ b. isAbsent (formAt b)) 0 256
+-- after 0F, a second byte is refused by 5 exactly where no line of the list has it
+pub second-bytes : listed (λ b. isRefusedBy notListed (readPart (0x0f ∷ b ∷ []))) 0 256
+    ≡ listed (λ b. not (isAmong b (map (λ (x : Line). x .second) lines))) 0 256
 unfolding formAt immediateReader modrmReader formReader refusalOf secondReader instructionReader
 second-bytes = refl
