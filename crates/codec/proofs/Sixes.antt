@@ -26,7 +26,7 @@ pub record Six (s : List ℕ) : Type 0 where
 abbrev bytes : List ℕ
 bytes = 0x71 ∷ 0x72 ∷ 0x73 ∷ []
 
--- every other second byte has such a form
+-- every other second byte has a form that allows every ModRM byte
 free-or : (second : ℕ) → (isFree (formAt second) || isAmong second bytes) ≡ true
 unfolding formAt
 free-or second =

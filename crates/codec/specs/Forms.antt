@@ -120,6 +120,7 @@ slotAllows (reg file) register = true
 slotAllows (rm file) register = register
 slotAllows (rm/mem file bytes) register = true
 
+-- whether all operands allow it, and the rest of the test holds
 abbrev pub slotsAllow : List (Use × Slot) → Bool → Bool → Bool
 slotsAllow [] register rest = rest
 slotsAllow ((how, slot) ∷ xs) register rest = slotAllows slot register && slotsAllow xs register rest

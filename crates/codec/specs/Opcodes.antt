@@ -1,4 +1,4 @@
--- The opcode bytes: the prefixes and 0F before them, and what the list says of the byte after 0F.
+-- The opcode bytes: the prefixes, 0F, and what the list says of the byte after 0F.
 use Rattle.basis.specs.Names.{ℕ, List, [], _∷_, Bool, true, _&&_, cond, Option, none, some, eqb}
 use Rattle.lanes.specs.Operations.{Operation, KEEP}
 use Rattle.codec.specs.Forms.{Form, absent}

@@ -174,24 +174,24 @@ pub(crate) const TABLE: [u32; 256] = [
     WITH_QUADWORD + WORDS + lanes::PACKSSDW as u32, // 6b
     NONE,
     NONE,
-    LOAD_DOUBLEWORD + WHOLE + lanes::MOVE as u32, // 6e
-    LOAD_QUADWORD + WHOLE + lanes::MOVE as u32, // 6f
+    LOAD_DOUBLEWORD + WHOLE + lanes::MOVE as u32, // 6e: MOVD to MMX
+    LOAD_QUADWORD + WHOLE + lanes::MOVE as u32, // 6f: MOVQ, load form
     NONE,
-    SHIFT + WORDS + lanes::PSRLW as u32, // 71
-    SHIFT + DOUBLEWORDS + lanes::PSRLD as u32, // 72
-    SHIFT_QUADWORD + WHOLE + lanes::PSRLQ as u32, // 73
+    SHIFT + WORDS + lanes::PSRLW as u32, // 71 /2; /4 and /6 by the digit
+    SHIFT + DOUBLEWORDS + lanes::PSRLD as u32, // 72 /2; /4 and /6 by the digit
+    SHIFT_QUADWORD + WHOLE + lanes::PSRLQ as u32, // 73 /2; /6 by the digit
     WITH_QUADWORD + BYTES + lanes::PCMPEQB as u32, // 74
     WITH_QUADWORD + WORDS + lanes::PCMPEQW as u32, // 75
     WITH_QUADWORD + DOUBLEWORDS + lanes::PCMPEQD as u32, // 76
-    ALONE, // 77
+    ALONE, // 77: EMMS
     NONE,
     NONE,
     NONE,
     NONE,
     NONE,
     NONE,
-    STORE_DOUBLEWORD + WHOLE + lanes::MOVE as u32, // 7e
-    STORE_QUADWORD + WHOLE + lanes::MOVE as u32, // 7f
+    STORE_DOUBLEWORD + WHOLE + lanes::MOVE as u32, // 7e: MOVD from MMX
+    STORE_QUADWORD + WHOLE + lanes::MOVE as u32, // 7f: MOVQ, store form
     NONE,
     NONE,
     NONE,

@@ -85,7 +85,7 @@ described KEEP = ofRegisters 255 (λ destination source. destination)
 unfoldable pub operate : Operation → ℕ → ℕ → ℕ
 operate operation = described operation .leaves
 
--- each at its number
+-- each at its number; KEEP, 255, stands past the end
 abbrev pub operations : List Operation
 operations =
     PUNPCKLBW ∷ PUNPCKLWD ∷ PUNPCKLDQ ∷ PACKSSWB ∷ PACKUSWB ∷ PACKSSDW ∷ PCMPGTB ∷ PCMPGTW ∷ PCMPGTD

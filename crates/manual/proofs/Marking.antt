@@ -1,4 +1,4 @@
--- Marks as laws and tests make them, others with these control marks, and with none; and what holds past the test of the control marks.
+-- Marks as laws and tests make them, with given control marks and with none; and what holds past the test of the control marks.
 use Rattle.basis.specs.Names.{_≡_, refl, Bool, true, false, ℕ}
 use Rattle.reorder.specs.Result.{Result, refused}
 use Rattle.manual.specs.declared.Marks.{Marks}

@@ -1,4 +1,5 @@
--- When two instructions meet: meeting is symmetric, EMMS meets every instruction, and two others meet exactly where they share a place.
+-- When two instructions meet: meeting is symmetric, EMMS meets every instruction, and two others meet exactly where one writes a
+-- place that the other reads or writes.
 use Rattle.basis.specs.Names.{_≡_, refl, _⊎_, false, not, [], _∷_, List·Memᴰ as In, ℕ, eqb}
 use Rattle.basis.proofs.Names.{sym, ap, _∙_, subst₂, _↔_, inl, inr, false≢true, List·Memᴰ·head as here, List·Memᴰ·tail as later, List·Memᴰ·eq-of-singleton as eq-of-singleton, eqb-true, eq-eqb, not-false}
 use Rattle.reorder.specs.Result.{Result, done}

@@ -122,12 +122,12 @@ pub record Does (work : Work) (registers integers memory : List ℕ) (e : Effect
   pub sound : Sound work
   pub does : (marks : Marks) (at : ℕ) → let s = stateOf (machineOf registers integers marks) memory in performed work at s ≡ concluded at next s (directly e s)
 
--- a work does what the step at a position of the code does, whatever the marks that are barred so
+-- a work does what the step at a position of the code does, for all marks whose refusal is `bar`
 pub record Gathered (work : Work) (registers integers : List ℕ) (bar : ℕ) (code : List ℕ) (at : ℕ) (memory : List ℕ) : Type 0 where
   pub sound : Sound work
   pub steps : (marks : Marks) → bar ≡ barredBy marks → let s = stateOf (machineOf registers integers marks) memory in performed work at s ≡ stepAt code at s
 
--- a step that ended so, with what is then in the lent registers and memory, is the step at a position of the code, whatever the marks that are barred so
+-- a step that ended so, with what is then in the lent registers and memory, is the step at a position of the code, for all marks whose refusal is `bar`
 pub record Advanced (moved : Moved) (registers integers : List ℕ) (bar : ℕ) (code : List ℕ) (at : ℕ) (memory registers′ integers′ memory′ : List ℕ) : Type 0 where
   pub ends : (marks : Marks) → bar ≡ barredBy marks
       → cond (eqb (moved .refusal) 0)

@@ -12,7 +12,8 @@ use Rattle.machine.specs.inner.Spots.{fileIn}
 use Rattle.machine.specs.inner.Ways.{wayOf, hasTwo}
 use Rattle.machine.specs.inner.Works.{numbers, isListed, Listed}
 
--- the register file and the size of r/m: MOVD's register is an integer register; of some bytes and at most eight, which a number that it takes keeps
+-- the register file and the size of r/m: up to number 17, MOVD's, an integer register, else an MMX register; one to eight bytes; and what the operand
+-- keeps of a number has the same bytes
 pub record Other (n : ℕ) (file : File) (size : ℕ) : Type 0 where
   pub two : 16 ≤ n
   pub low : n ≤ 17 → file ≡ integerFile
