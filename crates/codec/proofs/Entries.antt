@@ -1,6 +1,6 @@
 -- Our table says of each second byte what the list says: a computation for the 256 bytes.
-use Rattle.basis.specs.Names.{ℕ, zero, suc, _+_, _*_, _/_, _%_, _^_, _≤_, _<_, _≡_, refl, Bool, true, false, cond, eqb, ltb, length, getD}
-use Rattle.basis.proofs.Names.{sym, ap, ap₂, subst, _∙_, arith, zero-add, add-zero, ltb-true, ltb-false, List·getD-eq-default}
+use Rattle.basis.specs.Names.{[], ℕ, zero, suc, _+_, _/_, _^_, _≤_, _<_, _≡_, refl, Bool, true, false, cond, eqb, ltb, length, getD}
+use Rattle.basis.proofs.Names.{sym, ap, subst, _∙_, arith, zero-add, add-zero, ltb-true, ltb-false, List·getD-eq-default}
 use Rattle.lanes.specs.Operations.{KEEP}
 use Rattle.codec.specs.Opcodes.{formAt, operationAt, escape}
 use Rattle.codec.specs.Table.{formOf, entryAt, listed, opcodeTable, formIn}
@@ -44,7 +44,7 @@ forms-back : listed (λ k. formOf (entryAt k / 2 ^ 24)) 0 256 ≡ listed formAt 
 unfolding formAt operationAt
 forms-back = refl
 
-operations-back : listed (λ k. operationIn (entryAt (k / 8)) (k % 8)) 0 2048 ≡ listed (λ k. operationAt (k / 8) (k % 8)) 0 2048
+operations-back : listed (λ b. listed (operationIn (entryAt b)) 0 8) 0 256 ≡ listed (λ b. listed (operationAt b) 0 8) 0 256
 unfolding formAt operationAt operationIn shiftOf
 operations-back = refl
 
@@ -64,13 +64,9 @@ form-is second = by (ltb second 256) refl
 -- It has the operation of every second byte, with every reg.
 pub operation-is : (second digit : ℕ) → second < 256 → digit < 8 → operationIn (getD opcodeTable second 0) digit ≡ operationAt second digit
 operation-is second digit h g =
-    let k = second * 8 + digit in
-    let a : k / 8 ≡ second = omega arith in
-    let b : k % 8 ≡ digit = omega arith in
     ap (λ (x : ℕ). operationIn x digit) (table-entry second h)
-    ∙ ap₂ (λ (x y : ℕ). operationIn (entryAt x) y) (sym a) (sym b)
-    ∙ agree (λ k. operationIn (entryAt (k / 8)) (k % 8)) (λ k. operationAt (k / 8) (k % 8)) KEEP 2048 k operations-back (omega arith)
-    ∙ ap₂ operationAt a b
+    ∙ agree (operationIn (entryAt second)) (operationAt second) KEEP 8 digit
+    (agree (λ b. listed (operationIn (entryAt b)) 0 8) (λ b. listed (operationAt b) 0 8) [] 256 second operations-back h) g
 
 -- So it asks for the same bytes as the list.
 pub same-reader : instructionReader (formIn opcodeTable) ≡ instructionReader formAt
