@@ -1,11 +1,11 @@
 -- Our table says of each second byte what the list says: a computation for the 256 bytes.
-use Rattle.basis.specs.Names.{[], ℕ, zero, suc, _+_, _/_, _^_, _≤_, _<_, _≡_, refl, Bool, true, false, cond, eqb, ltb, length, getD}
+use Rattle.basis.specs.Names.{[], ℕ, zero, suc, _+_, _/_, _^_, _≤_, _<_, _≡_, refl, Bool, true, false, cond, eqb, ltb, length, getD, _%_}
 use Rattle.basis.proofs.Names.{sym, ap, subst, _∙_, arith, zero-add, add-zero, ltb-true, ltb-false, List·getD-eq-default}
-use Rattle.lanes.specs.Operations.{KEEP}
+use Rattle.lanes.specs.Operations.{described, KEEP}
 use Rattle.codec.specs.Opcodes.{formAt, operationAt, escape}
 use Rattle.codec.specs.Table.{formOf, entryAt, listed, opcodeTable, formIn}
 use Rattle.codec.specs.inner.Entries.{shiftOf, operationIn}
-use Rattle.codec.specs.Forms.{absent}
+use Rattle.codec.specs.Forms.{absent, memorySize}
 use Rattle.codec.specs.Reader.{refuse, byte}
 use Rattle.codec.specs.Reads.{formReader, secondReader, instructionReader, refusalOf}
 use Rattle.codec.proofs.Bytes.{form-beyond}
@@ -47,6 +47,15 @@ forms-back = refl
 operations-back : listed (λ b. listed (operationIn (entryAt b)) 0 8) 0 256 ≡ listed (λ b. listed (operationAt b) 0 8) 0 256
 unfolding formAt operationAt operationIn shiftOf
 operations-back = refl
+
+-- and so do the sizes of the operands in memory and the lane widths
+pub sizes-back : listed (λ b. entryAt b / 2 ^ 16 % 256) 0 256 ≡ listed (λ b. memorySize (formAt b)) 0 256
+unfolding formAt operationAt
+sizes-back = refl
+
+pub widths-back : listed (λ b. entryAt b / 2 ^ 8 % 256) 0 256 ≡ listed (λ b. described (operationAt b 2) .width) 0 256
+unfolding formAt operationAt
+widths-back = refl
 
 -- It has the form of every number.
 pub form-is : (second : ℕ) → formIn opcodeTable second ≡ formAt second
