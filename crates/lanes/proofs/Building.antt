@@ -3,7 +3,7 @@ use Rattle.basis.specs.Names.{_≡_, refl, ℕ, suc, _+_, _*_, _/_, _^_, _≤_,
 use Rattle.basis.proofs.Names.{sym, ap, ap₂, _∙_, le-div-iff-mul-le, le-trans, le-of-eq, add-comm, mul-comm, mul-suc, div-le-self, add-one, arith, needs}
 use Rattle.lanes.specs.Lane.{lane, build, register}
 use Rattle.lanes.specs.Rules.{packed, pairwise}
-use Rattle.lanes.proofs.Registers.{build-lt, register-lt, lane-build}
+use Rattle.lanes.proofs.Registers.{build-lt, register-lt, lane-build, lanes-decide}
 use Rattle.lanes.proofs.Fitting.{Fits, fitting}
 
 -- the loop's invariant: the lanes below i are built
@@ -57,5 +57,11 @@ module _ (w a b i : ℕ) (l : i < 64 / w) where
       → lane w i (packed (pairwise operation) w a b) ≡ operation w (lane w i a) (lane w i b)
   unfolding pairwise
   lane-pairwise operation f = lane-packed (pairwise operation) f
+
+-- a register whose lanes are a rule's is what the rule leaves
+pub by-lanes : (rule : ℕ → ℕ → ℕ → ℕ → ℕ) (w a b r : ℕ) → w * (64 / w) ≡ 64 → Fits rule → r < 2 ^ 64 → ((i : ℕ) → i < 64 / w → lane w i r ≡ rule w a b i)
+    → r ≡ packed rule w a b
+by-lanes rule w a b r whole f h same =
+    lanes-decide w (64 / w) r (packed rule w a b) (rw whole h) (rw whole (packed-lt w a b rule f)) (λ i l. same i l ∙ sym (lane-packed w a b i l rule f))
 
 pub ruleset building = (needs, starts, inside, fits-lane, fits-below, counted, again, ends, fitting)

@@ -5,11 +5,11 @@ use Rattle.basis.proofs.Names.{sym, ap, ap₂, _∙_, dite, mod-eq-of-lt, add-m
 use Rattle.lanes.specs.Lane.{lane}
 use Rattle.lanes.specs.Signed.{signed, wrap, clampSigned, clampUnsigned}
 use Rattle.lanes.specs.Rules.{packed, pairwise, sum, difference, sumSigned, differenceSigned, sumUnsigned, differenceUnsigned}
-use Rattle.lanes.proofs.Registers.{lane-lt, lanes-decide}
+use Rattle.lanes.proofs.Registers.{lane-lt}
 use Rattle.lanes.proofs.Bitwise.{lane-not}
 use Rattle.lanes.proofs.Powers.{halves}
 use Rattle.lanes.proofs.Fitting.{Fits, wrap-lt, sum-fits, difference-fits, sum-signed-fits, difference-signed-fits, sum-unsigned-fits, difference-unsigned-fits}
-use Rattle.lanes.proofs.Building.{inside, packed-lt, lane-pairwise}
+use Rattle.lanes.proofs.Building.{inside, packed-lt, lane-pairwise, by-lanes}
 use Rattle.lanes.proofs.Integers.{is-pos, same, plus, minus, wrap-ge, wrap-below, unsigned-below, unsigned-above, unsigned-within}
 use Rattle.lanes.proofs.TopBits.{turned-lt, turned-not, signed-is, clamped-is}
 
@@ -87,21 +87,16 @@ module _ (w a b r : ℕ) (hw : 1 ≤ w) (whole : w * (64 / w) ≡ 64) (ha : a < 
   lifted : (f g : ℕ → ℕ → ℕ → ℕ) → Fits (pairwise f) → Fits (pairwise g)
       → ((x y : ℕ) → x < 2 ^ w → y < 2 ^ w → 2 ^ w - 1 - f w (2 ^ w - 1 - x) y ≡ g w x y)
       → r ≡ packed (pairwise f) w (2 ^ 64 - 1 - a) b → 2 ^ 64 - 1 - r ≡ packed (pairwise g) w a b
+  unfolding pairwise
   lifted f g ff fg same e =
-      lanes-decide w (64 / w) (2 ^ 64 - 1 - r) (packed (pairwise g) w a b)
-      (all (ones-sub-lt 64 r))
-      (all (packed-lt w a b (pairwise g) fg))
+      by-lanes (pairwise g) w a b (2 ^ 64 - 1 - r) whole fg (ones-sub-lt 64 r)
       (λ i l.
       let k = inside w 64 i hw l in
       lane-not w i r (rw e (packed-lt w (2 ^ 64 - 1 - a) b (pairwise f) ff)) k
       ∙ ap (λ (x : ℕ). 2 ^ w - 1 - lane w i x) e
       ∙ ap (λ (x : ℕ). 2 ^ w - 1 - x) (lane-pairwise w (2 ^ 64 - 1 - a) b i l f ff)
       ∙ ap (λ (x : ℕ). 2 ^ w - 1 - f w x (lane w i b)) (lane-not w i a ha k)
-      ∙ same (lane w i a) (lane w i b) (lane-lt w i a) (lane-lt w i b)
-      ∙ sym (lane-pairwise w a b i l g fg))
-    where
-      all : {x : ℕ} → x < 2 ^ 64 → x < 2 ^ (w * (64 / w))
-      all {x} h = rw whole h
+      ∙ same (lane w i a) (lane w i b) (lane-lt w i a) (lane-lt w i b))
 
   pub difference-of : r ≡ packed (pairwise sum) w (2 ^ 64 - 1 - a) b → 2 ^ 64 - 1 - r ≡ packed (pairwise difference) w a b
   difference-of = lifted sum difference sum-fits difference-fits (λ x y. not-sum w x y hw)

@@ -4,6 +4,9 @@ pub mod Powers
 pub mod Bitwise
 pub mod Fitting
 pub mod Building
+pub mod Carrying
+pub mod Masking
+pub mod AtOnce
 pub mod Integers
 pub mod TopBits
 pub mod Adding

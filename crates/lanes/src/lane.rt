@@ -2,7 +2,8 @@
 ghost use Rattle.basis.specs.Names.{_≡_, _+_, _-_, _*_, _%_, _^_, _<_, _≤_, subℕ};
 ghost use Rattle.lanes.specs.Lane.{lane};
 ghost use Rattle.lanes.specs.Signed.{wrap, clampUnsigned};
-ghost use Rattle.lanes.specs.inner.Widths.{Within};
+ghost use Rattle.lanes.specs.inner.Widths.{Within, Fills};
+ghost use Rattle.lanes.specs.inner.Masks.{lowestBits};
 
 // The lanes' widths, and the bits of half a register. A quadword is a whole register.
 pub(crate) const BYTE: u64 = 8;
@@ -64,6 +65,14 @@ pub(crate) fn ones(w: u64) -> u64
 {
     let h = half(w);
     h + (h - 1)
+}
+
+// The lowest bit of every lane: all ones, divided by a lane's ones.
+pub(crate) fn lowest_bits(w: u64) -> u64
+    requires { ⌜ Fills w ⌝ }
+    ensures { λ r. ⌜ r ≡ lowestBits w ⌝ }
+{
+    u64::MAX / ones(w)
 }
 
 // The difference m - n clamped to a lane's unsigned numbers.

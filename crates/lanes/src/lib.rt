@@ -25,11 +25,9 @@ use shifts::shift_left;
 use shifts::shift_right;
 use shifts::shift_right_signed;
 use sums::add;
-use sums::add_doublewords;
 use sums::add_signed;
 use sums::add_unsigned;
 use sums::subtract;
-use sums::subtract_doublewords;
 use sums::subtract_signed;
 use sums::subtract_unsigned;
 
@@ -173,10 +171,10 @@ pub fn operate(operation: u8, destination: u64, source: u64) -> u64
         PXOR => destination ^ source,
         PSUBB => subtract(destination, source, BYTE),
         PSUBW => subtract(destination, source, WORD),
-        PSUBD => subtract_doublewords(destination, source),
+        PSUBD => subtract(destination, source, DOUBLEWORD),
         PADDB => add(destination, source, BYTE),
         PADDW => add(destination, source, WORD),
-        PADDD => add_doublewords(destination, source),
+        PADDD => add(destination, source, DOUBLEWORD),
         _ => destination,
     }
 }

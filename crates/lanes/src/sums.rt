@@ -2,48 +2,23 @@
 ghost use Rattle.basis.specs.Names.{_≡_, _≤_};
 ghost use Rattle.lanes.specs.Rules.{packed, pairwise, sum, difference, sumSigned, differenceSigned, sumUnsigned, differenceUnsigned};
 ghost use Rattle.lanes.specs.inner.Widths.{Within, Fills};
-use crate::lane::DOUBLEWORD_RANGE;
 use crate::lane::QUADWORD;
 use crate::lane::clamped;
 use crate::lane::half;
 use crate::lane::lane_of;
-use crate::lane::low;
+use crate::lane::lowest_bits;
 use crate::lane::with_lane;
 
-fn add_lane(a: u64, b: u64, w: u64, i: u64) -> u64
-    requires { ⌜ Within w i × (w ≤ 32) ⌝ }
-    ensures { λ r. ⌜ r ≡ pairwise sum w a b i ⌝ }
-{
-    low(lane_of(a, w, i) + lane_of(b, w, i), w)
-}
-
+// All lanes at once. Below a lane's lowest bit is the top bit of the next lane down. These top bits are taken out, so that no sum leaves its lane, and
+// put back by exclusive or, which carries nothing. The highest lane keeps its own: what it carries leaves the register.
 pub(crate) fn add(a: u64, b: u64, w: u64) -> u64
     requires { ⌜ Fills w ⌝ }
     ensures { λ r. ⌜ r ≡ packed (pairwise sum) w a b ⌝ }
 {
-    let n = QUADWORD / w;
-    let mut lanes: u64 = 0;
-    let mut i: u64 = 0;
-    while i < n {
-        lanes = with_lane(lanes, add_lane(a, b, w, i), w, i);
-        i += 1;
-    }
-    lanes
-}
-
-// Both lanes of 32 bits, by additions that wrap.
-pub(crate) fn add_doublewords(a: u64, b: u64) -> u64
-    ensures { λ r. ⌜ r ≡ packed (pairwise sum) 32 a b ⌝ }
-{
-    let low = std::num::wrapping_add_u32(
-        (a % DOUBLEWORD_RANGE) as u32,
-        (b % DOUBLEWORD_RANGE) as u32,
-    );
-    let high = std::num::wrapping_add_u32(
-        (a / DOUBLEWORD_RANGE) as u32,
-        (b / DOUBLEWORD_RANGE) as u32,
-    );
-    (high as u64) * DOUBLEWORD_RANGE + low as u64
+    let tops = lowest_bits(w) >> 1;
+    let x = a & tops;
+    let y = b & tops;
+    std::num::wrapping_add_u64(a ^ x, b ^ y) ^ x ^ y
 }
 
 // With its top bit turned over, a signed lane is its number plus half the range.
@@ -97,12 +72,6 @@ pub(crate) fn subtract(a: u64, b: u64, w: u64) -> u64
     ensures { λ r. ⌜ r ≡ packed (pairwise difference) w a b ⌝ }
 {
     !add(!a, b, w)
-}
-
-pub(crate) fn subtract_doublewords(a: u64, b: u64) -> u64
-    ensures { λ r. ⌜ r ≡ packed (pairwise difference) 32 a b ⌝ }
-{
-    !add_doublewords(!a, b)
 }
 
 pub(crate) fn subtract_signed(a: u64, b: u64, w: u64) -> u64

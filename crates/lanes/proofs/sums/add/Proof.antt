@@ -1,21 +1,10 @@
--- `sums::add` meets its contract: the loop builds the result, one lane a turn.
-use Rattle.basis.specs.Names.{_-_}
-use Rattle.lanes.specs.Rules.{pairwise, sum}
-use Rattle.lanes.proofs.Building.{Built, building}
+-- `sums::add` meets its contract: without the top bits nothing is carried into another lane, and they are put back.
+use Rattle.lanes.proofs.AtOnce.{adding-at-once}
 use Rattle.lanes.proofs.sums.add.Statement.{statement}
 use Rattle.lanes.proofs.sums.add.Tie as tie
-
-abbrev Inv-loop : tie.InvT-loop
-Inv-loop a b w n lanes₀ i₀ lanes i = Built (pairwise sum) w a b lanes i
-
-abbrev μ-loop : tie.MeasureT-loop
-μ-loop a b w n lanes₀ i₀ lanes i = n - i
 
 pub add-spec : {M : Type 1} → statement M
 add-spec =
     tie.close
     (tie.spec
-    Inv-loop
-    μ-loop
-    (λ c. search building) (λ c. search building) (λ c κs. search building) (λ c κs. search building) (λ c. search building) (λ c. search building)
-    (λ c. search building) (λ c. search building))
+    (λ c κs. search adding-at-once) (λ c κs. search adding-at-once) (λ c. search adding-at-once))
