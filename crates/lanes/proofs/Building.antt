@@ -1,4 +1,4 @@
--- Building a register lane by lane, for any rule whose lanes fit: what each turn of the loop asks and leaves.
+-- Building a register lane by lane, for any rule whose lanes fit: what each turn of the loop asks and leaves; and a register known by its lanes.
 use Rattle.basis.specs.Names.{_≡_, refl, ℕ, suc, _+_, _*_, _/_, _^_, _≤_, _<_}
 use Rattle.basis.proofs.Names.{sym, ap, ap₂, _∙_, le-div-iff-mul-le, le-trans, le-of-eq, add-comm, mul-comm, mul-suc, div-le-self, add-one, arith, needs}
 use Rattle.lanes.specs.Lane.{lane, build, register}

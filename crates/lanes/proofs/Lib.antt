@@ -1,12 +1,12 @@
--- The laws: of lanes and registers, of integers as differences, of each family, and of the operations by number.
+-- The laws: of lanes and registers, of the carry, of integers as differences, of each family, and of the operations by number.
 pub mod Registers
 pub mod Powers
 pub mod Bitwise
 pub mod Fitting
 pub mod Building
 pub mod Carrying
-pub mod Masking
-pub mod AtOnce
+pub mod LowestBits
+pub mod AddingAtOnce
 pub mod Integers
 pub mod TopBits
 pub mod Adding

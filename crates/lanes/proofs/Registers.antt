@@ -1,12 +1,12 @@
--- The laws of lanes, once over the width: what the lanes of a built number are, and that lanes decide a number. By division with rest
--- at powers of two.
+-- The laws of lanes, once over the width: what the lanes of a built number are, of its low bits and above it, and that lanes decide a number. By
+-- division with rest at powers of two.
 use Rattle.basis.specs.Names.{_≡_, refl, ℕ, zero, suc, _+_, _-_, _*_, _/_, _%_, _^_, _≤_, _<_}
 use Rattle.basis.proofs.Names.{sym, ap, ap₂, _∙_, ⊎-elim, zero-div, zero-mod, div-eq-of-lt, div-add-mod', add-mul, mul-add, mul-one, div-one, mod-mod, mul-suc, mul-zero, mul-comm, mul-assoc, add-comm, mod-eq-of-lt, mod-lt, mod-one, mul-add-mod-self-right, le-of-suc-le-suc, eq-or-lt-of-le, mul-le-mul-left, lt-suc-self, lt-trans, not-suc-le-zero, le-of-eq, le-trans, div-mul-le-self, arith, pow-pos, pow-mono, pow-add, high, field, shr-shr, mod-mod-pow, mod-pow-add, digits-lt}
 use Rattle.lanes.specs.Lane.{lane, build, register}
 
 -- w * suc n bits are w bits on top of w * n
-pub top : (w n : ℕ) → 2 ^ (w * suc n) ≡ 2 ^ w * 2 ^ (w * n)
-top w n = ap (λ (k : ℕ). 2 ^ k) (mul-suc w n ∙ add-comm (w * n) w) ∙ pow-add 2 w (w * n)
+pub one-lane-more : (w n : ℕ) → 2 ^ (w * suc n) ≡ 2 ^ w * 2 ^ (w * n)
+one-lane-more w n = ap (λ (k : ℕ). 2 ^ k) (mul-suc w n ∙ add-comm (w * n) w) ∙ pow-add 2 w (w * n)
 
 pub lane-lt : (w i x : ℕ) → lane w i x < 2 ^ w
 unfolding lane
@@ -20,7 +20,7 @@ pub build-lt : (w n : ℕ) (f : ℕ → ℕ) → ((i : ℕ) → i < n → f i < 
 unfolding build
 build-lt w zero f h = pow-pos (w * zero)
 build-lt w (suc n) f h =
-    rw (top w n) (digits-lt (h n (lt-suc-self n)) (build-lt w n f (λ i l. h i (lt-trans l (lt-suc-self n)))))
+    rw (one-lane-more w n) (digits-lt (h n (lt-suc-self n)) (build-lt w n f (λ i l. h i (lt-trans l (lt-suc-self n)))))
 
 -- a built register is below 2 ^ 64
 pub register-lt : (w : ℕ) (f : ℕ → ℕ) → ((i : ℕ) → i < 64 / w → f i < 2 ^ w) → register w f < 2 ^ 64
@@ -69,14 +69,14 @@ lane-build w (suc n) f h i l = ⊎-elim here (λ k. below k (lane-build w n f h�
     below k e = above (f n) (w * n) w (w * i) (build w n f) (fits k) ∙ e
 
 -- a number is built of its lanes
-pub of-lanes : (w n x : ℕ) → build w n (λ i. lane w i x) ≡ x % 2 ^ (w * n)
+pub built-of-lanes : (w n x : ℕ) → build w n (λ i. lane w i x) ≡ x % 2 ^ (w * n)
 unfolding lane build
-of-lanes w zero x = sym (ap (λ (k : ℕ). x % 2 ^ k) (mul-zero w) ∙ mod-one x)
-of-lanes w (suc n) x =
-    ap (λ (y : ℕ). x / 2 ^ (w * n) % 2 ^ w * 2 ^ (w * n) + y) (of-lanes w n x)
+built-of-lanes w zero x = sym (ap (λ (k : ℕ). x % 2 ^ k) (mul-zero w) ∙ mod-one x)
+built-of-lanes w (suc n) x =
+    ap (λ (y : ℕ). x / 2 ^ (w * n) % 2 ^ w * 2 ^ (w * n) + y) (built-of-lanes w n x)
     ∙ sym (ap (λ (k : ℕ). x % 2 ^ k) (mul-suc w n ∙ add-comm (w * n) w) ∙ mod-pow-add x w (w * n))
 
--- the lanes of the low m bits; and above a number all lanes are 0
+-- a lane within the low m bits is a lane of these; a lane that stands above a number is 0
 pub lane-mod : (w i m x : ℕ) → w + w * i ≤ m → lane w i (x % 2 ^ m) ≡ lane w i x
 unfolding lane
 lane-mod w i m x l =
@@ -89,7 +89,7 @@ lane-beyond w i x h = ap (λ (y : ℕ). y % 2 ^ w) (div-eq-of-lt h) ∙ zero-mod
 -- equal lanes make equal numbers
 pub lanes-decide : (w n x y : ℕ) → x < 2 ^ (w * n) → y < 2 ^ (w * n) → ((i : ℕ) → i < n → lane w i x ≡ lane w i y) → x ≡ y
 lanes-decide w n x y hx hy h =
-    sym (of-lanes w n x ∙ mod-eq-of-lt hx) ∙ build-ext w n (λ i. lane w i x) (λ i. lane w i y) h ∙ of-lanes w n y ∙ mod-eq-of-lt hy
+    sym (built-of-lanes w n x ∙ mod-eq-of-lt hx) ∙ build-ext w n (λ i. lane w i x) (λ i. lane w i y) h ∙ built-of-lanes w n y ∙ mod-eq-of-lt hy
 
 -- the lanes of half the width of a lane
 module _ (v i x : ℕ) where

@@ -7,9 +7,9 @@ use Rattle.lanes.specs.Rules.{packed, pairwise, greater, shift, left, ri
 use Rattle.lanes.proofs.Powers.{halves}
 use Rattle.lanes.proofs.Bitwise.{lane-xor, xor-ones}
 use Rattle.lanes.proofs.Fitting.{greater-fits, right-fits, right-signed-fits}
-use Rattle.lanes.proofs.Building.{packed-lt, lane-packed, lane-pairwise}
+use Rattle.lanes.proofs.Building.{packed-lt, lane-packed, lane-pairwise, by-lanes}
 use Rattle.lanes.proofs.Integers.{is-lt, lt-same}
-use Rattle.lanes.proofs.Registers.{lane-lt, lane-zero, lanes-decide}
+use Rattle.lanes.proofs.Registers.{lane-lt, lane-zero}
 use Rattle.lanes.proofs.TopBits.{turn-low, turn-high, signed-is}
 
 module _ (w i a c : ℕ) where
@@ -81,9 +81,8 @@ pub signed-is-turned : (w a c m s : ℕ) → 1 ≤ w → w * (64 / w) ≡ 64 →
     → bitXor s m ≡ packed (shift rightSigned) w a c
 unfolding shift right
 signed-is-turned w a c m s hw whole em es =
-    lanes-decide w (64 / w) (bitXor s m) (packed (shift rightSigned) w a c)
-    (rw whole (xor-lt 64 s m (rw es (packed-lt w (bitXor a m) c (shift right) right-fits)) (rw em (packed-lt w 0 a (pairwise greater) greater-fits))))
-    (rw whole (packed-lt w a c (shift rightSigned) right-signed-fits))
+    by-lanes (shift rightSigned) w a c (bitXor s m) whole right-signed-fits
+    (xor-lt 64 s m (rw es (packed-lt w (bitXor a m) c (shift right) right-fits)) (rw em (packed-lt w 0 a (pairwise greater) greater-fits)))
     (λ i g.
     let x = lane w i a in
     let k = min c w in
@@ -91,7 +90,6 @@ signed-is-turned w a c m s hw whole em es =
     ap (lane w i) em ∙ lane-pairwise w 0 a i g greater greater-fits ∙ ap (λ (y : ℕ). greater w y x) (lane-zero w i) in
     lane-xor w i s m
     ∙ ap₂ bitXor (ap (lane w i) es ∙ lane-packed w (bitXor a m) c i g (shift right) right-fits ∙ ap (λ (y : ℕ). y / 2 ^ k) (lane-xor w i a m ∙ ap (bitXor x) lm)) lm
-    ∙ signed-lane w x k hw (lane-lt w i a)
-    ∙ sym (lane-packed w a c i g (shift rightSigned) right-signed-fits))
+    ∙ signed-lane w x k hw (lane-lt w i a))
 
 pub ruleset shifting = (needs, left-in, left-out, right-in, right-out, signed-is-turned)

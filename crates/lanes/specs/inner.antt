@@ -1,3 +1,3 @@
 -- The words of private contracts: nobody has to believe them.
 pub mod Widths
-pub mod Masks
+pub mod LowestBits

@@ -1,9 +1,9 @@
-// Taking a lane out of a register, putting lanes together, and clamping a number to a lane.
+// Taking a lane out of a register, putting lanes together, the lowest bits of all lanes, and clamping a number to a lane.
 ghost use Rattle.basis.specs.Names.{_≡_, _+_, _-_, _*_, _%_, _^_, _<_, _≤_, subℕ};
 ghost use Rattle.lanes.specs.Lane.{lane};
 ghost use Rattle.lanes.specs.Signed.{wrap, clampUnsigned};
 ghost use Rattle.lanes.specs.inner.Widths.{Within, Fills};
-ghost use Rattle.lanes.specs.inner.Masks.{lowestBits};
+ghost use Rattle.lanes.specs.inner.LowestBits.{lowestBits};
 
 // The lanes' widths, and the bits of half a register. A quadword is a whole register.
 pub(crate) const BYTE: u64 = 8;

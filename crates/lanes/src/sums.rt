@@ -9,16 +9,16 @@ use crate::lane::lane_of;
 use crate::lane::lowest_bits;
 use crate::lane::with_lane;
 
-// All lanes at once. Below a lane's lowest bit is the top bit of the next lane down. These top bits are taken out, so that no sum leaves its lane, and
-// put back by exclusive or, which carries nothing. The highest lane keeps its own: what it carries leaves the register.
+// All lanes at once. The lowest bits, one bit down, are the top bits of all lanes but the highest. Without these, nothing is carried into another
+// lane. They are put back by exclusive or, which adds them and drops what they carry. What the highest lane carries leaves the register.
 pub(crate) fn add(a: u64, b: u64, w: u64) -> u64
     requires { ⌜ Fills w ⌝ }
     ensures { λ r. ⌜ r ≡ packed (pairwise sum) w a b ⌝ }
 {
-    let tops = lowest_bits(w) >> 1;
-    let x = a & tops;
-    let y = b & tops;
-    std::num::wrapping_add_u64(a ^ x, b ^ y) ^ x ^ y
+    let inner_tops = lowest_bits(w) >> 1;
+    let a_tops = a & inner_tops;
+    let b_tops = b & inner_tops;
+    std::num::wrapping_add_u64(a ^ a_tops, b ^ b_tops) ^ a_tops ^ b_tops
 }
 
 // With its top bit turned over, a signed lane is its number plus half the range.

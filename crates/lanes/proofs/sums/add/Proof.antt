@@ -1,5 +1,5 @@
 -- `sums::add` meets its contract: without the top bits nothing is carried into another lane, and they are put back.
-use Rattle.lanes.proofs.AtOnce.{adding-at-once}
+use Rattle.lanes.proofs.AddingAtOnce.{adding-at-once}
 use Rattle.lanes.proofs.sums.add.Statement.{statement}
 use Rattle.lanes.proofs.sums.add.Tie as tie
 
