@@ -1,7 +1,8 @@
--- PADD on whole registers. In a lane, exclusive or with the top bit adds it, wrapped: so the top bits may be taken out before the addition and put back
--- after it. Without them no lane below the highest has a sum that reaches 2 ^ w, and nothing is carried into another lane.
+-- PADD on whole registers. In a lane, exclusive or with the top bit adds it, wrapped: so the top bits of all lanes but the highest are taken out
+-- before the addition and put back after it. Without them no lane below the highest has a sum that reaches 2 ^ w, and nothing is carried into another
+-- lane.
 use Rattle.basis.specs.Names.{_≡_, ℕ, _+_, _-_, _*_, _/_, _%_, _^_, _≤_, _<_, bitAnd, bitXor}
-use Rattle.basis.proofs.Names.{sym, ap, ap₂, _∙_, lt-of-le-of-lt, mod-lt, mod-eq-of-lt, mod-add-mod, div-add-mod', div-self, add-mul, mul-add, zero-mul, add-mul-mod-self-right, arith, needs, and-mask, and-mod, and-shr, and-zero-r, and-le-l, xor-add-and, xor-shr, xor-self, xor-lt, pow-pos, shr-lt}
+use Rattle.basis.proofs.Names.{sym, ap, ap₂, _∙_, lt-of-le-of-lt, mod-lt, mod-eq-of-lt, div-add-mod', div-self, add-mul, mul-add, zero-mul, add-mul-mod-self-right, arith, needs, and-mask, and-mod, and-shr, and-zero-r, and-le-l, xor-add-and, xor-shr, xor-self, xor-lt, pow-pos, shr-lt}
 use Rattle.lanes.specs.Lane.{lane}
 use Rattle.lanes.specs.Signed.{wrap}
 use Rattle.lanes.specs.Rules.{packed, pairwise, sum}
@@ -20,35 +21,27 @@ module _ (w : ℕ) (l : 1 ≤ w) where
   abbrev h : ℕ
   h = 2 ^ (w - 1)
 
-  -- below 2 ^ w: the top bit or none
+  -- of a number below 2 ^ w: it is the top bit or 0
   abbrev Top : ℕ → Type 0
   Top t = t % h ≡ 0
 
-  -- twice is whole lanes
+  -- twice such a number is a multiple of 2 ^ w
   twice : (t : ℕ) → Top t → t * 2 ≡ t / h * 2 ^ w
   twice t e = omega (arith, e, div-add-mod' t h, ap (λ (y : ℕ). t / h * y) (sym (halves w l)), mul-add (t / h) h h)
 
-  -- exclusive or is the sum but for the common bits, which count twice
-  adds : (z t : ℕ) → z < 2 ^ w → t < 2 ^ w → Top t → bitXor z t ≡ (z + t) % 2 ^ w
-  adds z t hz ht e =
-      sym (ap (λ (y : ℕ). y % 2 ^ w) (sym (xor-add-and z t) ∙ ap (λ (y : ℕ). bitXor z t + y) (twice (bitAnd z t) common))
-      ∙ add-mul-mod-self-right (bitXor z t) (bitAnd z t / h) (2 ^ w) ∙ mod-eq-of-lt (xor-lt w z t hz ht))
+  -- exclusive or is the sum less the common bits, which count twice
+  adds : (z t : ℕ) → Top t → bitXor z t + bitAnd z t / h * 2 ^ w ≡ z + t
+  adds z t e = ap (λ (y : ℕ). bitXor z t + y) (sym (twice (bitAnd z t) common)) ∙ xor-add-and z t
     where
       common : Top (bitAnd z t)
       common = and-mod z t (w - 1) ∙ ap (bitAnd (z % h)) e ∙ and-zero-r (z % h)
 
   -- s and t turned over in x and y, and again in the sum: each is added twice
-  turned-twice : (x y s t : ℕ) → x < 2 ^ w → y < 2 ^ w → s < 2 ^ w → t < 2 ^ w → Top s → Top t
+  turned-twice : (x y s t : ℕ) → s < 2 ^ w → t < 2 ^ w → Top s → Top t
       → bitXor (bitXor ((bitXor x s + bitXor y t) % 2 ^ w) s) t ≡ (x + y) % 2 ^ w
-  turned-twice x y s t hx hy hs ht es et =
-      adds (bitXor (both % m) s) t (xor-lt w _ _ (mod-lt both (pow-pos w)) hs) ht et
-      ∙ ap (λ (z : ℕ). (z + t) % m) (adds (both % m) s (mod-lt both (pow-pos w)) hs es)
-      ∙ mod-add-mod (both % m + s) m t
-      ∙ ap (λ (z : ℕ). z % m) (omega arith) ∙ mod-add-mod both m (s + t)
-      ∙ ap₂ (λ (u v : ℕ). (u + v + (s + t)) % m) (adds x s hx hs es) (adds y t hy ht et)
-      ∙ ap (λ (z : ℕ). z % m) (omega arith) ∙ mod-add-mod (x + s) m ((y + t) % m + (s + t))
-      ∙ ap (λ (z : ℕ). z % m) (omega arith) ∙ mod-add-mod (y + t) m (x + s + (s + t))
-      ∙ ap (λ (z : ℕ). z % m) (omega (arith, twice s es, twice t et, add-mul (s / h) (t / h) m))
+  turned-twice x y s t hs ht es et =
+      sym (add-mul-mod-self-right (bitXor u t) dropped m ∙ mod-eq-of-lt (xor-lt w u t (xor-lt w (both % m) s (mod-lt both (pow-pos w)) hs) ht))
+      ∙ ap (λ (z : ℕ). z % m) counted
       ∙ add-mul-mod-self-right (x + y) (s / h + t / h) m
     where
       m : ℕ
@@ -56,6 +49,17 @@ module _ (w : ℕ) (l : 1 ≤ w) where
 
       both : ℕ
       both = bitXor x s + bitXor y t
+
+      u : ℕ
+      u = bitXor (both % m) s
+
+      dropped : ℕ
+      dropped = bitAnd x s / h + bitAnd y t / h + both / m + bitAnd (both % m) s / h + bitAnd u t / h
+
+      counted : bitXor u t + dropped * m ≡ x + y + (s / h + t / h) * m
+      counted =
+          simp add-mul
+          (omega (arith, adds x s es, adds y t et, div-add-mod' both m, adds (both % m) s es, adds u t et, twice s es, twice t et))
 
   -- a lane without its top bit
   cleared-lt : (z : ℕ) → z < 2 ^ w → bitXor z (bitAnd z h) < h
@@ -69,7 +73,9 @@ module _ (w : ℕ) (l : 1 ≤ w) where
       none : bitXor z (bitAnd z h) / h ≡ 0
       none =
           xor-shr z (bitAnd z h) (w - 1)
-          ∙ ap (bitXor (z / h)) (and-shr z h (w - 1) ∙ ap (bitAnd (z / h)) (div-self (pow-pos (w - 1))) ∙ and-mask (z / h) 1 ∙ mod-eq-of-lt (shr-lt 1 (w - 1) (rw (← width) k)))
+          ∙ ap (bitXor (z / h))
+          (and-shr z h (w - 1) ∙ ap (bitAnd (z / h)) (div-self (pow-pos (w - 1))) ∙ and-mask (z / h) 1
+          ∙ mod-eq-of-lt (shr-lt 1 (w - 1) (rw (← width) k)))
           ∙ xor-self (z / h)
 
 -- ---- in every lane
@@ -104,12 +110,13 @@ module _ (w a b lows : ℕ) (l : 1 ≤ w) (whole : w * (64 / w) ≡ 64) (e : low
   unfolding pairwise sum wrap
   sum-at-once s f =
       by-lanes (pairwise sum) w a b _ whole sum-fits
-      (xor-lt 64 (bitXor s (tops a)) (tops b) (xor-lt 64 s (tops a) (rw f (mod-lt (cleared a + cleared b) (pow-pos 64))) (and-fits a _ ha)) (and-fits b _ hb))
+      (xor-lt 64 (bitXor s (tops a)) (tops b)
+      (xor-lt 64 s (tops a) (rw f (mod-lt (cleared a + cleared b) (pow-pos 64))) (and-fits a _ ha)) (and-fits b _ hb))
       (λ i k.
       lane-xor w i _ _ ∙ ap (λ (z : ℕ). bitXor z (lane w i (tops b))) (lane-xor w i _ _)
       ∙ ap (λ (z : ℕ). bitXor (bitXor z (lane w i (tops a))) (lane w i (tops b)))
       (ap (lane w i) f ∙ sum-lane i k ∙ ap₂ (λ (u v : ℕ). (u + v) % 2 ^ w) (lane-xor w i a (tops a)) (lane-xor w i b (tops b)))
       ∙ turned-twice w l (lane w i a) (lane w i b) (lane w i (tops a)) (lane w i (tops b))
-      (lane-lt w i a) (lane-lt w i b) (lane-lt w i (tops a)) (lane-lt w i (tops b)) (tops-lane a i k) (tops-lane b i k))
+      (lane-lt w i (tops a)) (lane-lt w i (tops b)) (tops-lane a i k) (tops-lane b i k))
 
 pub ruleset adding-at-once = (needs, sum-at-once)

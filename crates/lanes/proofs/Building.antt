@@ -59,9 +59,10 @@ module _ (w a b i : ℕ) (l : i < 64 / w) where
   lane-pairwise operation f = lane-packed (pairwise operation) f
 
 -- a register whose lanes are a rule's is what the rule leaves
-pub by-lanes : (rule : ℕ → ℕ → ℕ → ℕ → ℕ) (w a b r : ℕ) → w * (64 / w) ≡ 64 → Fits rule → r < 2 ^ 64 → ((i : ℕ) → i < 64 / w → lane w i r ≡ rule w a b i)
-    → r ≡ packed rule w a b
+pub by-lanes : (rule : ℕ → ℕ → ℕ → ℕ → ℕ) (w a b r : ℕ) → w * (64 / w) ≡ 64 → Fits rule → r < 2 ^ 64
+    → ((i : ℕ) → i < 64 / w → lane w i r ≡ rule w a b i) → r ≡ packed rule w a b
 by-lanes rule w a b r whole f h same =
-    lanes-decide w (64 / w) r (packed rule w a b) (rw whole h) (rw whole (packed-lt w a b rule f)) (λ i l. same i l ∙ sym (lane-packed w a b i l rule f))
+    lanes-decide w (64 / w) r (packed rule w a b) (rw whole h) (rw whole (packed-lt w a b rule f))
+    (λ i l. same i l ∙ sym (lane-packed w a b i l rule f))
 
 pub ruleset building = (needs, starts, inside, fits-lane, fits-below, counted, again, ends, fitting)

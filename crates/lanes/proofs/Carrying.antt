@@ -12,7 +12,7 @@ add-builds w zero f g = refl
 add-builds w (suc n) f g = omega (arith, add-builds w n f g, add-mul (f n) (g n) (2 ^ (w * n)))
 
 module _ (w i x y : ℕ) where
-  -- what lane i counts by
+  -- lane i's weight
   abbrev p : ℕ
   p = 2 ^ (w * i)
 
@@ -20,7 +20,7 @@ module _ (w i x y : ℕ) where
   abbrev below : ℕ
   below = x % p + y % p
 
-  -- what is carried is how often lane i's weight goes into it
+  -- what is carried is how often the weight goes into that
   pub carried : lane w i (x + y) ≡ (lane w i x + lane w i y + below / p) % 2 ^ w
   unfolding lane
   carried =

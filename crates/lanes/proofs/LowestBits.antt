@@ -39,7 +39,9 @@ module _ (w : ℕ) (l : 1 ≤ w) where
   unfolding build
   doubled zero = omega (arith, one-mul (2 ^ (w * 0)), ap (λ (k : ℕ). 2 ^ k) (mul-zero w))
   doubled (suc n) =
-      omega (arith, doubled n, one-mul (2 ^ (w * suc n)), one-lane-more w n, add-mul (2 ^ (w - 1)) (2 ^ (w - 1)) (2 ^ (w * n)), ap (λ (x : ℕ). x * 2 ^ (w * n)) (halves w l))
+      let sum : 2 ^ (w - 1) * 2 ^ (w * n) + 2 ^ (w - 1) * 2 ^ (w * n) ≡ 2 ^ w * 2 ^ (w * n) =
+      sym (add-mul (2 ^ (w - 1)) (2 ^ (w - 1)) (2 ^ (w * n))) ∙ ap (λ (x : ℕ). x * 2 ^ (w * n)) (halves w l) in
+      omega (arith, doubled n, sum, one-mul (2 ^ (w * suc n)), one-lane-more w n)
 
   module _ (whole : w * (64 / w) ≡ 64) where
     -- the highest lane

@@ -1,5 +1,5 @@
--- The laws of lanes, once over the width: what the lanes of a built number are, of its low bits and above it, and that lanes decide a number. By
--- division with rest at powers of two.
+-- The laws of lanes, once over the width: what the lanes of a built number and of a number's low bits are, that a lane above a number is 0, and that
+-- lanes decide a number. By division with rest at powers of two.
 use Rattle.basis.specs.Names.{_≡_, refl, ℕ, zero, suc, _+_, _-_, _*_, _/_, _%_, _^_, _≤_, _<_}
 use Rattle.basis.proofs.Names.{sym, ap, ap₂, _∙_, ⊎-elim, zero-div, zero-mod, div-eq-of-lt, div-add-mod', add-mul, mul-add, mul-one, div-one, mod-mod, mul-suc, mul-zero, mul-comm, mul-assoc, add-comm, mod-eq-of-lt, mod-lt, mod-one, mul-add-mod-self-right, le-of-suc-le-suc, eq-or-lt-of-le, mul-le-mul-left, lt-suc-self, lt-trans, not-suc-le-zero, le-of-eq, le-trans, div-mul-le-self, arith, pow-pos, pow-mono, pow-add, high, field, shr-shr, mod-mod-pow, mod-pow-add, digits-lt}
 use Rattle.lanes.specs.Lane.{lane, build, register}

@@ -9,8 +9,9 @@ use crate::lane::lane_of;
 use crate::lane::lowest_bits;
 use crate::lane::with_lane;
 
-// All lanes at once. The lowest bits, one bit down, are the top bits of all lanes but the highest. Without these, nothing is carried into another
-// lane. They are put back by exclusive or, which adds them and drops what they carry. What the highest lane carries leaves the register.
+// All lanes at once. The lanes' lowest bits, one bit down, are the top bits of all lanes but the highest. a ^ a_tops is a without them, so nothing is
+// carried into another lane. Exclusive or then adds them to what was carried into their places, and drops what they carry. What the highest lane
+// carries leaves the register.
 pub(crate) fn add(a: u64, b: u64, w: u64) -> u64
     requires { ⌜ Fills w ⌝ }
     ensures { λ r. ⌜ r ≡ packed (pairwise sum) w a b ⌝ }
