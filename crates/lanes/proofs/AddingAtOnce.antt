@@ -2,14 +2,14 @@
 -- before the addition and put back after it. Without them no lane below the highest has a sum that reaches 2 ^ w, and nothing is carried into another
 -- lane.
 use Rattle.basis.specs.Names.{_≡_, ℕ, _+_, _-_, _*_, _/_, _%_, _^_, _≤_, _<_, bitAnd, bitXor}
-use Rattle.basis.proofs.Names.{sym, ap, ap₂, _∙_, lt-of-le-of-lt, mod-lt, mod-eq-of-lt, div-add-mod', div-self, add-mul, mul-add, zero-mul, add-mul-mod-self-right, arith, needs, and-mask, and-mod, and-shr, and-zero-r, and-le-l, xor-add-and, xor-shr, xor-self, xor-lt, pow-pos, shr-lt}
+use Rattle.basis.proofs.Names.{sym, ap, ap₂, _∙_, mod-lt, mod-eq-of-lt, div-add-mod', div-self, add-mul, mul-add, zero-mul, add-mul-mod-self-right, arith, needs, and-mask, and-mod, and-shr, and-zero-r, xor-add-and, xor-shr, xor-self, xor-lt, pow-pos, shr-lt}
 use Rattle.lanes.specs.Lane.{lane}
 use Rattle.lanes.specs.Signed.{wrap}
 use Rattle.lanes.specs.Rules.{packed, pairwise, sum}
-use Rattle.lanes.specs.inner.LowestBits.{lowestBits}
+use Rattle.lanes.specs.inner.EveryLane.{lowestBits}
 use Rattle.lanes.proofs.Registers.{lane-lt, lane-mod}
-use Rattle.lanes.proofs.Powers.{halves}
-use Rattle.lanes.proofs.Bitwise.{lane-and, lane-xor}
+use Rattle.lanes.proofs.Powers.{halves, top-and-rest}
+use Rattle.lanes.proofs.Bitwise.{lane-and, lane-xor, and-fits}
 use Rattle.lanes.proofs.Fitting.{sum-fits}
 use Rattle.lanes.proofs.Building.{inside, by-lanes}
 use Rattle.lanes.proofs.Carrying.{no-carry}
@@ -67,15 +67,12 @@ module _ (w : ℕ) (l : 1 ≤ w) where
       let v = bitXor z (bitAnd z h) in
       omega (arith, div-add-mod' v h, mod-lt v (pow-pos (w - 1)), zero-mul h, ap (λ (q : ℕ). q * h) none)
     where
-      width : w ≡ 1 + (w - 1)
-      width = omega arith
-
       none : bitXor z (bitAnd z h) / h ≡ 0
       none =
           xor-shr z (bitAnd z h) (w - 1)
           ∙ ap (bitXor (z / h))
           (and-shr z h (w - 1) ∙ ap (bitAnd (z / h)) (div-self (pow-pos (w - 1))) ∙ and-mask (z / h) 1
-          ∙ mod-eq-of-lt (shr-lt 1 (w - 1) (rw (← width) k)))
+          ∙ mod-eq-of-lt (shr-lt 1 (w - 1) (rw (← top-and-rest w l) k)))
           ∙ xor-self (z / h)
 
 -- ---- in every lane
@@ -103,15 +100,12 @@ module _ (w a b lows : ℕ) (l : 1 ≤ w) (whole : w * (64 / w) ≡ 64) (e : low
       lane-mod w i 64 (cleared a + cleared b) (inside w 64 i l k)
       ∙ no-carry w i (cleared a) (cleared b) (λ j m. omega (arith, halves w l, cleared-lane a j (omega arith), cleared-lane b j (omega arith)))
 
-  and-fits : (x y : ℕ) → x < 2 ^ 64 → bitAnd x y < 2 ^ 64
-  and-fits x y = lt-of-le-of-lt (and-le-l x y)
-
   pub sum-at-once : (s : ℕ) → s ≡ (cleared a + cleared b) % 2 ^ 64 → bitXor (bitXor s (tops a)) (tops b) ≡ packed (pairwise sum) w a b
   unfolding pairwise sum wrap
   sum-at-once s f =
       by-lanes (pairwise sum) w a b _ whole sum-fits
       (xor-lt 64 (bitXor s (tops a)) (tops b)
-      (xor-lt 64 s (tops a) (rw f (mod-lt (cleared a + cleared b) (pow-pos 64))) (and-fits a _ ha)) (and-fits b _ hb))
+      (xor-lt 64 s (tops a) (rw f (mod-lt (cleared a + cleared b) (pow-pos 64))) (and-fits 64 a _ ha)) (and-fits 64 b _ hb))
       (λ i k.
       lane-xor w i _ _ ∙ ap (λ (z : ℕ). bitXor z (lane w i (tops b))) (lane-xor w i _ _)
       ∙ ap (λ (z : ℕ). bitXor (bitXor z (lane w i (tops a))) (lane w i (tops b)))

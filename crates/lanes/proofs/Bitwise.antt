@@ -1,6 +1,6 @@
 -- The bitwise operations act lane by lane, at every width.
 use Rattle.basis.specs.Names.{_≡_, ℕ, _+_, _-_, _*_, _/_, _%_, _^_, _≤_, _<_, bitAnd, bitOr, bitXor}
-use Rattle.basis.proofs.Names.{sym, ap, _∙_, subst, mod-lt, mod-eq-of-lt, div-add-mod', add-mul, one-mul, arith, and-shr, or-shr, xor-shr, and-mod, or-mod, xor-mod, and-mask, xor-add-and, pow-pos, pow-add, high, low, shr-lt}
+use Rattle.basis.proofs.Names.{sym, ap, _∙_, subst, mod-lt, mod-eq-of-lt, div-add-mod', add-mul, one-mul, lt-of-le-of-lt, arith, and-le-l, and-shr, or-shr, xor-shr, and-mod, or-mod, xor-mod, and-mask, xor-add-and, pow-pos, pow-add, high, low, shr-lt}
 use Rattle.lanes.specs.Lane.{lane}
 use Rattle.lanes.specs.Rules.{andNot}
 
@@ -17,14 +17,19 @@ module _ (w i a b : ℕ) where
   unfolding lane
   lane-xor = ap (λ (x : ℕ). x % 2 ^ w) (xor-shr a b (w * i)) ∙ xor-mod (a / 2 ^ (w * i)) (b / 2 ^ (w * i)) w
 
+-- what two numbers have in common is no more than the first
+pub and-fits : (k a b : ℕ) → a < 2 ^ k → bitAnd a b < 2 ^ k
+and-fits k a b = lt-of-le-of-lt (and-le-l a b)
+
 -- all ones less a number, in a high and a low part
-pub flip : (a j k : ℕ) → a < 2 ^ (j + k) → 2 ^ (j + k) - 1 - a ≡ (2 ^ j - 1 - a / 2 ^ k) * 2 ^ k + (2 ^ k - 1 - a % 2 ^ k)
+flip : (a j k : ℕ) → a < 2 ^ (j + k) → 2 ^ (j + k) - 1 - a ≡ (2 ^ j - 1 - a / 2 ^ k) * 2 ^ k + (2 ^ k - 1 - a % 2 ^ k)
 flip a j k h =
     let q = a / 2 ^ k in
     let d = 2 ^ j - 1 - q in
     let l : q < 2 ^ j = shr-lt j k h in
     let e : d * 2 ^ k + q * 2 ^ k + 1 * 2 ^ k ≡ 2 ^ (j + k) =
-    sym (add-mul (d + q) 1 (2 ^ k) ∙ ap (λ (x : ℕ). x + 1 * 2 ^ k) (add-mul d q (2 ^ k))) ∙ ap (λ (x : ℕ). x * 2 ^ k) (omega arith) ∙ sym (pow-add 2 j k) in
+    sym (add-mul (d + q) 1 (2 ^ k) ∙ ap (λ (x : ℕ). x + 1 * 2 ^ k) (add-mul d q (2 ^ k)))
+    ∙ ap (λ (x : ℕ). x * 2 ^ k) (omega arith) ∙ sym (pow-add 2 j k) in
     omega (arith, e, div-add-mod' a (2 ^ k), mod-lt a (pow-pos k), one-mul (2 ^ k))
 
 -- the high and the low part of all ones less a number

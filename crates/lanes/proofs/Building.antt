@@ -1,9 +1,9 @@
 -- Building a register lane by lane, for any rule whose lanes fit: what each turn of the loop asks and leaves; and a register known by its lanes.
 use Rattle.basis.specs.Names.{_≡_, refl, ℕ, suc, _+_, _*_, _/_, _^_, _≤_, _<_}
-use Rattle.basis.proofs.Names.{sym, ap, ap₂, _∙_, le-div-iff-mul-le, le-trans, le-of-eq, add-comm, mul-comm, mul-suc, div-le-self, add-one, arith, needs}
+use Rattle.basis.proofs.Names.{sym, ap, ap₂, _∙_, le-div-iff-mul-le, le-trans, le-of-eq, add-comm, mul-comm, mul-suc, add-one, arith, needs}
 use Rattle.lanes.specs.Lane.{lane, build, register}
 use Rattle.lanes.specs.Rules.{packed, pairwise}
-use Rattle.lanes.proofs.Registers.{build-lt, register-lt, lane-build, lanes-decide}
+use Rattle.lanes.proofs.Registers.{build-lt, register-lt, lane-register, lanes-decide}
 use Rattle.lanes.proofs.Fitting.{Fits, fitting}
 
 -- the loop's invariant: the lanes below i are built
@@ -28,10 +28,6 @@ module _ (rule : ℕ → ℕ → ℕ → ℕ → ℕ) (w a b i : ℕ) where
   pub fits-below : (lanes : ℕ) → lanes ≡ build w i (rule w a b) → Fits rule → lanes < 2 ^ (w * i)
   fits-below lanes e f = rw e (build-lt w i (rule w a b) (λ j l. f .fits w a b j))
 
--- the lanes are counted by a number of the code
-pub counted : (w i : ℕ) → i < 64 / w → i + 1 < 2 ^ 64
-counted w i h = omega (arith, div-le-self 64 w)
-
 -- a turn adds lane i
 pub again : (f : ℕ → ℕ) (w i x lanes next : ℕ) → next ≡ x * 2 ^ (w * i) + lanes → x ≡ f i → lanes ≡ build w i f → next ≡ build w (i + 1) f
 unfolding build
@@ -50,8 +46,8 @@ packed-lt w a b rule f = register-lt w (rule w a b) (λ i l. f .fits w a b i)
 -- lane i of what a rule leaves is the rule's; so a pairwise operation's lane depends on the two lanes alone
 module _ (w a b i : ℕ) (l : i < 64 / w) where
   pub lane-packed : (rule : ℕ → ℕ → ℕ → ℕ → ℕ) → Fits rule → lane w i (packed rule w a b) ≡ rule w a b i
-  unfolding packed register
-  lane-packed rule f = lane-build w (64 / w) (rule w a b) (λ j k. f .fits w a b j) i l
+  unfolding packed
+  lane-packed rule f = lane-register w (rule w a b) (λ j k. f .fits w a b j) i l
 
   pub lane-pairwise : (operation : ℕ → ℕ → ℕ → ℕ) → Fits (pairwise operation)
       → lane w i (packed (pairwise operation) w a b) ≡ operation w (lane w i a) (lane w i b)
@@ -65,4 +61,4 @@ by-lanes rule w a b r whole f h same =
     lanes-decide w (64 / w) r (packed rule w a b) (rw whole h) (rw whole (packed-lt w a b rule f))
     (λ i l. same i l ∙ sym (lane-packed w a b i l rule f))
 
-pub ruleset building = (needs, starts, inside, fits-lane, fits-below, counted, again, ends, fitting)
+pub ruleset building = (needs, starts, fits-lane, fits-below, again, ends, fitting)

@@ -1,6 +1,6 @@
 -- A subtraction is its addition from the other side, a - b = not (not a + b): wrapping, clamped without sign, and clamped with sign. In a
 -- lane, not x is 2 ^ w - 1 - x; the range of each clamp is its own mirror image.
-use Rattle.basis.specs.Names.{_≡_, refl, ℕ, suc, _+_, _-_, _*_, _/_, _%_, _^_, _≤_, _<_, bitXor, ℤ, pos, subℕ, _+ℤ_, _-ℤ_}
+use Rattle.basis.specs.Names.{_≡_, refl, ℕ, suc, _+_, _-_, _*_, _/_, _%_, _^_, _≤_, _<_, bitXor, ℤ, subℕ, _+ℤ_, _-ℤ_}
 use Rattle.basis.proofs.Names.{sym, ap, ap₂, _∙_, dite, mod-eq-of-lt, add-mod-right, decLe, arith, needs, pow-pos, ones-sub-lt}
 use Rattle.lanes.specs.Lane.{lane}
 use Rattle.lanes.specs.Signed.{signed, wrap, clampSigned, clampUnsigned}
@@ -10,17 +10,10 @@ use Rattle.lanes.proofs.Bitwise.{lane-not}
 use Rattle.lanes.proofs.Powers.{halves}
 use Rattle.lanes.proofs.Fitting.{Fits, wrap-lt, sum-fits, difference-fits, sum-signed-fits, difference-signed-fits, sum-unsigned-fits, difference-unsigned-fits}
 use Rattle.lanes.proofs.Building.{inside, packed-lt, lane-pairwise, by-lanes}
-use Rattle.lanes.proofs.Integers.{is-pos, same, plus, minus, wrap-ge, wrap-below, unsigned-below, unsigned-above, unsigned-within}
+use Rattle.lanes.proofs.Integers.{plus, minus, difference-is, sum-is, wrap-ge, wrap-below, unsigned-below, unsigned-above, unsigned-within}
 use Rattle.lanes.proofs.TopBits.{turned-lt, turned-not, signed-is, clamped-is}
 
 -- ---- in a lane
-
-difference-is : (a b : ℕ) → pos a -ℤ pos b ≡ subℕ a b
-difference-is a b =
-    ap₂ _-ℤ_ (sym (is-pos a 0 a (omega arith))) (sym (is-pos b 0 b (omega arith))) ∙ minus a 0 b 0 ∙ same (a + 0) (0 + b) a b (omega arith)
-
-sum-is : (a b : ℕ) → pos a +ℤ pos b ≡ subℕ (a + b) 0
-sum-is a b = sym (is-pos (a + b) 0 (a + b) (omega arith))
 
 -- the clamp to 0 .. t, where t is 2 ^ w - 1, seen from t
 mirrored : (w m n p q t : ℕ) → t ≡ 2 ^ w - 1 → t < 2 ^ w → 1 ≤ t → p + m ≡ t + n + q
@@ -30,7 +23,8 @@ mirrored w m n p q t e l k c =
     (λ h. ap (λ (x : ℕ). t - x) (sym (unsigned-above w p q t e l (omega arith) (omega arith))) ∙ omega arith ∙ unsigned-below w m n t e l h)
     (λ h. dite (decLe t (m - n))
     (λ g. ap (λ (x : ℕ). t - x) (sym (unsigned-below w p q t e l (omega arith))) ∙ omega arith ∙ unsigned-above w m n t e l (omega arith) g)
-    (λ g. ap (λ (x : ℕ). t - x) (sym (unsigned-within w p q t e l (omega arith) (omega arith))) ∙ omega arith ∙ unsigned-within w m n t e l (omega arith) (omega arith)))
+    (λ g. ap (λ (x : ℕ). t - x) (sym (unsigned-within w p q t e l (omega arith) (omega arith))) ∙ omega arith
+    ∙ unsigned-within w m n t e l (omega arith) (omega arith)))
 
 module _ (w a b : ℕ) (hw : 1 ≤ w) (ha : a < 2 ^ w) (hb : b < 2 ^ w) where
   abbrev t : ℕ
@@ -57,10 +51,12 @@ module _ (w a b : ℕ) (hw : 1 ≤ w) (ha : a < 2 ^ w) (hb : b < 2 ^ w) where
   not-sum-signed : t - sumSigned w (t - a) b ≡ differenceSigned w a b
   unfolding sumSigned differenceSigned
   not-sum-signed =
-      ap (λ (z : ℤ). t - wrap w (clampSigned w z)) (ap₂ _+ℤ_ (read (t - a) (omega arith) ∙ ap (λ (x : ℕ). subℕ x h) (turned-not w h refl p l a ha)) (read b hb) ∙ plus (t - u) h v h)
+      ap (λ (z : ℤ). t - wrap w (clampSigned w z))
+      (ap₂ _+ℤ_ (read (t - a) (omega arith) ∙ ap (λ (x : ℕ). subℕ x h) (turned-not w h refl p l a ha)) (read b hb) ∙ plus (t - u) h v h)
       ∙ ap (λ (x : ℕ). t - x) (clamped-is w h refl p l (t - u + v) (h + h))
       ∙ sym (turned-not w h refl p l (wrap w (clampUnsigned w (subℕ (t - u + v + h) (h + h)))) (wrap-lt w _))
-      ∙ ap (λ (x : ℕ). bitXor x h) (mirrored w (u + h + h) (h + v) (t - u + v + h) (h + h) t refl (omega arith) (omega (arith, p, l)) (omega (arith, turned-lt w h refl p l a ha)))
+      ∙ ap (λ (x : ℕ). bitXor x h)
+      (mirrored w (u + h + h) (h + v) (t - u + v + h) (h + h) t refl (omega arith) (omega (arith, p, l)) (omega (arith, turned-lt w h refl p l a ha)))
       ∙ sym (ap (λ (z : ℤ). wrap w (clampSigned w z)) (ap₂ _-ℤ_ (read a ha) (read b hb) ∙ minus u h v h) ∙ clamped-is w h refl p l (u + h) (h + v))
     where
       h : ℕ

@@ -1,10 +1,11 @@
 -- Every lane of every rule fits its width: what is wrapped does, and so do ones, lanes and what a shift leaves of them.
 use Rattle.basis.specs.Names.{ℕ, _+_, _*_, _/_, _^_, _<_, min, Bool, true, false, eqb, ℤ, pos, negsuc, ltZ}
-use Rattle.basis.proofs.Names.{mod-lt, div-le-self, lt-of-le-of-lt, arith, pow-pos}
+use Rattle.basis.proofs.Names.{mod-lt, arith, pow-pos}
 use Rattle.lanes.specs.Lane.{lane}
-use Rattle.lanes.specs.Signed.{signed, wrap, clampSigned, clampUnsigned}
+use Rattle.lanes.specs.Signed.{signed, wrap}
 use Rattle.lanes.specs.Rules.{pairwise, sum, difference, sumSigned, differenceSigned, sumUnsigned, differenceUnsigned, allOnes, equal, greater, productLow, productHigh, productSum, pack, unpack, shift, left, right, rightSigned}
 use Rattle.lanes.proofs.Registers.{lane-lt}
+use Rattle.lanes.proofs.Powers.{shifted-fits}
 
 pub record Fits (rule : ℕ → ℕ → ℕ → ℕ → ℕ) : Type 0 where
   pub fits : (w destination source i : ℕ) → rule w destination source i < 2 ^ w
@@ -14,7 +15,7 @@ unfolding wrap
 wrap-lt w (pos n) = mod-lt n (pow-pos w)
 wrap-lt w (negsuc n) = omega (arith, pow-pos w)
 
-mask-lt : (w : ℕ) (t : Bool) → allOnes w t < 2 ^ w
+pub mask-lt : (w : ℕ) (t : Bool) → allOnes w t < 2 ^ w
 mask-lt w true = omega (arith, pow-pos w)
 mask-lt w false = pow-pos w
 
@@ -62,13 +63,9 @@ pub product-sum-fits : Fits (pairwise productSum)
 unfolding pairwise productSum
 product-sum-fits = record { fits = λ w a b i. wrap-lt w _ }
 
-pub pack-signed-fits : Fits (pack clampSigned)
+pub pack-fits : (clamped : ℕ → ℤ → ℤ) → Fits (pack clamped)
 unfolding pack
-pack-signed-fits = record { fits = λ w a b i. wrap-lt w _ }
-
-pub pack-unsigned-fits : Fits (pack clampUnsigned)
-unfolding pack
-pack-unsigned-fits = record { fits = λ w a b i. wrap-lt w _ }
+pack-fits clamped = record { fits = λ w a b i. wrap-lt w _ }
 
 pub unpack-fits : (first : ℕ) → Fits (unpack first)
 unfolding unpack
@@ -80,10 +77,10 @@ left-fits = record { fits = λ w a c i. mod-lt (lane w i a * 2 ^ min c w) (pow-p
 
 pub right-fits : Fits (shift right)
 unfolding shift right
-right-fits = record { fits = λ w a c i. lt-of-le-of-lt (div-le-self (lane w i a) (2 ^ min c w)) (lane-lt w i a) }
+right-fits = record { fits = λ w a c i. shifted-fits w (lane w i a) (min c w) (lane-lt w i a) }
 
 pub right-signed-fits : Fits (shift rightSigned)
 unfolding shift rightSigned
 right-signed-fits = record { fits = λ w a c i. wrap-lt w _ }
 
-pub ruleset fitting = (sum-fits, difference-fits, sum-signed-fits, difference-signed-fits, sum-unsigned-fits, difference-unsigned-fits, equal-fits, greater-fits, product-low-fits, product-high-fits, product-sum-fits, pack-signed-fits, pack-unsigned-fits, left-fits, right-fits, right-signed-fits)
+pub ruleset fitting = (product-low-fits, product-high-fits, product-sum-fits)

@@ -1,7 +1,7 @@
 -- Integers as differences of two natural numbers, which is how the code holds them: sum, difference, product, order, the clamps and the
 -- low bits of `subℕ m n` (the integer m - n), in natural numbers. Each by the two cases of a difference.
 use Rattle.basis.specs.Names.{_≡_, refl, ℕ, zero, suc, _+_, _-_, _*_, _/_, _%_, _^_, _≤_, _<_, leb, ltb, ℤ, pos, negsuc, subℕ, _+ℤ_, _-ℤ_, _*ℤ_, leZ, ltZ}
-use Rattle.basis.proofs.Names.{sym, ap, _∙_, subst, dite, add-mul, mul-add, one-mul, mod-lt, mod-eq-of-lt, add-mul-mod-self-right, div-lt-iff-lt-mul, div-add-mod', decLe, arith, needs, le-ltb, lt-ltb, le-leb, lt-leb, negℤ, pow-pos, low}
+use Rattle.basis.proofs.Names.{sym, ap, ap₂, _∙_, subst, dite, add-mul, mul-add, one-mul, mod-lt, mod-eq-of-lt, add-mul-mod-self-right, div-lt-iff-lt-mul, div-add-mod', decLe, arith, le-ltb, lt-ltb, le-leb, lt-leb, negℤ, pow-pos, low}
 use Rattle.lanes.specs.Signed.{wrap, clamp, clampUnsigned}
 
 pub is-ge : (m n : ℕ) → n ≤ m → subℕ m n ≡ pos (m - n)
@@ -13,7 +13,7 @@ is-lt m n h = rw (lt-ltb m n h)
 pub is-pos : (m n z : ℕ) → m ≡ n + z → subℕ m n ≡ pos z
 is-pos m n z e = is-ge m n (omega arith) ∙ ap pos (omega arith)
 
-is-neg : (m n z : ℕ) → n ≡ m + suc z → subℕ m n ≡ negsuc z
+pub is-neg : (m n z : ℕ) → n ≡ m + suc z → subℕ m n ≡ negsuc z
 is-neg m n z e = is-lt m n (omega arith) ∙ ap negsuc (omega arith)
 
 is-minus : (m n z : ℕ) → n ≡ m + z → subℕ m n ≡ negℤ (pos z)
@@ -21,7 +21,7 @@ is-minus m n zero e = is-pos m n zero (omega arith)
 is-minus m n (suc z) e = is-neg m n z e
 
 -- the two cases of a difference
-cases : (m n : ℕ) (P : ℤ → Type 0) → ((x : ℕ) → m ≡ n + x → P (pos x)) → ((x : ℕ) → n ≡ m + suc x → P (negsuc x)) → P (subℕ m n)
+pub cases : (m n : ℕ) (P : ℤ → Type 0) → ((x : ℕ) → m ≡ n + x → P (pos x)) → ((x : ℕ) → n ≡ m + suc x → P (negsuc x)) → P (subℕ m n)
 cases m n P p q =
     dite (decLe n m)
     (λ h. subst P (sym (is-ge m n h)) (p (m - n) (omega arith)))
@@ -60,6 +60,13 @@ minus a b c d = ap (λ (z : ℤ). subℕ a b +ℤ z) turned ∙ plus a b d c
     turned : negℤ (subℕ c d) ≡ subℕ d c
     turned =
         cases c d (λ (z : ℤ). negℤ z ≡ subℕ d c) (λ x h. sym (is-minus d c x h)) (λ x h. sym (is-pos d c (suc x) h))
+
+pub difference-is : (a b : ℕ) → pos a -ℤ pos b ≡ subℕ a b
+difference-is a b =
+    ap₂ _-ℤ_ (sym (is-pos a 0 a (omega arith))) (sym (is-pos b 0 b (omega arith))) ∙ minus a 0 b 0 ∙ same (a + 0) (0 + b) a b (omega arith)
+
+pub sum-is : (a b : ℕ) → pos a +ℤ pos b ≡ subℕ (a + b) 0
+sum-is a b = sym (is-pos (a + b) 0 (a + b) (omega arith))
 
 -- ---- the order
 
@@ -137,9 +144,14 @@ module _ (a b c d m n : ℕ) where
   unfolding clamp
   clamp-above l h = rw (le-is m n a b, lt-leb (m + b) (a + n) l, le-is c d m n, le-leb (c + n) (m + d) h)
 
-  pub clamp-within : a + n < m + b → m + d < c + n → clamp (subℕ a b) (subℕ c d) (subℕ m n) ≡ subℕ m n
+  pub clamp-within : a + n ≤ m + b → m + d ≤ c + n → clamp (subℕ a b) (subℕ c d) (subℕ m n) ≡ subℕ m n
   unfolding clamp
-  clamp-within l h = rw (le-is m n a b, lt-leb (m + b) (a + n) l, le-is c d m n, lt-leb (c + n) (m + d) h)
+  clamp-within l h =
+      dite (decLe (m + b) (a + n))
+      (λ k. clamp-below k ∙ same a b m n (omega arith))
+      (λ k. dite (decLe (c + n) (m + d))
+      (λ g. clamp-above (omega arith) g ∙ same c d m n (omega arith))
+      (λ g. rw (le-is m n a b, lt-leb (m + b) (a + n) (omega arith), le-is c d m n, lt-leb (c + n) (m + d) (omega arith))))
 
 -- to 0 .. t, where t is 2 ^ w - 1
 module _ (w m n t : ℕ) (e : t ≡ 2 ^ w - 1) (l : t < 2 ^ w) where
@@ -154,8 +166,6 @@ module _ (w m n t : ℕ) (e : t ≡ 2 ^ w - 1) (l : t < 2 ^ w) where
   unsigned-above s k =
       sym (ap (wrap w) (bounds ∙ clamp-above 0 0 t 0 m n (omega arith) (omega arith)) ∙ wrap-ge w t 0 (omega arith) (omega arith) ∙ omega arith)
 
-  pub unsigned-within : n < m → m - n < t → m - n ≡ wrap w (clampUnsigned w (subℕ m n))
+  pub unsigned-within : n ≤ m → m - n ≤ t → m - n ≡ wrap w (clampUnsigned w (subℕ m n))
   unsigned-within s k =
       sym (ap (wrap w) (bounds ∙ clamp-within 0 0 t 0 m n (omega arith) (omega arith)) ∙ wrap-ge w m n (omega arith) (omega arith))
-
-pub ruleset clamping = (needs, unsigned-below, unsigned-above, unsigned-within)

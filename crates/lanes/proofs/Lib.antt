@@ -1,21 +1,34 @@
--- The laws: of lanes and registers, of the carry, of integers as differences, of each family, and of the operations by number.
-pub mod Registers
+-- The laws, each file after what it builds on: of powers of two, of lanes and registers, of the carry, of one number in every lane; of integers as
+-- differences and of the lanes' signs; of each family; and of the operations by number.
 pub mod Powers
+pub mod Registers
 pub mod Bitwise
 pub mod Fitting
 pub mod Building
 pub mod Carrying
 pub mod LowestBits
 pub mod AddingAtOnce
+pub mod Repeating
 pub mod Integers
 pub mod TopBits
-pub mod Adding
 pub mod Complementing
+pub mod Signs
+pub mod Ends
+pub mod Choosing
 pub mod Comparing
+pub mod SumBits
+pub mod AddingUnsigned
+pub mod AddingSigned
+pub mod Shifting
+pub mod Exchanging
+pub mod Unpacking
+pub mod Parting
+pub mod Clamping
+pub mod InTurn
+pub mod Packing
+pub mod WordProducts
 pub mod Multiplying
 pub mod Wrapping
-pub mod Packing
-pub mod Shifting
 pub mod Naming
 pub mod Illustrations
 pub mod Allowed

@@ -2,7 +2,7 @@
 use Rattle.basis.specs.Names.{_≡_, ℕ, zero, suc, _+_, _-_, _*_, _/_, _%_, _^_, _≤_, _<_}
 use Rattle.basis.proofs.Names.{sym, ap, _∙_, ⊎-elim, add-mul, mul-add, mul-one, one-mul, zero-mul, mul-zero, mul-comm, mul-div-cancel, mod-self, zero-mod, eq-or-lt-of-le, arith, needs, pow-pos, pow-lt, high}
 use Rattle.lanes.specs.Lane.{lane, build, register}
-use Rattle.lanes.specs.inner.LowestBits.{lowestBits}
+use Rattle.lanes.specs.inner.EveryLane.{repeated, lowestBits}
 use Rattle.lanes.proofs.Registers.{one-lane-more, build-lt, lane-build, lane-beyond}
 use Rattle.lanes.proofs.Powers.{halves}
 
@@ -21,7 +21,7 @@ pub ones-positive : (w m : ℕ) → 1 ≤ w → m ≡ 2 ^ w - 1 → 0 < m
 ones-positive w m l e = omega (arith, halves w l, pow-pos (w - 1))
 
 pub lowest-bits-is : (w m : ℕ) → 1 ≤ w → w * (64 / w) ≡ 64 → m ≡ 2 ^ w - 1 → (2 ^ 64 - 1) / m ≡ lowestBits w
-unfolding lowestBits register
+unfolding repeated register
 lowest-bits-is w m l whole e =
     ap (λ (x : ℕ). x / m) (omega (arith, ones-in-all w (64 / w), ap (λ (k : ℕ). 2 ^ k) whole) ∙ ap (λ (x : ℕ). lowestBits w * x) (sym e))
     ∙ mul-div-cancel (lowestBits w) (ones-positive w m l e)
@@ -56,7 +56,7 @@ module _ (w : ℕ) (l : 1 ≤ w) where
         by (suc n) e = omega arith
 
     one-bit-down : lowestBits w / 2 ^ 1 ≡ topsBelow highest
-    unfolding lowestBits register
+    unfolding repeated register
     one-bit-down =
         ap (λ (n : ℕ). build w n (λ i. 1) / 2 ^ 1) some-lanes ∙ ap (λ (x : ℕ). x / 2 ^ 1) (doubled highest) ∙ high (topsBelow highest) 1 (omega arith)
 

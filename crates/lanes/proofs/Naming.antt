@@ -1,7 +1,6 @@
 -- What `operate` leaves by number: an operation's number is its place in the list of operations, and past the list the destination is kept.
-use Rattle.basis.specs.Names.{_≡_, refl, ℕ, zero, suc, _/_, _≤_, List, [], _∷_, map, length}
+use Rattle.basis.specs.Names.{_≡_, refl, ℕ, zero, suc, _≤_, List, [], _∷_, map, length}
 use Rattle.basis.proofs.Names.{sym, ap, zero-le, arith, needs, List·getD-eq-default}
-use Rattle.lanes.specs.Rules.{packed, unpack, unpackHigh}
 use Rattle.lanes.specs.Operations.{Operation, KEEP, described, operate, operations, operationOf}
 
 abbrev places : ℕ → List Operation → List ℕ
@@ -27,9 +26,4 @@ pub unnamed : (n destination source : ℕ) → Passed n (length operations) → 
 unfolding operate
 unnamed n d s h = sym (ap (λ (o : Operation). operate o d s) (List·getD-eq-default operations KEEP (past n (length operations) h)))
 
--- the high half starts after 32 bits
-pub from-high : (w r destination source : ℕ) → r ≡ packed (unpack (32 / w)) w destination source → r ≡ packed unpackHigh w destination source
-unfolding packed
-from-high w r d s e = e
-
-pub ruleset naming = (needs, named, unnamed, from-high)
+pub ruleset naming = (needs, named, unnamed)

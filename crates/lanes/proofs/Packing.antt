@@ -1,74 +1,71 @@
--- What a pack's and an unpack's lanes are, from the lanes that the code takes out.
-use Rattle.basis.specs.Names.{_≡_, refl, cond, ℕ, _+_, _-_, _*_, _/_, _%_, _^_, _≤_, _<_, bitXor, ltb, ℤ, subℕ}
-use Rattle.basis.proofs.Names.{sym, ap, _∙_, mod-lt, add-mul, one-mul, le-div-iff-mul-le, le-of-eq, div-le-self, arith, needs, lt-ltb, le-ltb, eq-eqb, ne-eqb, pow-mono}
+-- Packs on whole registers: of what stands in turn, the even lanes go to the low half, and the odd lanes to the high half.
+use Rattle.basis.specs.Names.{_≡_, refl, cond, ℕ, _+_, _*_, _/_, _%_, _^_, _<_, eqb, ltb, ℤ}
+use Rattle.basis.proofs.Names.{sym, ap, ap₂, _∙_, dite, one-mul, mod-lt, div-eq-of-lt, div-lt-iff-lt-mul, le-div-iff-mul-le, decLt, arith, needs, le-ltb, lt-ltb}
 use Rattle.lanes.specs.Lane.{lane}
-use Rattle.lanes.specs.Signed.{signed, wrap, clampSigned, clampUnsigned}
-use Rattle.lanes.specs.Rules.{pack, unpack}
-use Rattle.lanes.proofs.Building.{inside}
-use Rattle.lanes.proofs.TopBits.{turned-lt, signed-is, clamped-is}
+use Rattle.lanes.specs.Signed.{signed, wrap}
+use Rattle.lanes.specs.Rules.{packed, pack, unpack}
+use Rattle.lanes.specs.inner.Turns.{exchanged, swapped, inTurn}
+use Rattle.lanes.proofs.Registers.{inner}
+use Rattle.lanes.proofs.Fitting.{pack-fits}
+use Rattle.lanes.proofs.Building.{packed-lt, lane-packed, by-lanes}
+use Rattle.lanes.proofs.Exchanging.{swapped-fits, swapped-lane}
+use Rattle.lanes.proofs.InTurn.{in-turn-fits}
 
--- ---- packs
+-- where byte i comes from when bytes, and then words, have changed places
+twice-exchanged : (i : ℕ) → i < 8 → exchanged (exchanged (i / 2) + exchanged (i / 2) + i % 2) ≡ i % 4 * 2 + i / 4
+twice-exchanged i k = ap exchanged (words (i / 2) (omega arith)) ∙ bytes (i / 2 % 2) (i / 2 / 2) (i % 2) (omega arith) (omega arith) ∙ omega arith
+  where
+    words : (j : ℕ) → j < 4 → exchanged j + exchanged j + i % 2 ≡ j % 2 * 4 + j / 2 * 2 + i % 2
+    words j h = omega arith
 
--- half a register has a lane
-pub some-lane : (w : ℕ) → 1 ≤ w → w ≤ 16 → 0 < 32 / w
-some-lane w h l = le-div-iff-mul-le h .1 (omega (arith, one-mul w))
+    bytes : (p q s : ℕ) → q < 2 → s < 2 → exchanged (p * 4 + q * 2 + s) ≡ p * 4 + s * 2 + q
+    bytes p q s h k = omega arith
 
--- the wide lane lies in the register
-pub wide-inside : (w i : ℕ) → 1 ≤ w → w ≤ 16 → w + w + (w + w) * (i % (32 / w)) ≤ 64
-wide-inside w i h l =
-    omega (arith, add-mul w w (i % (32 / w)), inside w 32 (i % (32 / w)) h (mod-lt i (some-lane w h l)))
+module _ (clamped : ℕ → ℤ → ℤ) (a b : ℕ) where
+  -- lane i of the low half is from place 2 i, and of the high half from place 2 i + 1
+  module _ (w z r : ℕ) (ez : z ≡ packed (inTurn clamped) w a b) (hr : r < 2 ^ 64) (whole : w * (64 / w) ≡ 64) (some : 0 < 32 / w)
+      (both : 64 / w ≡ 32 / w + 32 / w) (from : (i : ℕ) → i < 64 / w → lane w i r ≡ lane w (i % (32 / w) * 2 + i / (32 / w)) z) where
+    abbrev n : ℕ
+    n = 32 / w
 
-module _ (w i a b r : ℕ) where
-  pub wide-low : i < 32 / w → r ≡ lane (w + w) (i % (32 / w)) a → r ≡ lane (w + w) (i % (32 / w)) (cond (ltb i (32 / w)) a b)
-  wide-low h e = rw (lt-ltb i (32 / w) h) e
+    half-lt : (i : ℕ) → i < 64 / w → i / n < 2
+    half-lt i k = div-lt-iff-lt-mul some .1 (omega arith)
 
-  pub wide-high : 32 / w ≤ i → r ≡ lane (w + w) (i % (32 / w)) b → r ≡ lane (w + w) (i % (32 / w)) (cond (ltb i (32 / w)) a b)
-  wide-high h e = rw (le-ltb i (32 / w) h) e
+    place : (i : ℕ) → i < 64 / w → unpack 0 (w + w) a b (i % n * 2 + i / n) ≡ lane (w + w) (i % n) (cond (ltb i n) a b)
+    unfolding unpack
+    place i k =
+        let j = i % n * 2 + i / n in
+        let e : 0 + j / 2 ≡ i % n = omega (arith, half-lt i k) in
+        dite (decLt i n)
+        (λ g.
+        let f : j % 2 ≡ 0 = omega (arith, div-eq-of-lt g) in
+        rw (lt-ltb i n g) (ap₂ (λ (p q : ℕ). lane (w + w) p (cond (eqb q 0) a b)) e f))
+        (λ g.
+        let f : j % 2 ≡ 1 = omega (arith, half-lt i k, le-div-iff-mul-le {x = 1} {y = i} some .1 (omega (arith, one-mul n))) in
+        rw (le-ltb i n (omega arith)) (ap₂ (λ (p q : ℕ). lane (w + w) p (cond (eqb q 0) a b)) e f))
 
--- v is half the range of the wide lane x
-module _ (w i a b v x : ℕ) (e : v ≡ 2 ^ (w + w - 1)) (d : v + v ≡ 2 ^ (w + w)) (l : 1 ≤ v) (hx : x < 2 ^ (w + w))
-    (p : x ≡ lane (w + w) (i % (32 / w)) (cond (ltb i (32 / w)) a b)) where
-  pub pack-unsigned-is : (r : ℕ) → r ≡ wrap w (clampUnsigned w (subℕ (bitXor x v) v)) → r ≡ pack clampUnsigned w a b i
-  unfolding pack
-  pack-unsigned-is r c =
-      c ∙ ap (λ (z : ℤ). wrap w (clampUnsigned w z)) (sym (signed-is (w + w) v e d l x hx))
-      ∙ ap (λ (y : ℕ). wrap w (clampUnsigned w (signed (w + w) y))) p
+    apart : r ≡ packed (pack clamped) w a b
+    unfolding pack inTurn
+    apart =
+        by-lanes (pack clamped) w a b r whole (pack-fits clamped) hr
+        (λ i k.
+        from i k ∙ ap (lane w (i % n * 2 + i / n)) ez
+        ∙ lane-packed w a b (i % n * 2 + i / n) (omega (arith, half-lt i k, mod-lt i some)) (inTurn clamped) (in-turn-fits clamped)
+        ∙ ap (λ (x : ℕ). wrap w (clamped w (signed (w + w) x))) (place i k))
 
-  pub pack-signed-is : (h r : ℕ) → h ≡ 2 ^ (w - 1) → h + h ≡ 2 ^ w → 1 ≤ h
-      → r ≡ wrap w (clampUnsigned w (subℕ (bitXor x v + h) v)) → bitXor r h ≡ pack clampSigned w a b i
-  unfolding pack
-  pack-signed-is h r eh dh lh c =
-      ap (λ (y : ℕ). bitXor y h) c ∙ sym (clamped-is w h eh dh lh (bitXor x v) v)
-      ∙ ap (λ (z : ℤ). wrap w (clampSigned w z)) (sym (signed-is (w + w) v e d l x hx))
-      ∙ ap (λ (y : ℕ). wrap w (clampSigned w (signed (w + w) y))) p
+  pub words-apart : (z r : ℕ) → r ≡ packed swapped 16 z z → z ≡ packed (inTurn clamped) 16 a b → r ≡ packed (pack clamped) 16 a b
+  words-apart z r er ez =
+      apart 16 z r ez (rw er (packed-lt 16 z z swapped swapped-fits)) refl (omega arith) refl
+      (λ i k. swapped-lane 16 z r er i k ∙ ap (λ (j : ℕ). lane 16 j z) (omega arith))
 
--- the wide lane turned over, and half the narrow range, are a number of the code
-pub wide-fits : (w v h x : ℕ) → v ≡ 2 ^ (w + w - 1) → v + v ≡ 2 ^ (w + w) → 1 ≤ v → w ≤ 16 → h ≤ 2 ^ 31 → x < 2 ^ (w + w) → bitXor x v + h < 2 ^ 64
-wide-fits w v h x e d l k m hx = omega (arith, turned-lt (w + w) v e d l x hx, pow-mono {i = w + w} {j = 32} (omega arith))
+  pub bytes-apart : (y z r : ℕ) → r ≡ packed swapped 16 y y → y ≡ packed swapped 8 z z → z ≡ packed (inTurn clamped) 8 a b
+      → r ≡ packed (pack clamped) 8 a b
+  bytes-apart y z r er ey ez =
+      apart 8 z r ez (rw er (packed-lt 16 y y swapped swapped-fits)) refl (omega arith) refl
+      (λ i k.
+      let e = exchanged (i / 2) in
+      ap (λ (j : ℕ). lane 8 j r) (omega arith) ∙ sym (inner 8 (i / 2) (i % 2) r (omega arith))
+      ∙ ap (lane 8 (i % 2)) (swapped-lane 16 y r er (i / 2) (omega arith)) ∙ inner 8 e (i % 2) y (omega arith)
+      ∙ swapped-lane 8 z y ey (e + e + i % 2) (omega arith) ∙ ap (λ (j : ℕ). lane 8 j z) (twice-exchanged i k))
 
-pub ruleset packing = (needs, some-lane, wide-inside, wide-low, wide-high, pack-unsigned-is, pack-signed-is, wide-fits)
-
--- ---- unpacks
-
--- half as many bits have half as many lanes
-twice : (w : ℕ) → 1 ≤ w → 32 / w + 32 / w ≤ 64 / w
-twice w h =
-    le-div-iff-mul-le h .1 (omega (arith, le-div-iff-mul-le {x = 32 / w} {y = 32} h .0 (le-of-eq refl), add-mul (32 / w) (32 / w) w))
-
--- the lane lies in the register
-pub mixed-inside : (w first i : ℕ) → 1 ≤ w → first ≤ 32 / w → i < 64 / w → w + w * (first + i / 2) ≤ 64
-mixed-inside w first i h l k = inside w 64 (first + i / 2) h (omega (arith, twice w h))
-
-pub mixed-fits : (w first i : ℕ) → first ≤ 32 / w → i < 64 / w → first + i / 2 < 2 ^ 64
-mixed-fits w first i l k = omega (arith, div-le-self 32 w, div-le-self 64 w)
-
-module _ (first w i a b r : ℕ) where
-  pub even-is : i % 2 ≡ 0 → r ≡ lane w (first + i / 2) a → r ≡ unpack first w a b i
-  unfolding unpack
-  even-is h e = rw (eq-eqb (i % 2) 0 h) e
-
-  pub odd-is : (i % 2 ≡ 0 → ⊥) → r ≡ lane w (first + i / 2) b → r ≡ unpack first w a b i
-  unfolding unpack
-  odd-is h e = rw (ne-eqb (i % 2) 0 h) e
-
-pub ruleset unpacking = (needs, mixed-inside, mixed-fits, even-is, odd-is)
+pub ruleset packing = (needs, words-apart, bytes-apart)

@@ -22,8 +22,10 @@ module _ (u v : ℕ) (hu : u < 65536) (hv : v < 65536) where
       by false false e f = omega (arith, leb-false 32768 u e, leb-false 32768 v f)
 
   below : (u * v ≤ u * 65535) × (u * v ≤ 65535 * v)
-  below =
-      (mul-le-mul {n₁ = u} {m₁ = v} {n₂ = u} {m₂ = 65535} (omega arith) (omega arith), mul-le-mul {n₁ = u} {m₁ = v} {n₂ = 65535} {m₂ = v} (omega arith) (omega arith))
+  below = (
+    mul-le-mul {n₁ = u} {m₁ = v} {n₂ = u} {m₂ = 65535} (omega arith) (omega arith),
+    mul-le-mul {n₁ = u} {m₁ = v} {n₂ = 65535} {m₂ = v} (omega arith) (omega arith),
+  )
 
 -- a word that is 0 when turned over is 8000h
 turned-zero : (x : ℕ) → x < 65536 → bitXor x 0x8000 ≡ 0 → x ≡ 0x8000

@@ -1,3 +1,4 @@
 -- The words of private contracts: nobody has to believe them.
 pub mod Widths
-pub mod LowestBits
+pub mod EveryLane
+pub mod Turns

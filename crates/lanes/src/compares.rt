@@ -1,63 +1,35 @@
-// PCMPEQ and PCMPGT: all ones or all zeros.
-ghost use Rattle.basis.specs.Names.{_≡_, _≤_};
-ghost use Rattle.lanes.specs.Rules.{packed, pairwise, allOnes, equal, greater};
-ghost use Rattle.lanes.specs.inner.Widths.{Within, Fills};
-use crate::lane::QUADWORD;
-use crate::lane::half;
-use crate::lane::lane_of;
+// PCMPEQ and PCMPGT, all lanes at once: all ones or all zeros.
+ghost use Rattle.basis.specs.Names.{_≡_};
+ghost use Rattle.lanes.specs.Rules.{packed, pairwise, equal, greater};
+ghost use Rattle.lanes.specs.inner.Widths.{Fills};
 use crate::lane::ones;
-use crate::lane::with_lane;
+use crate::lane::rests;
+use crate::lane::signs;
 
-fn mask_of(yes: bool, w: u64) -> u64
-    requires { ⌜ (1 ≤ w) × (w ≤ 32) ⌝ }
-    ensures { λ r. ⌜ r ≡ allOnes w yes ⌝ }
+// Ones in the lanes below zero.
+pub(crate) fn negatives(x: u64, w: u64) -> u64
+    requires { ⌜ Fills w ⌝ }
+    ensures { λ r. ⌜ r ≡ packed (pairwise greater) w 0 x ⌝ }
 {
-    if yes {
-        return ones(w);
-    }
-    0
+    signs(x, w) * ones(w)
 }
 
-fn equal_lane(a: u64, b: u64, w: u64, i: u64) -> u64
-    requires { ⌜ Within w i × (w ≤ 32) ⌝ }
-    ensures { λ r. ⌜ r ≡ pairwise equal w a b i ⌝ }
-{
-    mask_of(lane_of(a, w, i) == lane_of(b, w, i), w)
-}
-
+// Where lanes are equal no bit differs; where they are not, the top bit does, or the rest of the bits that differ, with ones added, reaches it.
 pub(crate) fn equals(a: u64, b: u64, w: u64) -> u64
     requires { ⌜ Fills w ⌝ }
     ensures { λ r. ⌜ r ≡ packed (pairwise equal) w a b ⌝ }
 {
-    let n = QUADWORD / w;
-    let mut lanes: u64 = 0;
-    let mut i: u64 = 0;
-    while i < n {
-        lanes = with_lane(lanes, equal_lane(a, b, w, i), w, i);
-        i += 1;
-    }
-    lanes
+    let rests = rests(w);
+    let differ = a ^ b;
+    negatives(!(((differ & rests) + rests) | differ), w)
 }
 
-// With their top bits turned over, signed lanes compare as unsigned ones.
-fn greater_lane(a: u64, b: u64, w: u64, i: u64) -> u64
-    requires { ⌜ Within w i × (w ≤ 32) ⌝ }
-    ensures { λ r. ⌜ r ≡ pairwise greater w a b i ⌝ }
-{
-    let h = half(w);
-    mask_of((lane_of(b, w, i) ^ h) < (lane_of(a, w, i) ^ h), w)
-}
-
+// A lane is greater where only the other is below zero, or where both have one sign and its rest, without the top bit, is beyond the other's.
 pub(crate) fn exceeds(a: u64, b: u64, w: u64) -> u64
     requires { ⌜ Fills w ⌝ }
     ensures { λ r. ⌜ r ≡ packed (pairwise greater) w a b ⌝ }
 {
-    let n = QUADWORD / w;
-    let mut lanes: u64 = 0;
-    let mut i: u64 = 0;
-    while i < n {
-        lanes = with_lane(lanes, greater_lane(a, b, w, i), w, i);
-        i += 1;
-    }
-    lanes
+    let rests = rests(w);
+    let beyond = (a & rests) + (!b & rests);
+    negatives((!a & b) | (!(a ^ b) & beyond), w)
 }

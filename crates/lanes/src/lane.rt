@@ -1,11 +1,10 @@
-// Taking a lane out of a register, putting lanes together, the lowest bits of all lanes, and clamping a number to a lane.
-ghost use Rattle.basis.specs.Names.{_≡_, _+_, _-_, _*_, _%_, _^_, _<_, _≤_, subℕ};
-ghost use Rattle.lanes.specs.Lane.{lane};
-ghost use Rattle.lanes.specs.Signed.{wrap, clampUnsigned};
-ghost use Rattle.lanes.specs.inner.Widths.{Within, Fills};
-ghost use Rattle.lanes.specs.inner.LowestBits.{lowestBits};
+// The lanes' widths, and registers by what stands in every lane.
+ghost use Rattle.basis.specs.Names.{_≡_, _+_, _-_, _^_, _<_, _≤_};
+ghost use Rattle.lanes.specs.Lane.{register};
+ghost use Rattle.lanes.specs.inner.Widths.{Fills};
+ghost use Rattle.lanes.specs.inner.EveryLane.{repeated, lowestBits, rests, topBit, rangeEnd};
 
-// The lanes' widths, and the bits of half a register. A quadword is a whole register.
+// The lanes' widths. A doubleword is half a register, a quadword a whole one.
 pub(crate) const BYTE: u64 = 8;
 
 pub(crate) const WORD: u64 = 16;
@@ -13,8 +12,6 @@ pub(crate) const WORD: u64 = 16;
 pub(crate) const DOUBLEWORD: u64 = 32;
 
 pub(crate) const QUADWORD: u64 = 64;
-
-pub(crate) const HALF_REGISTER: u64 = 32;
 
 // How many words and doublewords a register holds.
 pub(crate) const WORDS: u64 = 4;
@@ -26,41 +23,17 @@ pub(crate) const WORD_RANGE: u64 = 0x1_0000;
 
 pub(crate) const DOUBLEWORD_RANGE: u64 = 0x1_0000_0000;
 
-// The low w bits of x.
-pub(crate) fn low(x: u64, w: u64) -> u64
-    requires { ⌜ (1 ≤ w) × (w ≤ 64) ⌝ }
-    ensures { λ r. ⌜ r ≡ x % 2 ^ w ⌝ }
-{
-    (x << (QUADWORD - w)) >> (QUADWORD - w)
-}
-
-// Lane i of x.
-pub(crate) fn lane_of(x: u64, w: u64, i: u64) -> u64
-    requires { ⌜ Within w i ⌝ }
-    ensures { λ r. ⌜ (r ≡ lane w i x) × (r < 2 ^ w) ⌝ }
-{
-    low(x >> (w * i), w)
-}
-
-// The lanes below lane i, with lane i.
-pub(crate) fn with_lane(lanes: u64, x: u64, w: u64, i: u64) -> u64
-    requires { ⌜ Within w i × (x < 2 ^ w) × (lanes < 2 ^ (w * i)) ⌝ }
-    ensures { λ r. ⌜ r ≡ x * 2 ^ (w * i) + lanes ⌝ }
-{
-    (x << (w * i)) + lanes
-}
-
 // What a lane's top bit weighs.
 pub(crate) fn half(w: u64) -> u64
-    requires { ⌜ (1 ≤ w) × (w ≤ 32) ⌝ }
-    ensures { λ r. ⌜ (r ≡ 2 ^ (w - 1)) × (r + r ≡ 2 ^ w) × (1 ≤ r) × (r ≤ 2 ^ 31) ⌝ }
+    requires { ⌜ (1 ≤ w) × (w ≤ 64) ⌝ }
+    ensures { λ r. ⌜ (r ≡ 2 ^ (w - 1)) × (r + r ≡ 2 ^ w) × (1 ≤ r) × (r ≤ 2 ^ 63) ⌝ }
 {
     1 << (w - 1)
 }
 
 // A lane of ones.
 pub(crate) fn ones(w: u64) -> u64
-    requires { ⌜ (1 ≤ w) × (w ≤ 32) ⌝ }
+    requires { ⌜ (1 ≤ w) × (w ≤ 64) ⌝ }
     ensures { λ r. ⌜ (r ≡ 2 ^ w - 1) × (r < 2 ^ w) ⌝ }
 {
     let h = half(w);
@@ -75,17 +48,34 @@ pub(crate) fn lowest_bits(w: u64) -> u64
     u64::MAX / ones(w)
 }
 
-// The difference m - n clamped to a lane's unsigned numbers.
-pub(crate) fn clamped(m: u64, n: u64, w: u64) -> u64
-    requires { ⌜ (1 ≤ w) × (w ≤ 32) ⌝ }
-    ensures { λ r. ⌜ r ≡ wrap w (clampUnsigned w (subℕ m n)) ⌝ }
+// x in every lane.
+pub(crate) fn repeated(x: u64, w: u64) -> u64
+    requires { ⌜ Fills w × (x < 2 ^ w) ⌝ }
+    ensures { λ r. ⌜ r ≡ repeated w x ⌝ }
 {
-    let greatest = ones(w);
-    if m <= n {
-        return 0;
-    }
-    if greatest <= m - n {
-        return greatest;
-    }
-    m - n
+    lowest_bits(w) * x
+}
+
+// All bits of every lane but its top bit.
+pub(crate) fn rests(w: u64) -> u64
+    requires { ⌜ Fills w ⌝ }
+    ensures { λ r. ⌜ r ≡ rests w ⌝ }
+{
+    repeated(half(w) - 1, w)
+}
+
+// The lanes' top bits, each at the low end of its lane.
+pub(crate) fn signs(x: u64, w: u64) -> u64
+    requires { ⌜ Fills w ⌝ }
+    ensures { λ r. ⌜ r ≡ register w (topBit w x) ⌝ }
+{
+    (x >> (w - 1)) & lowest_bits(w)
+}
+
+// The ends of the signed range, in every lane the one on its side: the greatest number, or, where the top bit is set, 1 more, which is the least.
+pub(crate) fn ends(x: u64, w: u64) -> u64
+    requires { ⌜ Fills w ⌝ }
+    ensures { λ r. ⌜ r ≡ register w (rangeEnd w x) ⌝ }
+{
+    signs(x, w) + rests(w)
 }

@@ -12,12 +12,17 @@ use compares::equals;
 use compares::exceeds;
 use lane::BYTE;
 use lane::DOUBLEWORD;
-use lane::HALF_REGISTER;
 use lane::QUADWORD;
 use lane::WORD;
-use packs::pack_signed;
-use packs::pack_unsigned;
-use packs::unpacked;
+use packs::pack_signed_bytes;
+use packs::pack_signed_words;
+use packs::pack_unsigned_bytes;
+use packs::unpack_high_bytes;
+use packs::unpack_high_doublewords;
+use packs::unpack_high_words;
+use packs::unpack_low_bytes;
+use packs::unpack_low_doublewords;
+use packs::unpack_low_words;
 use products::multiply_add;
 use products::multiply_high;
 use products::multiply_low;
@@ -130,18 +135,18 @@ pub fn operate(operation: u8, destination: u64, source: u64) -> u64
     ensures { λ r. ⌜ r ≡ operate (operationOf operation) destination source ⌝ }
 {
     match operation {
-        PUNPCKLBW => unpacked(destination, source, BYTE, 0),
-        PUNPCKLWD => unpacked(destination, source, WORD, 0),
-        PUNPCKLDQ => unpacked(destination, source, DOUBLEWORD, 0),
-        PACKSSWB => pack_signed(destination, source, BYTE),
-        PACKUSWB => pack_unsigned(destination, source, BYTE),
-        PACKSSDW => pack_signed(destination, source, WORD),
+        PUNPCKLBW => unpack_low_bytes(destination, source),
+        PUNPCKLWD => unpack_low_words(destination, source),
+        PUNPCKLDQ => unpack_low_doublewords(destination, source),
+        PACKSSWB => pack_signed_bytes(destination, source),
+        PACKUSWB => pack_unsigned_bytes(destination, source),
+        PACKSSDW => pack_signed_words(destination, source),
         PCMPGTB => exceeds(destination, source, BYTE),
         PCMPGTW => exceeds(destination, source, WORD),
         PCMPGTD => exceeds(destination, source, DOUBLEWORD),
-        PUNPCKHBW => unpacked(destination, source, BYTE, HALF_REGISTER / BYTE),
-        PUNPCKHWD => unpacked(destination, source, WORD, HALF_REGISTER / WORD),
-        PUNPCKHDQ => unpacked(destination, source, DOUBLEWORD, HALF_REGISTER / DOUBLEWORD),
+        PUNPCKHBW => unpack_high_bytes(destination, source),
+        PUNPCKHWD => unpack_high_words(destination, source),
+        PUNPCKHDQ => unpack_high_doublewords(destination, source),
         MOVE => source,
         PCMPEQB => equals(destination, source, BYTE),
         PCMPEQW => equals(destination, source, WORD),

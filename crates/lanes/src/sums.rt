@@ -1,13 +1,10 @@
 // PADD and PSUB: the plain ones wrap in their lane, S and US forms clamp.
-ghost use Rattle.basis.specs.Names.{_≡_, _≤_};
+ghost use Rattle.basis.specs.Names.{_≡_};
 ghost use Rattle.lanes.specs.Rules.{packed, pairwise, sum, difference, sumSigned, differenceSigned, sumUnsigned, differenceUnsigned};
-ghost use Rattle.lanes.specs.inner.Widths.{Within, Fills};
-use crate::lane::QUADWORD;
-use crate::lane::clamped;
-use crate::lane::half;
-use crate::lane::lane_of;
+ghost use Rattle.lanes.specs.inner.Widths.{Fills};
+use crate::compares::negatives;
+use crate::lane::ends;
 use crate::lane::lowest_bits;
-use crate::lane::with_lane;
 
 // All lanes at once. The lanes' lowest bits, one bit down, are the top bits of all lanes but the highest. a ^ a_tops is a without them, so nothing is
 // carried into another lane. Exclusive or then adds them to what was carried into their places, and drops what they carry. What the highest lane
@@ -22,48 +19,23 @@ pub(crate) fn add(a: u64, b: u64, w: u64) -> u64
     std::num::wrapping_add_u64(a ^ a_tops, b ^ b_tops) ^ a_tops ^ b_tops
 }
 
-// With its top bit turned over, a signed lane is its number plus half the range.
-fn add_signed_lane(a: u64, b: u64, w: u64, i: u64) -> u64
-    requires { ⌜ Within w i × (w ≤ 32) ⌝ }
-    ensures { λ r. ⌜ r ≡ pairwise sumSigned w a b i ⌝ }
-{
-    let h = half(w);
-    clamped((lane_of(a, w, i) ^ h) + (lane_of(b, w, i) ^ h), h, w) ^ h
-}
-
+// A sum with another sign than both its numbers has gone beyond the end of the range on their side.
 pub(crate) fn add_signed(a: u64, b: u64, w: u64) -> u64
     requires { ⌜ Fills w ⌝ }
     ensures { λ r. ⌜ r ≡ packed (pairwise sumSigned) w a b ⌝ }
 {
-    let n = QUADWORD / w;
-    let mut lanes: u64 = 0;
-    let mut i: u64 = 0;
-    while i < n {
-        lanes = with_lane(lanes, add_signed_lane(a, b, w, i), w, i);
-        i += 1;
-    }
-    lanes
+    let sum = add(a, b, w);
+    let over = negatives((a ^ sum) & (b ^ sum), w);
+    sum ^ ((sum ^ ends(a, w)) & over)
 }
 
-fn add_unsigned_lane(a: u64, b: u64, w: u64, i: u64) -> u64
-    requires { ⌜ Within w i × (w ≤ 32) ⌝ }
-    ensures { λ r. ⌜ r ≡ pairwise sumUnsigned w a b i ⌝ }
-{
-    clamped(lane_of(a, w, i) + lane_of(b, w, i), 0, w)
-}
-
+// A sum has gone beyond the range where both top bits are set, or one of them and not the sum's; there all bits are set.
 pub(crate) fn add_unsigned(a: u64, b: u64, w: u64) -> u64
     requires { ⌜ Fills w ⌝ }
     ensures { λ r. ⌜ r ≡ packed (pairwise sumUnsigned) w a b ⌝ }
 {
-    let n = QUADWORD / w;
-    let mut lanes: u64 = 0;
-    let mut i: u64 = 0;
-    while i < n {
-        lanes = with_lane(lanes, add_unsigned_lane(a, b, w, i), w, i);
-        i += 1;
-    }
-    lanes
+    let sum = add(a, b, w);
+    sum | negatives((a & b) | ((a | b) & !sum), w)
 }
 
 // Each subtraction is its addition from the other side: a - b is not (not a + b), clamped or not.

@@ -5,6 +5,6 @@ use Rattle.basis.specs.Names.{_≡_, ℕ, _+_, _*_, _/_, _≤_}
 abbrev pub Within : ℕ → ℕ → Type 0
 Within w i = (1 ≤ w) × (w + w * i ≤ 64)
 
--- lanes of at most 32 bits that fill the register
+-- the lanes fill the register
 abbrev pub Fills : ℕ → Type 0
-Fills w = (1 ≤ w) × (w ≤ 32) × (w * (64 / w) ≡ 64)
+Fills w = (1 ≤ w) × (w ≤ 64) × (w * (64 / w) ≡ 64)

@@ -1,21 +1,11 @@
--- `compares::exceeds` meets its contract: the loop builds the result, one lane a turn.
-use Rattle.basis.specs.Names.{_-_}
-use Rattle.lanes.specs.Rules.{pairwise, greater}
-use Rattle.lanes.proofs.Building.{Built, building}
+-- `compares::exceeds` meets its contract: the top bits decide, or the rests, whose sums stay in their lanes.
+use Rattle.basis.proofs.Names.{_∙_}
+use Rattle.lanes.proofs.Comparing.{comparing}
 use Rattle.lanes.proofs.compares.exceeds.Statement.{statement}
 use Rattle.lanes.proofs.compares.exceeds.Tie as tie
-
-abbrev Inv-loop : tie.InvT-loop
-Inv-loop a b w n lanes₀ i₀ lanes i = Built (pairwise greater) w a b lanes i
-
-abbrev μ-loop : tie.MeasureT-loop
-μ-loop a b w n lanes₀ i₀ lanes i = n - i
 
 pub exceeds-spec : {M : Type 1} → statement M
 exceeds-spec =
     tie.close
     (tie.spec
-    Inv-loop
-    μ-loop
-    (λ c. search building) (λ c. search building) (λ c κs. search building) (λ c κs. search building) (λ c. search building) (λ c. search building)
-    (λ c. search building) (λ c. search building))
+    (λ c κs. search comparing) (λ c. search comparing) (λ c κs. search comparing) (λ c. c .negatives .ensures ∙ search comparing))

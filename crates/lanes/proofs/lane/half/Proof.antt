@@ -13,4 +13,4 @@ half-spec =
     (λ c.
     let w = c .args .w in
     let e = half-is w (c .pre .0) (c .pre .1) in
-    (e, ap₂ _+_ e e ∙ halves w (c .pre .0), omega (arith, e, pow-pos (w - 1)), omega (arith, e, pow-mono {i = w - 1} {j = 31} (omega arith)))))
+    (e, ap₂ _+_ e e ∙ halves w (c .pre .0), omega (arith, e, pow-pos (w - 1)), omega (arith, e, pow-mono {i = w - 1} {j = 63} (omega arith)))))

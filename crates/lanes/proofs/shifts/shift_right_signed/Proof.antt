@@ -1,4 +1,4 @@
--- `shifts::shift_right_signed` meets its contract: lanes below zero, turned over, shift as unsigned ones and are turned back.
+-- `shifts::shift_right_signed` meets its contract: a lane below zero, turned over, is shifted without its sign.
 use Rattle.lanes.proofs.Shifting.{shifting}
 use Rattle.lanes.proofs.shifts.shift_right_signed.Statement.{statement}
 use Rattle.lanes.proofs.shifts.shift_right_signed.Tie as tie

@@ -1,21 +1,10 @@
--- `sums::add_signed` meets its contract: the loop builds the result, one lane a turn.
-use Rattle.basis.specs.Names.{_-_}
-use Rattle.lanes.specs.Rules.{pairwise, sumSigned}
-use Rattle.lanes.proofs.Building.{Built, building}
+-- `sums::add_signed` meets its contract: in each lane the wrapped sum, or an end of the range where it has another sign than both its numbers.
+use Rattle.lanes.proofs.AddingSigned.{adding-signed}
 use Rattle.lanes.proofs.sums.add_signed.Statement.{statement}
 use Rattle.lanes.proofs.sums.add_signed.Tie as tie
-
-abbrev Inv-loop : tie.InvT-loop
-Inv-loop a b w n lanes₀ i₀ lanes i = Built (pairwise sumSigned) w a b lanes i
-
-abbrev μ-loop : tie.MeasureT-loop
-μ-loop a b w n lanes₀ i₀ lanes i = n - i
 
 pub add-signed-spec : {M : Type 1} → statement M
 add-signed-spec =
     tie.close
     (tie.spec
-    Inv-loop
-    μ-loop
-    (λ c. search building) (λ c. search building) (λ c κs. search building) (λ c κs. search building) (λ c. search building) (λ c. search building)
-    (λ c. search building) (λ c. search building))
+    (λ c κs. search adding-signed) (λ c κs. search adding-signed) (λ c κs. search adding-signed) (λ c. search adding-signed))
