@@ -16,8 +16,8 @@ use Rattle.codec.proofs.Readers.{Every, Holds, every, every-cond, every
 pub no-registers : Registers noOperand
 no-registers = record { reg = omega arith; rm = omega arith; index = omega arith; base = omega arith }
 
-registers : (modrm sib displacement : ℕ) → Registers (operandOf modrm sib displacement)
-registers modrm sib displacement =
+pub registers-of : (modrm sib displacement : ℕ) → Registers (operandOf modrm sib displacement)
+registers-of modrm sib displacement =
     record { reg = middle-lt modrm; rm = lower-lt modrm; index = middle-lt sib; base = lower-lt sib }
 
 pub record Given (second : ℕ) (i : Instruction) : Type 0 where
@@ -31,21 +31,27 @@ abbrev pub Gives : ℕ → Reader → Type 0
 Gives second = Every (Given second) Refusal
 
 module _ (form : Form) (first second : ℕ) where
-  pub immediate-gives : (w : Operand) → Registers w → Gives second (immediateReader form first second w)
+  immediate-gives : (w : Operand) → Registers w → Gives second (immediateReader form first second w)
   unfolding immediateReader
   immediate-gives w h = (omega arith, λ v. record { kept = refl; registers = h })
 
   displacement-gives : (modrm sib : ℕ) → Gives second (displacementReader form first second modrm sib)
   unfolding displacementReader
-  displacement-gives modrm sib = (omega arith, λ d. immediate-gives (operandOf modrm sib d) (registers modrm sib d))
+  displacement-gives modrm sib = (omega arith, λ d. immediate-gives (operandOf modrm sib d) (registers-of modrm sib d))
 
-  pub modrm-gives : Gives second (modrmReader form first second)
+  modrm-gives : Gives second (modrmReader form first second)
   unfolding modrmReader sibReader
   modrm-gives = (
     omega arith,
     λ m. every-cond (Given second) Refusal (allows form (upper m) (middle m) (lower m)) _ _
         (every-cond (Given second) Refusal (hasSib (upper m) (lower m)) _ _ (omega arith, displacement-gives m) (displacement-gives m 0)) (omega arith),
   )
+
+  pub form-gives : Gives second (formReader form first second)
+  unfolding formReader
+  form-gives =
+      every-cond (Given second) Refusal (isAbsent form) _ _ (omega arith)
+      (every-cond (Given second) Refusal (hasOperand form) _ _ modrm-gives (immediate-gives noOperand no-registers))
 
 first-refuses : (first : ℕ) → Refusal (refusalOf first)
 unfolding refusalOf

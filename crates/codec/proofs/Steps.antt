@@ -16,7 +16,7 @@ use Rattle.codec.specs.declared.Found.{Found}
 use Rattle.codec.specs.Answers.{Decoded, good, refused}
 use Rattle.codec.proofs.Sizes.{byte-there}
 use Rattle.codec.proofs.FormNumbers.{with-operand}
-use Rattle.codec.proofs.Given.{Given, Refusal, Gives, no-registers, immediate-gives, modrm-gives}
+use Rattle.codec.proofs.Given.{Given, Refusal, Gives, form-gives}
 use Rattle.codec.proofs.Readers.{Holds, every, reads-yes, reads-no, drop-here, field-here, field-none}
 
 -- what is read keeps the second byte, so that the table's entry is that of it
@@ -28,6 +28,17 @@ module _ (table : List ℕ) (second : ℕ) where
   keeps : (r : Reader) (at : ℕ) (s : List ℕ) → Gives second r
       → found (getD table second 0) (reads r at s) ≡ foundIn table (reads r at s)
   keeps r at s h = entry-kept (reads r at s) (every (Given second) Refusal r h at s)
+
+-- what a form's number asks for
+module _ (n first second at : ℕ) (s : List ℕ) where
+  pub form-bare : n ≡ 1 → reads (formReader (formOf n) first second) at s ≡ reads (immediateReader (formOf n) first second noOperand) at s
+  unfolding formReader
+  form-bare e =
+      reads-no _ _ _ at s (ap (λ (k : ℕ). isAbsent (formOf k)) e) ∙ reads-no _ _ _ at s (ap (λ (k : ℕ). hasOperand (formOf k)) e)
+
+  pub form-on : (n ≡ 0 → ⊥) → (n ≡ 1 → ⊥) → reads (formReader (formOf n) first second) at s ≡ reads (modrmReader (formOf n) first second) at s
+  unfolding formReader
+  form-on p q = let o = with-operand n p q in reads-no _ _ _ at s (o .0) ∙ reads-yes _ _ _ at s (o .1)
 
 module _ (code : List ℕ) (at : ℕ) where
   -- the first byte
@@ -82,34 +93,25 @@ module _ (code : List ℕ) (at : ℕ) where
           ap (reads (secondReader (formIn table) first) at) (drop-here code at q)
           ∙ ap (λ (e : ℕ). reads (formReader (formOf (e / 2 ^ 24)) first second) (at + 1) (drop (at + 1) code)) (sym g)
 
+      -- what the form asks for keeps the entry
+      pub second-found : x ≡ found entry (reads (formReader form first second) (at + 1) (drop (at + 1) code)) → FindsSecond
+      second-found h =
+          let s = drop (at + 1) code in
+          h ∙ ap (λ (e : ℕ). found e (reads (formReader form first second) (at + 1) s)) g
+          ∙ keeps table second (formReader form first second) (at + 1) s (form-gives form first second) ∙ ap (foundIn table) (sym second-here)
+
       pub second-absent : entry / 2 ^ 24 ≡ 0 → x ≡ refusedAs notListed → FindsSecond
       unfolding formReader
       second-absent e h =
-          h ∙ ap (foundIn table) (sym (second-here ∙ reads-yes _ _ _ (at + 1) (drop (at + 1) code) (ap (λ (k : ℕ). isAbsent (formOf k)) e)))
-
-      -- what the form asks for keeps the entry
-      module _ (r : Reader) (k : Gives second r) (h : x ≡ found entry (reads r (at + 1) (drop (at + 1) code))) where
-        second-kept : x ≡ foundIn table (reads r (at + 1) (drop (at + 1) code))
-        second-kept =
-            h ∙ ap (λ (e : ℕ). found e (reads r (at + 1) (drop (at + 1) code))) g ∙ keeps table second r (at + 1) (drop (at + 1) code) k
+          second-found (h ∙ ap (found entry) (sym (reads-yes _ _ _ (at + 1) (drop (at + 1) code) (ap (λ (k : ℕ). isAbsent (formOf k)) e))))
 
       pub second-bare : entry / 2 ^ 24 ≡ 1
           → x ≡ found entry (reads (immediateReader form first second noOperand) (at + 1) (drop (at + 1) code)) → FindsSecond
-      unfolding formReader
-      second-bare e h =
-          let s = drop (at + 1) code in
-          second-kept (immediateReader form first second noOperand) (immediate-gives form first second noOperand no-registers) h
-          ∙ ap (foundIn table)
-          (sym (second-here ∙ reads-no _ _ _ (at + 1) s (ap (λ (k : ℕ). isAbsent (formOf k)) e) ∙ reads-no _ _ _ (at + 1) s (ap (λ (k : ℕ). hasOperand (formOf k)) e)))
+      second-bare e h = second-found (h ∙ ap (found entry) (sym (form-bare (entry / 2 ^ 24) first second (at + 1) (drop (at + 1) code) e)))
 
       pub second-on : (entry / 2 ^ 24 ≡ 0 → ⊥) → (entry / 2 ^ 24 ≡ 1 → ⊥)
           → x ≡ found entry (reads (modrmReader form first second) (at + 1) (drop (at + 1) code)) → FindsSecond
-      unfolding formReader
-      second-on n m h =
-          let s = drop (at + 1) code in
-          let o = with-operand (entry / 2 ^ 24) n m in
-          second-kept (modrmReader form first second) (modrm-gives form first second) h
-          ∙ ap (foundIn table) (sym (second-here ∙ reads-no _ _ _ (at + 1) s (o .0) ∙ reads-yes _ _ _ (at + 1) s (o .1)))
+      second-on n m h = second-found (h ∙ ap (found entry) (sym (form-on (entry / 2 ^ 24) first second (at + 1) (drop (at + 1) code) n m)))
 
   module _ (form : Form) (first second entry : ℕ) (x : Found) where
     -- x is what a reader finds at a position

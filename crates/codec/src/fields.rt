@@ -17,11 +17,11 @@ ghost use Rattle.codec.specs.Operands.{hasSib, displacementSize};
 ghost use Rattle.codec.specs.inner.Fields.{Sized};
 
 // The places of the upper and the middle field of a ModRM or SIB byte, and how many values the lower two have.
-pub(crate) const UPPER: u8 = 64;
+pub const UPPER: u8 = 64;
 
-pub(crate) const MIDDLE: u8 = 8;
+pub const MIDDLE: u8 = 8;
 
-pub(crate) const VALUES: u8 = 8;
+pub const VALUES: u8 = 8;
 
 // How many values a byte has.
 pub(crate) const BYTE: u32 = 256;

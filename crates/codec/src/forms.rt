@@ -23,9 +23,9 @@ pub(crate) const ABSENT: u32 = 0;
 pub const EMMS: u32 = 1;
 
 // mmreg1, imm8: the shifts of words and doublewords, and those of a quadword, which have no /4.
-pub(crate) const SHIFT_WD: u32 = 2;
+pub const SHIFT_WD: u32 = 2;
 
-pub(crate) const SHIFT_Q: u32 = 3;
+pub const SHIFT_Q: u32 = 3;
 
 // From here on: a destination and a source, one named by reg, the other by r/m. Up to LOAD_D, r/m may name an integer register.
 pub const TWO_OPERANDS: u32 = 16;
@@ -43,7 +43,7 @@ pub const STORE_Q: u32 = 18;
 pub const LOAD_Q: u32 = 19;
 
 // mmreg1, mmreg2/mem32: the low unpacks.
-pub(crate) const LOW: u32 = 20;
+pub const LOW: u32 = 20;
 
 // mmreg1, mmreg2/mem64: the usual form.
 pub(crate) const USUAL: u32 = 21;

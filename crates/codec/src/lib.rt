@@ -6,11 +6,11 @@ ghost use Rattle.codec.specs.Reads.{readAt};
 ghost use Rattle.codec.specs.Finding.{findWith};
 ghost use Rattle.codec.specs.Writes.{writeTo};
 
-mod fields;
+pub mod fields;
 pub mod forms;
 pub mod modes;
 mod opcodes;
-mod prefixes;
+pub mod prefixes;
 mod reader;
 pub mod refusals;
 mod writer;

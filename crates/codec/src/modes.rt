@@ -5,7 +5,7 @@ pub const NO_DISPLACEMENT: u8 = 0;
 
 pub const BYTE_DISPLACEMENT: u8 = 1;
 
-pub(crate) const LONG_DISPLACEMENT: u8 = 2;
+pub const LONG_DISPLACEMENT: u8 = 2;
 
 pub const REGISTER: u8 = 3;
 

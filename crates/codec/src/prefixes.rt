@@ -5,7 +5,7 @@ ghost use Rattle.basis.specs.Names.{_≡_};
 ghost use Rattle.codec.specs.Reads.{refusalOf};
 
 // The first byte of every opcode.
-pub(crate) const ESCAPE: u8 = 0x0f;
+pub const ESCAPE: u8 = 0x0f;
 
 // The segment prefixes.
 const ES: u8 = 0x26;

@@ -5,7 +5,7 @@ pub const LONGEST_CODE: usize = 4096;
 
 pub const CODE_TOO_LONG: u8 = 2;
 
-pub(crate) const CODE_ENDS: u8 = 3;
+pub const CODE_ENDS: u8 = 3;
 
 pub const PREFIXED: u8 = 4;
 
