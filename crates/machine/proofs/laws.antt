@@ -3,7 +3,9 @@ pub mod meetings
 pub mod addresses
 pub mod ways
 pub mod operands
+pub mod pointers
 pub mod gathering
+pub mod quick
 pub mod stepping
 pub mod running
 pub mod footprints

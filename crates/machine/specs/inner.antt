@@ -3,3 +3,6 @@ pub mod Ways
 pub mod Spots
 pub mod Works
 pub mod Reaches
+pub mod Pointers
+pub mod Quick
+pub mod Runs

@@ -39,7 +39,7 @@ fn base_in(integers: &[u32; 8], mode: u8, register: u8) -> u32
     integers[register as usize]
 }
 
-fn index_in(integers: &[u32; 8], register: u8) -> u32
+pub(crate) fn index_in(integers: &[u32; 8], register: u8) -> u32
     requires { ⌜ register < 8 ⌝ }
     ensures { λ r. ⌜ r ≡ registerPart (now (integers .entry)) (indexOf register) ⌝ }
 {
@@ -50,7 +50,7 @@ fn index_in(integers: &[u32; 8], register: u8) -> u32
 }
 
 // Doubled once for each unit of the scale.
-fn scaled(index: u32, scale: u8) -> u32
+pub(crate) fn scaled(index: u32, scale: u8) -> u32
     ensures { λ r. ⌜ r ≡ index * 2 ^ scale % 2 ^ 32 ⌝ }
 {
     let mut doubled = index;

@@ -1,6 +1,7 @@
 // The instruction at a position is read and its operands are gathered; what remains to be done is then plain numbers. Nothing is written here.
 use crate::operands;
 use crate::operands::Spot;
+use crate::quick;
 use crate::refusals::INVALID_OPCODE;
 use crate::refusals::IS_PENDING;
 use crate::refusals::NOT_AVAILABLE;
@@ -19,9 +20,15 @@ ghost use Rattle.codec.specs.inner.Fields.{Registers};
 ghost use Rattle.codec.specs.Table.{opcodeTable};
 ghost use Rattle.codec.specs.Reads.{longestCode};
 ghost use Rattle.manual.specs.State.{longestMemory};
+ghost use Rattle.machine.specs.inner.Quick.{Opened};
 ghost use Rattle.machine.specs.inner.Spots.{otherOf, spotOf};
 ghost use Rattle.machine.specs.inner.Ways.{hasTwo, wayOf};
 ghost use Rattle.machine.specs.inner.Works.{barredBy, effectIn, Listed, workOf, refusedWork, putWork, takeWork, Does, Gathered};
+
+// The bytes of a doubleword and of a quadword.
+pub(crate) const DOUBLEWORD: u8 = 4;
+
+pub(crate) const QUADWORD: u8 = 8;
 
 // How many values a doubleword has.
 pub(crate) const DOUBLEWORD_RANGE: u64 = 0x100000000;
@@ -51,7 +58,7 @@ pub(crate) const EMPTY: u8 = 3;
 // Nothing: the refusal of that number.
 const REFUSE: u8 = 4;
 
-fn work_of(what: u8, number: u8, place: usize, value: u64, next: usize) -> Work
+pub(crate) fn work_of(what: u8, number: u8, place: usize, value: u64, next: usize) -> Work
     ensures { λ r. ⌜ r ≡ workOf what number place value next ⌝ }
 {
     Work {
@@ -63,7 +70,7 @@ fn work_of(what: u8, number: u8, place: usize, value: u64, next: usize) -> Work
     }
 }
 
-fn refused(refusal: u8) -> Work
+pub(crate) fn refused(refusal: u8) -> Work
     ensures { λ r. ⌜ r ≡ refusedWork refusal ⌝ }
 {
     work_of(REFUSE, refusal, 0, 0, 0)
@@ -97,7 +104,7 @@ fn put(spot: Spot, value: u64, next: usize) -> Work
     }
 }
 
-fn widened(doubleword: u32) -> u64
+pub(crate) fn widened(doubleword: u32) -> u64
     ensures { λ r. ⌜ r ≡ doubleword ⌝ }
 {
     doubleword as u64
@@ -171,9 +178,11 @@ fn sorted(
     }
 }
 
-// The instruction at a position: the reader's refusals, then `bar`, that of the control marks or 0, then that of its operand.
+// The instruction at a position: at once, if it can be; else the reader's refusals, then `bar`, that of the control marks or 0, then that of its
+// operand.
 pub(crate) fn gathered(
     table: &[u32; 256],
+    quick: &[u32; 256],
     mmx: &[u64; 8],
     integers: &[u32; 8],
     bar: u8,
@@ -181,9 +190,14 @@ pub(crate) fn gathered(
     at: usize,
     memory: &[u8],
 ) -> Work
-    requires { ⌜ (now table ≡ opcodeTable) × ((length (now code) ≤ longestCode) × (length (now memory) ≤ longestMemory)) ⌝ }
+    requires { ⌜ (now table ≡ opcodeTable) × (Opened bar (now quick) × ((length (now code) ≤ longestCode) × (length (now memory) ≤ longestMemory))) ⌝ }
     ensures { λ r. ⌜ Gathered r (now (mmx .entry)) (now (integers .entry)) bar (now (code .entry)) at (now (memory .entry)) ⌝ }
 {
+    let work = quick::at_once(quick, mmx, integers, code, at, memory);
+    let what = work.what;
+    if what != REFUSE {
+        return work;
+    }
     let found = codec::read_from(table, code, at);
     let refusal = found.refusal;
     if refusal != 0 {

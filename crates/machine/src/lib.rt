@@ -4,6 +4,8 @@ mod footprints;
 mod gathering;
 mod meetings;
 mod operands;
+mod pointers;
+mod quick;
 mod reaches;
 pub mod refusals;
 mod register_masks;

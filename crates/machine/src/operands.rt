@@ -22,7 +22,7 @@ pub(crate) enum Spot {
 }
 
 // Whether all bytes of an operand are below the memory's length.
-fn is_inside(room: usize, address: usize, size: usize) -> bool
+pub(crate) fn is_inside(room: usize, address: usize, size: usize) -> bool
     ensures { λ r. ⌜ r ≡ leb (address + size) room ⌝ }
 {
     if room < size {

@@ -1,19 +1,93 @@
-// The run: steps over lent registers, as many as the budget has.
+// Runs of a machine by value: from a position on, from the code's start, and of one instruction.
 use crate::End;
 use crate::Machine;
 use crate::Ran;
+use crate::Stepped;
+use crate::Taken;
 use crate::gathering;
+use crate::quick;
 use crate::refusals::LONGEST_MEMORY;
 use crate::refusals::MEMORY_TOO_LONG;
 use crate::stepping;
+use codec::refusals::CODE_ENDS;
 use codec::refusals::CODE_TOO_LONG;
 use codec::refusals::LONGEST_CODE;
-ghost use Rattle.basis.specs.Names.{_≡_};
+ghost use Rattle.basis.specs.Names.{_≡_, _≤_, length};
+ghost use Rattle.codec.specs.Reads.{longestCode};
+ghost use Rattle.manual.specs.State.{longestMemory};
+ghost use Rattle.manual.specs.Steps.{stepAt};
 ghost use Rattle.manual.specs.Runs.{runOf};
 ghost use Rattle.machine.specs.State.{stateOf};
+ghost use Rattle.machine.specs.Steps.{paperOfStep};
 ghost use Rattle.machine.specs.Runs.{paperOfRun};
+ghost use Rattle.machine.specs.inner.Runs.{remaining};
 
 impl Machine {
+    // The instructions from a position on, where memory and code are within their limits: steps over lent registers, as many as the budget has.
+    fn run_from(self, code: &[u8], start: usize, memory: &mut [u8], budget: u32) -> Ran
+        requires { ⌜ (length (now code) ≤ longestCode) × ((length (now memory) ≤ longestMemory) × (start ≤ length (now code))) ⌝ }
+        ensures { λ r. ⌜ paperOfRun r (now (memory .exit)) ≡ remaining budget (now (code .entry)) start 0 (stateOf self (now (memory .entry))) ⌝ }
+    {
+        let table = codec::table();
+        let mut mmx = self.mmx;
+        let mut integers = self.integers;
+        let mut marks = self.marks;
+        let bar = gathering::barred(marks);
+        let quick = quick::quick_table(bar);
+        let mut at = start;
+        let mut remaining = budget;
+        while at < code.len() {
+            if remaining == 0 {
+                return Ran {
+                    end: End::Spent,
+                    at: at,
+                    count: budget,
+                    machine: Machine {
+                        mmx: mmx,
+                        integers: integers,
+                        marks: marks,
+                    },
+                };
+            }
+            let moved = stepping::advance(
+                &table,
+                &quick,
+                &mut mmx,
+                &mut integers,
+                bar,
+                code,
+                at,
+                memory,
+            );
+            let refusal = moved.refusal;
+            at = moved.next;
+            if refusal != 0 {
+                return Ran {
+                    end: End::Refused(refusal),
+                    at: at,
+                    count: budget - remaining,
+                    machine: Machine {
+                        mmx: mmx,
+                        integers: integers,
+                        marks: marks,
+                    },
+                };
+            }
+            marks.valid = moved.valid;
+            remaining -= 1;
+        }
+        Ran {
+            end: End::Done,
+            at: at,
+            count: budget - remaining,
+            machine: Machine {
+                mmx: mmx,
+                integers: integers,
+                marks: marks,
+            },
+        }
+    }
+
     // The instructions from position 0 on.
     pub fn run(self, code: &[u8], memory: &mut [u8], budget: u32) -> Ran
         ensures { λ r. ⌜ paperOfRun r (now (memory .exit)) ≡ runOf (now (code .entry)) budget (stateOf self (now (memory .entry))) ⌝ }
@@ -34,53 +108,46 @@ impl Machine {
                 machine: self,
             };
         }
-        let table = codec::table();
-        let mut mmx = self.mmx;
-        let mut integers = self.integers;
-        let mut marks = self.marks;
-        let bar = gathering::barred(marks);
-        let mut at: usize = 0;
-        let mut count: u32 = 0;
-        while at < code.len() {
-            if count == budget {
-                return Ran {
-                    end: End::Spent,
-                    at: at,
-                    count: count,
-                    machine: Machine {
-                        mmx: mmx,
-                        integers: integers,
-                        marks: marks,
-                    },
-                };
-            }
-            let moved = stepping::advance(&table, &mut mmx, &mut integers, bar, code, at, memory);
-            let refusal = moved.refusal;
-            at = moved.next;
-            if refusal != 0 {
-                return Ran {
-                    end: End::Refused(refusal),
-                    at: at,
-                    count: count,
-                    machine: Machine {
-                        mmx: mmx,
-                        integers: integers,
-                        marks: marks,
-                    },
-                };
-            }
-            marks.valid = moved.valid;
-            count += 1;
+        self.run_from(code, 0, memory, budget)
+    }
+
+    // The instruction at a position.
+    pub fn step(self, code: &[u8], at: usize, memory: &mut [u8]) -> Stepped
+        ensures { λ r. ⌜ paperOfStep r (now (memory .exit)) ≡ stepAt (now (code .entry)) at (stateOf self (now (memory .entry))) ⌝ }
+    {
+        if LONGEST_MEMORY < memory.len() {
+            return Stepped {
+                answer: Taken::Refused(MEMORY_TOO_LONG),
+                machine: self,
+                at: at,
+            };
         }
-        Ran {
-            end: End::Done,
-            at: at,
-            count: count,
-            machine: Machine {
-                mmx: mmx,
-                integers: integers,
-                marks: marks,
-            },
+        if LONGEST_CODE < code.len() {
+            return Stepped {
+                answer: Taken::Refused(CODE_TOO_LONG),
+                machine: self,
+                at: at,
+            };
+        }
+        if code.len() <= at {
+            return Stepped {
+                answer: Taken::Refused(CODE_ENDS),
+                machine: self,
+                at: at,
+            };
+        }
+        let ran = self.run_from(code, at, memory, 1);
+        let machine = ran.machine;
+        let end = ran.end;
+        let answer = match end {
+            End::Done => Taken::Completed,
+            End::Spent => Taken::Completed,
+            End::Refused(refusal) => Taken::Refused(refusal),
+        };
+        Stepped {
+            answer: answer,
+            machine: machine,
+            at: ran.at,
         }
     }
 }

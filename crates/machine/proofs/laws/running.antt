@@ -1,2 +1,3 @@
--- The rules for the run.
+-- The rules for the run, and for the step as a run of one instruction.
 pub mod Budgets
+pub mod Answering

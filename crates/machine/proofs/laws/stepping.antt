@@ -1,3 +1,2 @@
--- The rules for one step.
+-- The rules for one step over lent registers.
 pub mod Advancing
-pub mod Answering

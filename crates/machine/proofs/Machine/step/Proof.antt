@@ -1,5 +1,7 @@
--- `Machine::step` meets its contract: it refuses what is too long, and else answers as the step over its registers ended.
-use Rattle.machine.proofs.laws.stepping.Answering.{answering}
+-- `Machine::step` meets its contract: it refuses what is too long and a position at or past the code's end, and else answers as the run of one
+-- instruction ended.
+use Rattle.basis.proofs.Names.{needs}
+use Rattle.machine.proofs.laws.running.Answering.{answering}
 use Rattle.machine.proofs.Machine.step.Statement.{statement}
 use Rattle.machine.proofs.Machine.step.Tie as tie
 
@@ -7,5 +9,6 @@ pub step-spec : {M : Type 1} → statement M
 step-spec =
     tie.close
     (tie.spec
-    (λ c. search answering) (λ c. search answering) (λ c κs. search answering) (λ c κs. search answering) (λ c κs. search answering)
-    (λ c. search answering) (λ c. search answering) (λ c. search answering) (λ c. search answering))
+    (λ c. search answering) (λ c. search answering) (λ c. search answering) (λ c κs. search needs) (λ c. search needs) (λ c. search needs)
+    (λ c. search needs) (λ c. search needs) (λ c. search answering) (λ c. search needs) (λ c. search answering) (λ c. search needs)
+    (λ c. search answering))

@@ -1,7 +1,7 @@
 -- The run as the code's loop takes it: what is left of the run after each turn is the whole run, since a turn is a step at its position.
-use Rattle.basis.specs.Names.{_≡_, Bool, true, false, List, ℕ, zero, suc, _+_, _-_, _≤_, _<_, eqb, length}
-use Rattle.basis.proofs.Names.{sym, ap, _∙_, sub-zero, add-one, arith, needs, eq-eqb, ne-eqb, le-ltb, lt-ltb}
-use Rattle.reorder.specs.Run.{Answer, finished, runFrom}
+use Rattle.basis.specs.Names.{_≡_, Bool, true, false, List, ℕ, zero, suc, _-_, _≤_, _<_, eqb, length}
+use Rattle.basis.proofs.Names.{sym, ap, subst, _∙_, sub-self, arith, needs, eq-eqb, ne-eqb, le-ltb, lt-ltb}
+use Rattle.reorder.specs.Run.{Answer, finished, spent, runFrom}
 use Rattle.codec.specs.Reads.{longestCode}
 use Rattle.codec.specs.Refusals.{codeTooLong}
 use Rattle.manual.specs.declared.Marks.{Marks}
@@ -18,12 +18,9 @@ use Rattle.machine.specs.declared.stepping.Moved.{Moved}
 use Rattle.machine.specs.State.{stateOf}
 use Rattle.machine.specs.Runs.{paperOfRun}
 use Rattle.machine.specs.inner.Works.{machineOf, barredBy, Advanced}
+use Rattle.machine.specs.inner.Runs.{remaining}
 
--- a run from a position on, with what is left of its budget
-unfoldable pub remaining : ℕ → List ℕ → ℕ → ℕ → State → Answer State
-remaining budget code at count s = runFrom read execute budget code at count s
-
--- the start
+-- the tests of the limits, and then the run from position 0 on
 module _ (code : List ℕ) (budget : ℕ) (k : Machine) (m : List ℕ) where
   pub run-memory : longestMemory < length m → paperOfRun (record { end = Refused memoryTooLong; at = 0; count = 0; machine = k }) m ≡ runOf code budget (stateOf k m)
   unfolding runOf
@@ -33,17 +30,26 @@ module _ (code : List ℕ) (budget : ℕ) (k : Machine) (m : List ℕ) where
   unfolding runOf
   run-code h g = simp (le-ltb longestMemory (length m) h, lt-ltb longestCode (length code) g)
 
-  pub run-starts : length m ≤ longestMemory → length code ≤ longestCode → remaining (budget - 0) code 0 0 (stateOf k m) ≡ runOf code budget (stateOf k m)
+  pub run-whole : (R : Answer State) → length m ≤ longestMemory → length code ≤ longestCode
+      → R ≡ remaining budget code 0 0 (stateOf k m) → R ≡ runOf code budget (stateOf k m)
   unfolding runOf remaining
-  run-starts h g = simp (le-ltb longestMemory (length m) h, le-ltb longestCode (length code) g, sub-zero)
+  run-whole R h g e = simp (le-ltb longestMemory (length m) h, le-ltb longestCode (length code) g) e
 
--- a run that comes to R, at a turn with what is left of its budget
-module _ (code : List ℕ) (at count budget : ℕ) (R : Answer State) where
+-- at the start all of the budget is left
+pub run-starts : (code : List ℕ) (at budget : ℕ) (s : State) → remaining budget code at (budget - budget) s ≡ remaining budget code at 0 s
+run-starts code at budget s = rw sub-self
+
+-- a run that comes to R, at a turn with so much left of its budget
+module _ (code : List ℕ) (at rest budget : ℕ) (R : Answer State) where
+  -- the instructions completed
+  abbrev count : ℕ
+  count = budget - rest
+
   -- at the code's end, and with nothing left
-  module _ (k : Machine) (m : List ℕ) (run : remaining (budget - count) code at count (stateOf k m) ≡ R) where
+  module _ (k : Machine) (m : List ℕ) (run : remaining rest code at count (stateOf k m) ≡ R) where
     pub run-done : length code ≤ at → at ≤ length code → paperOfRun (record { end = Done; at = at; count = count; machine = k }) m ≡ R
     unfolding remaining
-    run-done h g = by (budget - count) run
+    run-done h g = by rest run
       where
         ends : eqb at (length code) ≡ true
         ends = eq-eqb at (length code) (omega arith)
@@ -52,16 +58,16 @@ module _ (code : List ℕ) (at count budget : ℕ) (R : Answer State) where
         by zero z = simp ends at z
         by (suc n) z = simp ends at z
 
-    pub run-spent : at < length code → count ≡ budget → paperOfRun (record { end = Spent; at = at; count = count; machine = k }) m ≡ R
+    pub run-spent : at < length code → rest ≡ 0 → paperOfRun (record { end = Spent; at = at; count = budget; machine = k }) m ≡ R
     unfolding remaining
     run-spent h e =
-        let none : budget - count ≡ 0 = omega arith in
+        let all : budget ≡ count = omega arith in
         let more : eqb at (length code) ≡ false = ne-eqb at (length code) (λ z. omega arith) in
-        simp (none, more) at run
+        ap (λ (n : ℕ). spent at n (stateOf k m)) all ∙ (simp more at (subst (λ (n : ℕ). runFrom read execute n code at count (stateOf k m) ≡ R) e run))
 
   -- a step over lent registers
-  module _ (registers integers m : List ℕ) (marks : Marks) (run : remaining (budget - count) code at count (stateOf (machineOf registers integers marks) m) ≡ R)
-      (here : at < length code) (counted : count ≤ budget) (unspent : count ≡ budget → ⊥) (code-fits : length code ≤ longestCode)
+  module _ (registers integers m : List ℕ) (marks : Marks) (run : remaining rest code at count (stateOf (machineOf registers integers marks) m) ≡ R)
+      (here : at < length code) (within : rest ≤ budget) (unspent : rest ≡ 0 → ⊥) (code-fits : length code ≤ longestCode)
       (m₀ : List ℕ) (kept : length m ≡ length m₀) (memory-fits : length m₀ ≤ longestMemory)
       (moved : Moved) (registers′ integers′ m′ : List ℕ) (bar : ℕ) (barred : bar ≡ barredBy marks)
       (advanced : Advanced moved registers integers bar code at m registers′ integers′ m′) where
@@ -71,13 +77,19 @@ module _ (code : List ℕ) (at count budget : ℕ) (R : Answer State) where
     abbrev t : State
     t = stateOf (machineOf registers′ integers′ (tagged marks (moved .valid))) m′
 
-    turned : onward (runFrom read execute (budget - (count + 1)) code) count (stepAt code at s) ≡ R
+    -- how the run goes on after it
+    abbrev after : ℕ → ℕ → State → Answer State
+    after = runFrom read execute (rest - 1) code
+
+    turned : onward after count (stepAt code at s) ≡ R
     unfolding remaining
     turned =
-        let one : budget - count ≡ suc (budget - (count + 1)) = omega arith in
         let fits : length m ≤ longestMemory = omega arith in
-        sym (turn code at s (le-ltb longestMemory (length m) fits) (le-ltb longestCode (length code) code-fits) (budget - (count + 1)) count (ne-eqb at (length code) (λ z. omega arith)))
-        ∙ (simp one at run)
+        sym (turn code at s (le-ltb longestMemory (length m) fits) (le-ltb longestCode (length code) code-fits) (rest - 1) count (ne-eqb at (length code) (λ z. omega arith)))
+        ∙ ap (λ (n : ℕ). runFrom read execute n code at count s) one ∙ run
+      where
+        one : suc (rest - 1) ≡ rest
+        one = omega (arith, unspent)
 
     completes : moved .refusal ≡ 0 → completed (moved .next) t ≡ stepAt code at s
     completes e = simp (eq-eqb (moved .refusal) 0 e) at (advanced .ends marks barred)
@@ -87,24 +99,25 @@ module _ (code : List ℕ) (at count budget : ℕ) (R : Answer State) where
         let fits : length m ≤ longestMemory = omega arith in
         step-within code (le-ltb longestCode (length code) code-fits) at (moved .next) s t (le-ltb longestMemory (length (s .memory)) fits) (sym (completes e))
 
-    pub run-on : moved .refusal ≡ 0 → remaining (budget - (count + 1)) code (moved .next) (count + 1) t ≡ R
+    pub run-on : moved .refusal ≡ 0 → remaining (rest - 1) code (moved .next) (budget - (rest - 1)) t ≡ R
     unfolding remaining
-    run-on e =
-        ap (λ (n : ℕ). runFrom read execute (budget - (count + 1)) code (moved .next) n t) (add-one count)
-        ∙ ap (onward (runFrom read execute (budget - (count + 1)) code) count) (completes e) ∙ turned
+    run-on e = ap (λ (n : ℕ). after (moved .next) n t) one-more ∙ ap (onward after count) (completes e) ∙ turned
+      where
+        one-more : budget - (rest - 1) ≡ suc count
+        one-more = omega (arith, unspent)
 
     pub run-refused : (moved .refusal ≡ 0 → ⊥)
         → paperOfRun (record { end = Refused (moved .refusal); at = moved .next; count = count; machine = machineOf registers′ integers′ marks }) m′ ≡ R
     run-refused e =
         let refuses : refusedWith (moved .refusal) (moved .next) (stateOf (machineOf registers′ integers′ marks) m′) ≡ stepAt code at s =
         simp (ne-eqb (moved .refusal) 0 e) at (advanced .ends marks barred) in
-        ap (onward (runFrom read execute (budget - (count + 1)) code) count) refuses ∙ turned
+        ap (onward after count) refuses ∙ turned
 
 -- the tag mark bars nothing
 pub still-barred : (bar : ℕ) (marks : Marks) (valid : Bool) → bar ≡ barredBy marks → bar ≡ barredBy (tagged marks valid)
 unfolding barredBy
 still-barred bar marks valid h = h
 
-pub ruleset starting = (needs, run-memory, run-code, run-starts)
+pub ruleset starting = (needs, run-memory, run-code, run-whole)
 
-pub ruleset turning = (needs, run-spent, run-done, run-within, run-on, run-refused, still-barred)
+pub ruleset turning = (needs, run-starts, run-spent, run-done, run-within, run-on, still-barred)

@@ -31,6 +31,10 @@ module _ (registers integers : List ℕ) (bar : ℕ) (code : List ℕ) (at : ℕ
   unfolding performed
   ended-store m′ e h = record { ends = λ marks b. simp (e, ← h) at (g .steps marks b) }
 
+  pub ended-quadword : (m′ : List ℕ) → work .what ≡ toStore → work .number ≡ 8 → m′ ≡ stored m (work .place) 8 (work .value)
+      → Ends 0 (work .next) true registers integers m′
+  ended-quadword m′ e n h = ended-store m′ e (rw n h)
+
   pub ended-integer : (integers′ : List ℕ) → work .what ≡ toInteger → integers′ ≡ set integers (work .place) (work .value % 2 ^ 32)
       → Ends 0 (work .next) true registers integers′ m
   unfolding performed
@@ -52,7 +56,7 @@ module _ (registers integers : List ℕ) (bar : ℕ) (code : List ℕ) (at : ℕ
 
 pub ruleset operating = (needs, register-there, register-offset, ended-operate)
 
-pub ruleset storing = (needs, ended-store)
+pub ruleset storing = (needs, ended-quadword, ended-store)
 
 pub ruleset putting = (needs, integer-there, ended-integer)
 

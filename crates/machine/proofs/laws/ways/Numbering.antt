@@ -1,6 +1,6 @@
 -- The forms by their numbers in the table, each with its way: those of a destination and a source whatever register file and size r/m has. Rules for the
 -- function that sorts them.
-use Rattle.basis.specs.Names.{_≡_, refl, _⊎_, Bool, true, false, _||_, List, [], _∷_, ℕ, _/_, _%_, _^_, _≤_, _<_, eqb}
+use Rattle.basis.specs.Names.{_≡_, refl, _⊎_, Bool, true, false, cond, _||_, List, [], _∷_, ℕ, _/_, _%_, _^_, _≤_, _<_, eqb}
 use Rattle.basis.proofs.Names.{sym, ap, subst, _∙_, inl, inr, false≢true, arith, needs, ne-eqb, eqb-true, le-leb, lt-leb}
 use Rattle.words.specs.Number.{bytes}
 use Rattle.codec.specs.Forms.{written, updated, File, mmxFile, integerFile, rm/mem, mmreg1, Form, pair, alone, mmreg1·imm8/2/4/6, mmreg1·imm8/2/6, isAmong, memorySize}
@@ -9,7 +9,7 @@ use Rattle.manual.specs.Instructions.{keptBy}
 use Rattle.machine.specs.declared.ways.Way.{Way}
 use Rattle.machine.specs.declared.ways.Way.the-variants.{Empties, Shifts, Stores, Loads, Computes}
 use Rattle.machine.specs.inner.Spots.{fileIn}
-use Rattle.machine.specs.inner.Ways.{wayOf, hasTwo}
+use Rattle.machine.specs.inner.Ways.{isStore, wayOf, hasTwo}
 use Rattle.machine.specs.inner.Works.{numbers, isListed, Listed}
 
 -- the register file and the size of r/m: up to number 17, MOVD's, an integer register, else an MMX register; one to eight bytes; and what the operand
@@ -58,7 +58,7 @@ settled : (P : ℕ → Type 0) (xs : List ℕ) {R : Type 0} → R → Cases P xs
 settled P [] r = r
 settled P (x ∷ xs) r = λ p. settled P xs r
 
-among : (P : ℕ → Type 0) (n : ℕ) (xs : List ℕ) → isAmong n xs ≡ true → Cases P xs (P n)
+pub among : (P : ℕ → Type 0) (n : ℕ) (xs : List ℕ) → isAmong n xs ≡ true → Cases P xs (P n)
 among P n [] e = absurd (false≢true e)
 among P n (x ∷ xs) e = by (eqb n x) refl e (among P n xs)
   where
@@ -129,6 +129,16 @@ module _ (n : ℕ) where
   unfolding wayOf
   way-computes h s l =
       simp (le-leb 16 n h, ne-eqb n 16 (λ e. s (inl e)), ne-eqb n 18 (λ e. s (inr e)), ne-eqb n 17 (λ e. l (inl e)), ne-eqb n 19 (λ e. l (inr e)))
+
+-- from 16 on there are two operands
+pub two-from : (n : ℕ) → 16 ≤ n → hasTwo (wayOf n) ≡ true
+unfolding wayOf
+two-from n h = simp (le-leb 16 n h) (by (isStore n) (eqb n 17 || eqb n 19))
+  where
+    by : (s l : Bool) → hasTwo (cond s Stores (cond l Loads Computes)) ≡ true
+    by true l = refl
+    by false true = refl
+    by false false = refl
 
 -- the answer of the code by which way it is
 pub two-by : (y z : Way) (t : Bool) → y ≡ z → t ≡ hasTwo z → t ≡ hasTwo y

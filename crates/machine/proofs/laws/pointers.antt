@@ -1,0 +1,2 @@
+-- Where operands in memory start.
+pub mod Pointing

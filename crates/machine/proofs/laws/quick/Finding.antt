@@ -1,0 +1,77 @@
+-- What is found after an opcode: two registers, a register and memory, a shift's register and immediate, or nothing more.
+use Rattle.basis.specs.Names.{_≡_, refl, true, List, ℕ, _+_, _/_, _^_, _≤_, _<_, length, getD, drop}
+use Rattle.basis.proofs.Names.{sym, ap, ap₂, _∙_, add-zero, arith}
+use Rattle.codec.specs.Forms.{Form, allows}
+use Rattle.codec.specs.Opcodes.{escape}
+use Rattle.codec.specs.Operands.{upper, middle, lower, operandOf, noOperand}
+use Rattle.codec.specs.Table.{formOf}
+use Rattle.codec.specs.Reader.{reads}
+use Rattle.codec.specs.Reads.{instructionOf, immediateReader, sibReader}
+use Rattle.codec.specs.Finding.{found}
+use Rattle.codec.specs.declared.Found.{Found}
+use Rattle.codec.specs.declared.Operand.{Operand}
+use Rattle.codec.proofs.FormNumbers.{allowed-past, immediate-past, immediate-before, immediate-shift}
+use Rattle.codec.proofs.Steps.{form-bare, form-on, modrm-on, sib-register, immediate-on, number-1}
+use Rattle.machine.specs.declared.pointers.Pointer.{Pointer}
+use Rattle.machine.specs.inner.Pointers.{Points}
+use Rattle.machine.specs.inner.Quick.{afterOpcode}
+
+-- an instruction with this opcode, as it is found
+abbrev pub foundAs : ℕ → ℕ → Operand → ℕ → ℕ → Found
+foundAs entry second w immediate next = record { refusal = 0; entry = entry; instruction = instructionOf escape second w immediate; next = next }
+
+module _ (entry second : ℕ) (code : List ℕ) (at : ℕ) where
+  abbrev n : ℕ
+  n = entry / 2 ^ 24
+
+  abbrev form : Form
+  form = formOf n
+
+  abbrev modrm : ℕ
+  modrm = getD code at 0
+
+  -- EMMS is whole
+  pub after-alone : n ≡ 1 → at ≤ length code → foundAs entry second noOperand 0 at ≡ afterOpcode entry second code at
+  after-alone e h =
+      immediate-on code at form escape second entry (foundAs entry second noOperand 0 at) noOperand 0 (immediate-before n (omega arith)) 0 (omega arith) refl
+      (ap (foundAs entry second noOperand 0) (sym (add-zero at)))
+      ∙ ap (found entry) (sym (form-bare n escape second at (drop at code) e))
+
+  -- a ModRM byte that the form allows
+  module _ (more : 2 ≤ n) (here : at < length code) where
+    after-modrm : (x : Found) → true ≡ allows form (upper modrm) (middle modrm) (lower modrm)
+        → x ≡ found entry (reads (sibReader form escape second modrm) (at + 1) (drop (at + 1) code)) → x ≡ afterOpcode entry second code at
+    after-modrm x t e =
+        modrm-on code at form escape second entry x true t here refl e
+        ∙ ap (found entry) (sym (form-on n escape second at (drop at code) (λ z. omega arith) (λ z. omega arith)))
+
+    module _ (register : 192 ≤ modrm) (byte : modrm < 256) where
+      after-register : (v k : ℕ) → true ≡ allows form (upper modrm) (middle modrm) (lower modrm)
+          → foundAs entry second (operandOf modrm 0 0) v (at + 1 + k) ≡ found entry (reads (immediateReader form escape second (operandOf modrm 0 0)) (at + 1) (drop (at + 1) code))
+          → foundAs entry second (operandOf modrm 0 0) v (at + 1 + k) ≡ afterOpcode entry second code at
+      after-register v k t e =
+          after-modrm (foundAs entry second (operandOf modrm 0 0) v (at + 1 + k)) t
+          (sib-register code (at + 1) form escape second entry (foundAs entry second (operandOf modrm 0 0) v (at + 1 + k)) modrm (operandOf modrm 0 0) register byte refl e)
+
+      pub after-registers : 3 < n → foundAs entry second (operandOf modrm 0 0) 0 (at + 1) ≡ afterOpcode entry second code at
+      after-registers h =
+          ap (foundAs entry second (operandOf modrm 0 0) 0) (sym (add-zero (at + 1)))
+          ∙ after-register 0 0 (allowed-past n _ _ _ h)
+          (immediate-on code (at + 1) form escape second entry (foundAs entry second (operandOf modrm 0 0) 0 (at + 1 + 0)) (operandOf modrm 0 0) 0 (immediate-past n h) 0 (omega arith) refl refl)
+
+      pub after-shift : (v : ℕ) → n ≤ 3 → true ≡ allows form (upper modrm) (middle modrm) (lower modrm) → at + 1 < length code → v ≡ getD code (at + 1) 0
+          → foundAs entry second (operandOf modrm 0 0) v (at + 1 + 1) ≡ afterOpcode entry second code at
+      after-shift v h t l e =
+          after-register v 1 t
+          (immediate-on code (at + 1) form escape second entry (foundAs entry second (operandOf modrm 0 0) v (at + 1 + 1)) (operandOf modrm 0 0) 1 (immediate-shift n h more) v
+          (omega arith) (number-1 code (at + 1) 1 v refl (omega (arith, e)) (omega arith)) refl)
+
+    pub after-memory : (integers : List ℕ) (p : Pointer) (from byte : ℕ) → from ≡ at + 1 → byte ≡ modrm → (t : Points p integers code from byte) → 3 < n
+        → foundAs entry second (operandOf byte (t .sib) (t .displacement)) 0 (p .next) ≡ afterOpcode entry second code at
+    after-memory integers p from byte f e t h =
+        let w = operandOf byte (t .sib) (t .displacement) in
+        after-modrm (foundAs entry second w 0 (p .next)) (allowed-past n _ _ _ h)
+        (immediate-on code (p .next) form escape second entry (foundAs entry second w 0 (p .next)) w 0 (immediate-past n h) 0 (omega arith) refl
+        (ap (foundAs entry second w 0) (sym (add-zero (p .next))))
+        ∙ t .read form escape second entry
+        ∙ ap₂ (λ (k b : ℕ). found entry (reads (sibReader form escape second b) k (drop k code))) f e)

@@ -1,0 +1,10 @@
+-- The run from a position on, as the loop of the code takes it.
+use Rattle.basis.specs.Names.{List, ℕ}
+use Rattle.reorder.specs.Run.{Answer, runFrom}
+use Rattle.manual.specs.State.{State}
+use Rattle.manual.specs.Instructions.{execute}
+use Rattle.manual.specs.Runs.{read}
+
+-- with what is left of its budget, and the count of instructions completed before the position
+unfoldable pub remaining : ℕ → List ℕ → ℕ → ℕ → State → Answer State
+remaining budget code at count s = runFrom read execute budget code at count s
