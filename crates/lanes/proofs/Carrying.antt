@@ -3,7 +3,7 @@
 use Rattle.basis.specs.Names.{_≡_, refl, ℕ, zero, suc, _+_, _*_, _/_, _%_, _^_, _<_}
 use Rattle.basis.proofs.Names.{sym, ap, ap₂, _∙_, add-mul, add-mod, mod-add-mod, mod-lt, mod-eq-of-lt, lt-trans, div-eq-of-lt, div-add-mod', arith, high, pow-pos}
 use Rattle.lanes.specs.Lane.{lane, build}
-use Rattle.lanes.proofs.Registers.{build-lt, built-of-lanes}
+use Rattle.lanes.proofs.Registers.{lane-lt, build-lt, built-of-lanes, lanes-decide}
 
 -- lanes at the same place add up, whatever their sums are
 pub add-builds : (w n : ℕ) (f g : ℕ → ℕ) → build w n f + build w n g ≡ build w n (λ i. f i + g i)
@@ -60,3 +60,12 @@ module _ (w x y : ℕ) (room : (i : ℕ) → i < 64 / w → lane w i x + lane w 
   pub lanes-add-lt : w * (64 / w) ≡ 64 → x < 2 ^ 64 → y < 2 ^ 64 → x + y < 2 ^ 64
   lanes-add-lt whole hx hy =
       rw (whole, mod-eq-of-lt hx, mod-eq-of-lt hy) at (below-lt w (64 / w) x y room)
+
+-- registers whose lanes add up to the lanes of a third add up to it
+pub lanes-sum : (w x y s : ℕ) → w * (64 / w) ≡ 64 → x < 2 ^ 64 → y < 2 ^ 64 → s < 2 ^ 64
+    → ((i : ℕ) → i < 64 / w → lane w i x + lane w i y ≡ lane w i s) → x + y ≡ s
+lanes-sum w x y s whole hx hy hs same =
+    lanes-decide w (64 / w) (x + y) s (rw whole (lanes-add-lt w x y room whole hx hy)) (rw whole hs) (λ i k. lanes-add w x y room i k ∙ same i k)
+  where
+    room : (i : ℕ) → i < 64 / w → lane w i x + lane w i y < 2 ^ w
+    room i k = rw (same i k) (lane-lt w i s)

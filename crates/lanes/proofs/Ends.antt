@@ -1,8 +1,8 @@
 -- The ends of the signed range, in every lane the one on the lane's side: the top bits, and all bits but the top bit, added.
 use Rattle.basis.specs.Names.{_≡_, ℕ, _+_, _-_, _/_, _^_, _≤_, _<_}
 use Rattle.basis.proofs.Names.{ap₂, _∙_, arith, needs, pow-pos}
-use Rattle.lanes.specs.Lane.{lane, register}
-use Rattle.lanes.specs.inner.EveryLane.{repeated, rests, topBit, rangeEnd}
+use Rattle.lanes.specs.Lane.{lane, register, topBit}
+use Rattle.lanes.specs.inner.EveryLane.{repeated, rests, rangeEnd}
 use Rattle.lanes.proofs.Registers.{lane-lt, register-lt, lane-register}
 use Rattle.lanes.proofs.Powers.{halves}
 use Rattle.lanes.proofs.Carrying.{add-builds}

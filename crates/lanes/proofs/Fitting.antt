@@ -1,9 +1,9 @@
--- Every lane of every rule fits its width: what is wrapped does, and so do ones, lanes and what a shift leaves of them.
-use Rattle.basis.specs.Names.{ℕ, _+_, _*_, _/_, _^_, _<_, min, Bool, true, false, eqb, ℤ, pos, negsuc, ltZ}
-use Rattle.basis.proofs.Names.{mod-lt, arith, pow-pos}
-use Rattle.lanes.specs.Lane.{lane}
+-- Every lane of every rule fits its width: what is wrapped does, and so do ones, lanes, what a shift leaves of them, means and high products.
+use Rattle.basis.specs.Names.{ℕ, _+_, _*_, _/_, _%_, _^_, _<_, min, Bool, true, false, cond, eqb, ltb, ℤ, pos, negsuc, ltZ}
+use Rattle.basis.proofs.Names.{mod-lt, le-of-lt, lt-of-le-of-lt, mul-le-mul-left, div-lt-iff-lt-mul, arith, pow-pos, digits-lt}
+use Rattle.lanes.specs.Lane.{lane, topBit}
 use Rattle.lanes.specs.Signed.{signed, wrap}
-use Rattle.lanes.specs.Rules.{pairwise, sum, difference, sumSigned, differenceSigned, sumUnsigned, differenceUnsigned, allOnes, equal, greater, productLow, productHigh, productSum, pack, unpack, shift, left, right, rightSigned}
+use Rattle.lanes.specs.Rules.{pairwise, sum, difference, sumSigned, differenceSigned, sumUnsigned, differenceUnsigned, allOnes, equal, greater, productLow, productHigh, productSum, pack, unpack, shift, left, right, rightSigned, blend, mean, insert, maximumSigned, maximumUnsigned, minimumSigned, minimumUnsigned, productHighUnsigned}
 use Rattle.lanes.proofs.Registers.{lane-lt}
 use Rattle.lanes.proofs.Powers.{shifted-fits}
 
@@ -83,4 +83,50 @@ pub right-signed-fits : Fits (shift rightSigned)
 unfolding shift rightSigned
 right-signed-fits = record { fits = λ w a c i. wrap-lt w _ }
 
-pub ruleset fitting = (product-low-fits, product-high-fits, product-sum-fits)
+-- one of two numbers that fit, and one of two lanes
+chosen-lt : (n x y : ℕ) (t : Bool) → x < n → y < n → cond t x y < n
+chosen-lt n x y true h k = h
+chosen-lt n x y false h k = k
+
+either-lt : (w a b i : ℕ) (t : Bool) → cond t (lane w i a) (lane w i b) < 2 ^ w
+either-lt w a b i t = chosen-lt (2 ^ w) (lane w i a) (lane w i b) t (lane-lt w i a) (lane-lt w i b)
+
+pub blend-fits : (mask : ℕ) → Fits (blend mask)
+unfolding blend
+blend-fits mask = record { fits = λ w a b i. either-lt w b a i (eqb (topBit w mask i) 1) }
+
+pub mean-fits : Fits (pairwise mean)
+unfolding pairwise mean
+mean-fits = record { fits = λ w a b i. omega (arith, lane-lt w i a, lane-lt w i b) }
+
+pub insert-fits : (place : ℕ) → Fits (insert place)
+unfolding insert
+insert-fits place =
+    record { fits = λ w a b i. chosen-lt (2 ^ w) (b % 2 ^ w) (lane w i a) (eqb i (place % (64 / w))) (mod-lt b (pow-pos w)) (lane-lt w i a) }
+
+pub maximum-signed-fits : Fits (pairwise maximumSigned)
+unfolding pairwise maximumSigned
+maximum-signed-fits = record { fits = λ w a b i. either-lt w a b i (ltZ (signed w (lane w i b)) (signed w (lane w i a))) }
+
+pub maximum-unsigned-fits : Fits (pairwise maximumUnsigned)
+unfolding pairwise maximumUnsigned
+maximum-unsigned-fits = record { fits = λ w a b i. either-lt w a b i (ltb (lane w i b) (lane w i a)) }
+
+pub minimum-signed-fits : Fits (pairwise minimumSigned)
+unfolding pairwise minimumSigned
+minimum-signed-fits = record { fits = λ w a b i. either-lt w b a i (ltZ (signed w (lane w i b)) (signed w (lane w i a))) }
+
+pub minimum-unsigned-fits : Fits (pairwise minimumUnsigned)
+unfolding pairwise minimumUnsigned
+minimum-unsigned-fits = record { fits = λ w a b i. either-lt w b a i (ltb (lane w i b) (lane w i a)) }
+
+-- a product of two numbers of w bits has twice as many
+pub product-lt : (w x y : ℕ) → x < 2 ^ w → y < 2 ^ w → x * y < 2 ^ w * 2 ^ w
+product-lt w x y h k = lt-of-le-of-lt (mul-le-mul-left x (le-of-lt k)) (omega (arith, digits-lt {r = 0} h (pow-pos w)))
+
+pub product-high-unsigned-fits : Fits (pairwise productHighUnsigned)
+unfolding pairwise productHighUnsigned
+product-high-unsigned-fits =
+    record { fits = λ w a b i. div-lt-iff-lt-mul (pow-pos w) .1 (product-lt w (lane w i a) (lane w i b) (lane-lt w i a) (lane-lt w i b)) }
+
+pub ruleset fitting = (product-low-fits, product-high-fits, product-sum-fits, product-high-unsigned-fits)

@@ -19,6 +19,9 @@ pub mod Comparing
 pub mod SumBits
 pub mod AddingUnsigned
 pub mod AddingSigned
+pub mod Averaging
+pub mod Ranking
+pub mod AddingUp
 pub mod Shifting
 pub mod Exchanging
 pub mod Unpacking
@@ -26,6 +29,7 @@ pub mod Parting
 pub mod Clamping
 pub mod InTurn
 pub mod Packing
+pub mod Picking
 pub mod WordProducts
 pub mod Multiplying
 pub mod Wrapping

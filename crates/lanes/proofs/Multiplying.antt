@@ -1,11 +1,12 @@
--- What the lanes of the three multiplications are, from a product that 2 ^ 32 is added to.
-use Rattle.basis.specs.Names.{_≡_, ℕ, _+_, _-_, _/_, _%_, _^_, _<_, ℤ, pos, negsuc, subℕ, _+ℤ_, shrZ}
+-- What the lanes of the signed multiplications are, from a product that 2 ^ 32 is added to; and of the unsigned one.
+use Rattle.basis.specs.Names.{_≡_, refl, ℕ, _+_, _-_, _*_, _/_, _%_, _^_, _<_, ℤ, pos, negsuc, subℕ, _+ℤ_, shrZ}
 use Rattle.basis.proofs.Names.{sym, ap, ap₂, _∙_, mod-lt, arith, needs, pow-pos, field}
 use Rattle.lanes.specs.Lane.{lane}
 use Rattle.lanes.specs.Signed.{wrap}
-use Rattle.lanes.specs.Rules.{pairwise, product, productLow, productHigh, productSum}
+use Rattle.lanes.specs.Rules.{pairwise, product, productLow, productHigh, productSum, productHighUnsigned}
 use Rattle.lanes.proofs.Registers.{inner}
 use Rattle.lanes.proofs.Bitwise.{flip-high}
+use Rattle.lanes.proofs.Fitting.{product-lt}
 use Rattle.lanes.proofs.Integers.{plus, wrap-multiple}
 
 -- the high part of an integer's low bits
@@ -43,4 +44,17 @@ product-sum-is a b i p q e f =
         → product 16 (lane 16 k (lane 32 i a)) (lane 16 k (lane 32 i b)) ≡ product 16 (lane 16 n a) (lane 16 n b)
     of-words k n h g = ap₂ (product 16) (word a k n h g) (word b k n h g)
 
-pub ruleset multiplying = (needs, product-low-is, product-high-is, product-sum-is)
+module _ (a b i : ℕ) where
+  pub unsigned-fits : a / 2 ^ (16 * i) % 2 ^ 16 * (b / 2 ^ (16 * i) % 2 ^ 16) < 2 ^ 64
+  unsigned-fits =
+      omega (
+        arith,
+        product-lt 16 (a / 2 ^ (16 * i) % 2 ^ 16) (b / 2 ^ (16 * i) % 2 ^ 16)
+            (mod-lt (a / 2 ^ (16 * i)) (pow-pos 16)) (mod-lt (b / 2 ^ (16 * i)) (pow-pos 16)),
+      )
+
+  pub product-high-unsigned-is : a / 2 ^ (16 * i) % 2 ^ 16 * (b / 2 ^ (16 * i) % 2 ^ 16) / 2 ^ 16 ≡ pairwise productHighUnsigned 16 a b i
+  unfolding pairwise productHighUnsigned lane
+  product-high-unsigned-is = refl
+
+pub ruleset multiplying = (needs, product-low-is, product-high-is, product-sum-is, unsigned-fits, product-high-unsigned-is)

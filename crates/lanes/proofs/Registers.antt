@@ -57,6 +57,10 @@ above h m j k x l =
     split : m ≡ m - (j + k) + (j + k)
     split = omega arith
 
+-- lane i of n lies below the end of these
+pub below-end : (w i n : ℕ) → i < n → w + w * i ≤ w * n
+below-end w i n l = le-trans (le-of-eq (add-comm w (w * i) ∙ sym (mul-suc w i))) (mul-le-mul-left w l)
+
 -- lane i of what is built of f is f i
 pub lane-build : (w n : ℕ) (f : ℕ → ℕ) → ((i : ℕ) → i < n → f i < 2 ^ w) → (i : ℕ) → i < n → lane w i (build w n f) ≡ f i
 unfolding lane build
@@ -72,11 +76,8 @@ lane-build w (suc n) f h i l = ⊎-elim here (λ k. below k (lane-build w n f h�
         ∙ ap (λ (y : ℕ). y % 2 ^ w) (high (f n) (w * n) (build-lt w n f h′))
         ∙ mod-eq-of-lt (h n (lt-suc-self n)) ∙ ap f (sym e)
 
-    fits : i < n → w + w * i ≤ w * n
-    fits k = le-trans (le-of-eq (add-comm w (w * i) ∙ sym (mul-suc w i))) (mul-le-mul-left w k)
-
     below : i < n → build w n f / 2 ^ (w * i) % 2 ^ w ≡ f i → (f n * 2 ^ (w * n) + build w n f) / 2 ^ (w * i) % 2 ^ w ≡ f i
-    below k e = above (f n) (w * n) w (w * i) (build w n f) (fits k) ∙ e
+    below k e = above (f n) (w * n) w (w * i) (build w n f) (below-end w i n k) ∙ e
 
 pub lane-register : (w : ℕ) (f : ℕ → ℕ) → ((i : ℕ) → i < 64 / w → f i < 2 ^ w) → (i : ℕ) → i < 64 / w → lane w i (register w f) ≡ f i
 unfolding register

@@ -2,10 +2,10 @@
 -- zero.
 use Rattle.basis.specs.Names.{_≡_, refl, ℕ, _+_, _-_, _*_, _/_, _%_, _^_, _≤_, _<_, bitAnd, subℕ}
 use Rattle.basis.proofs.Names.{sym, ap, ap₂, _∙_, dite, one-mul, zero-mul, div-eq-of-lt, decLe, arith, needs, le-ltb, lt-ltb, pow-pos, shr-lt, high}
-use Rattle.lanes.specs.Lane.{lane, register}
+use Rattle.lanes.specs.Lane.{lane, register, topBit}
 use Rattle.lanes.specs.Signed.{signed}
 use Rattle.lanes.specs.Rules.{packed, pairwise, greater}
-use Rattle.lanes.specs.inner.EveryLane.{lowestBits, topBit}
+use Rattle.lanes.specs.inner.EveryLane.{lowestBits}
 use Rattle.lanes.proofs.Registers.{lane-lt, lane-zero, build-ext, register-lt, lane-register, mul-builds, lane-down, lanes-decide}
 use Rattle.lanes.proofs.Powers.{halves, top-and-rest, shifted-fits}
 use Rattle.lanes.proofs.Bitwise.{and-fits, flip-high, flip-low}

@@ -1,8 +1,8 @@
--- The packed operations by the manual's headings, in the order of document 01's table of opcode bytes, with MOVE, which leaves the source, and KEEP,
--- which leaves the destination: the number, lane width and rule of each.
+-- The packed operations by the manuals' headings, those of 004 in the order of document 01's table of opcode bytes, those of 000 in its own, with MOVE,
+-- which leaves the source, and KEEP, which leaves the destination: the number, lane width and rule of each.
 use Rattle.basis.specs.Names.{ℕ, List, [], _∷_, getD, bitAnd, bitOr, bitXor}
 use Rattle.lanes.specs.Signed.{clampSigned, clampUnsigned}
-use Rattle.lanes.specs.Rules.{packed, pairwise, sum, difference, sumSigned, differenceSigned, sumUnsigned, differenceUnsigned, equal, greater, productLow, productHigh, productSum, pack, unpackLow, unpackHigh, andNot, shift, left, right, rightSigned}
+use Rattle.lanes.specs.Rules.{packed, pairwise, sum, difference, sumSigned, differenceSigned, sumUnsigned, differenceUnsigned, equal, greater, productLow, productHigh, productSum, pack, unpackLow, unpackHigh, andNot, shift, left, right, rightSigned, blend, mean, extract, insert, maximumSigned, maximumUnsigned, minimumSigned, minimumUnsigned, topBits, productHighUnsigned, distances, shuffle}
 
 pub data Operation : Type 0 where
   PUNPCKLBW PUNPCKLWD PUNPCKLDQ : Operation
@@ -17,20 +17,41 @@ pub data Operation : Type 0 where
   PSUBSB PSUBSW PADDSB PADDSW : Operation
   PAND PANDN POR PXOR : Operation
   PSUBB PSUBW PSUBD PADDB PADDW PADDD : Operation
+  MASKMOVQ : Operation
+  PAVGB PAVGW : Operation
+  PEXTRW PINSRW : Operation
+  PMAXSW PMAXUB PMINSW PMINUB : Operation
+  PMOVMSKB PMULHUW PSADBW PSHUFW : Operation
   KEEP : Operation
 
--- what there is to say of an operation: its number, the width of its lanes in bits, and what it leaves of its destination and its source
+-- what there is to say of an operation: its number, the width of its lanes in bits, and what it leaves of its destination and its source; or, where a
+-- third number says which lanes of the source are taken, of all three
 pub record Described : Type 0 where
   pub number : ℕ
   pub width : ℕ
   pub leaves : ℕ → ℕ → ℕ
+  pub leavesOfThree : ℕ → ℕ → ℕ → ℕ
+
+-- of two numbers, by a function; a third is not looked at
+abbrev ofTwo : ℕ → ℕ → (ℕ → ℕ → ℕ) → Described
+ofTwo number width f = record { number = number; width = width; leaves = f; leavesOfThree = λ destination source third. f destination source }
 
 -- a rule in lanes of a width; and a function of the whole registers
 abbrev inLanes : ℕ → ℕ → (ℕ → ℕ → ℕ → ℕ → ℕ) → Described
-inLanes number width rule = record { number = number; width = width; leaves = packed rule width }
+inLanes number width rule = ofTwo number width (packed rule width)
 
 abbrev ofRegisters : ℕ → (ℕ → ℕ → ℕ) → Described
-ofRegisters number f = record { number = number; width = 64; leaves = f }
+ofRegisters number f = ofTwo number 64 f
+
+-- a rule that goes by a third number, in lanes of a width; without one the destination is kept
+abbrev byThird : ℕ → ℕ → (ℕ → ℕ → ℕ → ℕ → ℕ → ℕ) → Described
+byThird number width rule =
+    record {
+      number = number;
+      width = width;
+      leaves = λ destination source. destination;
+      leavesOfThree = λ destination source third. packed (rule third) width destination source;
+    }
 
 abbrev pub described : Operation → Described
 described PUNPCKLBW = inLanes 0 8 unpackLow
@@ -79,11 +100,30 @@ described PSUBD = inLanes 41 32 (pairwise difference)
 described PADDB = inLanes 42 8 (pairwise sum)
 described PADDW = inLanes 43 16 (pairwise sum)
 described PADDD = inLanes 44 32 (pairwise sum)
+-- the third number is the mask
+described MASKMOVQ = byThird 45 8 blend
+described PAVGB = inLanes 46 8 (pairwise mean)
+described PAVGW = inLanes 47 16 (pairwise mean)
+-- the second number is the place; of PINSRW the third
+described PEXTRW = ofTwo 48 16 (extract 16)
+described PINSRW = byThird 49 16 insert
+described PMAXSW = inLanes 50 16 (pairwise maximumSigned)
+described PMAXUB = inLanes 51 8 (pairwise maximumUnsigned)
+described PMINSW = inLanes 52 16 (pairwise minimumSigned)
+described PMINUB = inLanes 53 8 (pairwise minimumUnsigned)
+described PMOVMSKB = ofTwo 54 8 (λ source second. topBits 8 source)
+described PMULHUW = inLanes 55 16 (pairwise productHighUnsigned)
+described PSADBW = ofTwo 56 8 (distances 8)
+-- the second number is the order
+described PSHUFW = inLanes 57 16 shuffle
 -- an instruction that computes nothing keeps its destination
 described KEEP = ofRegisters 255 (λ destination source. destination)
 
 unfoldable pub operate : Operation → ℕ → ℕ → ℕ
 operate operation = described operation .leaves
+
+unfoldable pub operateThree : Operation → ℕ → ℕ → ℕ → ℕ
+operateThree operation = described operation .leavesOfThree
 
 -- each at its number; KEEP, 255, stands past the end
 abbrev pub operations : List Operation
@@ -92,7 +132,8 @@ operations =
     ∷ PUNPCKHBW ∷ PUNPCKHWD ∷ PUNPCKHDQ ∷ MOVE ∷ PCMPEQB ∷ PCMPEQW ∷ PCMPEQD
     ∷ PSRLW ∷ PSRLD ∷ PSRLQ ∷ PSRAW ∷ PSRAD ∷ PSLLW ∷ PSLLD ∷ PSLLQ ∷ PMULLW ∷ PMULHW ∷ PMADDWD
     ∷ PSUBUSB ∷ PSUBUSW ∷ PADDUSB ∷ PADDUSW ∷ PSUBSB ∷ PSUBSW ∷ PADDSB ∷ PADDSW
-    ∷ PAND ∷ PANDN ∷ POR ∷ PXOR ∷ PSUBB ∷ PSUBW ∷ PSUBD ∷ PADDB ∷ PADDW ∷ PADDD ∷ []
+    ∷ PAND ∷ PANDN ∷ POR ∷ PXOR ∷ PSUBB ∷ PSUBW ∷ PSUBD ∷ PADDB ∷ PADDW ∷ PADDD
+    ∷ MASKMOVQ ∷ PAVGB ∷ PAVGW ∷ PEXTRW ∷ PINSRW ∷ PMAXSW ∷ PMAXUB ∷ PMINSW ∷ PMINUB ∷ PMOVMSKB ∷ PMULHUW ∷ PSADBW ∷ PSHUFW ∷ []
 
 -- the operation that a number names; one that names none keeps the destination
 abbrev pub operationOf : ℕ → Operation

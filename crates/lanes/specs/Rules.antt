@@ -1,6 +1,7 @@
--- What each family of packed instructions leaves, once over the lane width w, in the order of document 01's section of that name.
-use Rattle.basis.specs.Names.{ℕ, _+_, _-_, _*_, _/_, _%_, _^_, min, Bool, cond, ltb, eqb, ℤ, pos, _+ℤ_, _-ℤ_, _*ℤ_, ltZ, shrZ, bitAnd}
-use Rattle.lanes.specs.Lane.{lane, register}
+-- What each family of packed instructions leaves, once over the lane width w, in the order of document 01's section of that name; then those of
+-- manual 000, in its order.
+use Rattle.basis.specs.Names.{ℕ, zero, suc, _+_, _-_, _*_, _/_, _%_, _^_, min, Bool, cond, ltb, eqb, ℤ, pos, _+ℤ_, _-ℤ_, _*ℤ_, ltZ, shrZ, bitAnd}
+use Rattle.lanes.specs.Lane.{lane, build, register, topBit}
 use Rattle.lanes.specs.Signed.{signed, wrap, clampSigned, clampUnsigned}
 
 -- A rule gives lane i of the result, of w bits, from the whole destination and source: rule w destination source i.
@@ -103,3 +104,65 @@ right w a count = a / 2 ^ count
 
 unfoldable pub rightSigned : ℕ → ℕ → ℕ → ℕ
 rightSigned w a count = wrap w (shrZ (signed w a) (2 ^ count))
+
+-- MASKMOVQ: the source's lanes where the mask's have their top bit set, else the destination's
+
+unfoldable pub blend : ℕ → ℕ → ℕ → ℕ → ℕ → ℕ
+blend mask w destination source i = cond (eqb (topBit w mask i) 1) (lane w i source) (lane w i destination)
+
+-- PAVG: the mean of unsigned lanes, rounded up
+
+unfoldable pub mean : ℕ → ℕ → ℕ → ℕ
+mean w a b = (a + b + 1) / 2
+
+-- PEXTR: one lane, the place counted round the register's lanes (of four words, by its low two bits)
+
+unfoldable pub extract : ℕ → ℕ → ℕ → ℕ
+extract w source place = lane w (place % (64 / w)) source
+
+-- PINSR: the low w bits of the source in that lane, and the destination's other lanes
+
+unfoldable pub insert : ℕ → ℕ → ℕ → ℕ → ℕ → ℕ
+insert place w destination source i = cond (eqb i (place % (64 / w))) (source % 2 ^ w) (lane w i destination)
+
+-- PMAX, PMIN: the greater and the lesser of two lanes, signed or unsigned
+
+unfoldable pub maximumSigned : ℕ → ℕ → ℕ → ℕ
+maximumSigned w a b = cond (ltZ (signed w b) (signed w a)) a b
+
+unfoldable pub maximumUnsigned : ℕ → ℕ → ℕ → ℕ
+maximumUnsigned w a b = cond (ltb b a) a b
+
+unfoldable pub minimumSigned : ℕ → ℕ → ℕ → ℕ
+minimumSigned w a b = cond (ltZ (signed w b) (signed w a)) b a
+
+unfoldable pub minimumUnsigned : ℕ → ℕ → ℕ → ℕ
+minimumUnsigned w a b = cond (ltb b a) b a
+
+-- PMOVMSK: the lanes' top bits, side by side
+
+unfoldable pub topBits : ℕ → ℕ → ℕ
+topBits w source = build 1 (64 / w) (topBit w source)
+
+-- PMULHU: the high half of the unsigned product
+
+unfoldable pub productHighUnsigned : ℕ → ℕ → ℕ → ℕ
+productHighUnsigned w a b = a * b / 2 ^ w
+
+-- PSAD: the distances of the unsigned lanes, added up; the sum is the whole result
+
+unfoldable pub distance : ℕ → ℕ → ℕ
+distance a b = cond (ltb a b) (b - a) (a - b)
+
+-- f 0 + f 1 + .., so many
+unfoldable pub total : ℕ → (ℕ → ℕ) → ℕ
+total zero f = 0
+total (suc n) f = f n + total n f
+
+unfoldable pub distances : ℕ → ℕ → ℕ → ℕ
+distances w destination source = total (64 / w) (λ i. distance (lane w i destination) (lane w i source))
+
+-- PSHUF: lane i is that lane of the source which the order's i-th digit names; a digit has as many values as there are lanes
+
+unfoldable pub shuffle : ℕ → ℕ → ℕ → ℕ → ℕ
+shuffle w source order i = let n = 64 / w in lane w (order / n ^ i % n) source

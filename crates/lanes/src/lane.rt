@@ -1,8 +1,8 @@
 // The lanes' widths, and registers by what stands in every lane.
 ghost use Rattle.basis.specs.Names.{_≡_, _+_, _-_, _^_, _<_, _≤_};
-ghost use Rattle.lanes.specs.Lane.{register};
+ghost use Rattle.lanes.specs.Lane.{register, topBit};
 ghost use Rattle.lanes.specs.inner.Widths.{Fills};
-ghost use Rattle.lanes.specs.inner.EveryLane.{repeated, lowestBits, rests, topBit, rangeEnd};
+ghost use Rattle.lanes.specs.inner.EveryLane.{repeated, lowestBits, rests, rangeEnd};
 
 // The lanes' widths. A doubleword is half a register, a quadword a whole one.
 pub(crate) const BYTE: u64 = 8;

@@ -1,19 +1,29 @@
 // What a packed operation leaves in a 64-bit register, from a destination and a source.
 mod compares;
+mod distances;
+mod extremes;
 mod lane;
+mod means;
 mod packs;
+mod picks;
 mod products;
 mod shifts;
 mod sums;
 
-ghost use Rattle.basis.specs.Names.{_≡_};
+ghost use Rattle.basis.specs.Names.{_≡_, _≤_};
 ghost use Rattle.lanes.specs.Operations.{operate, operationOf};
 use compares::equals;
 use compares::exceeds;
+use distances::distances;
+use extremes::greatest_signed;
+use extremes::greatest_unsigned;
+use extremes::least_signed;
+use extremes::least_unsigned;
 use lane::BYTE;
 use lane::DOUBLEWORD;
 use lane::QUADWORD;
 use lane::WORD;
+use means::average;
 use packs::pack_signed_bytes;
 use packs::pack_signed_words;
 use packs::pack_unsigned_bytes;
@@ -23,8 +33,14 @@ use packs::unpack_high_words;
 use packs::unpack_low_bytes;
 use packs::unpack_low_doublewords;
 use packs::unpack_low_words;
+pub use picks::blend;
+pub use picks::extract;
+pub use picks::insert;
+pub use picks::shuffle;
+pub use picks::top_bits;
 use products::multiply_add;
 use products::multiply_high;
+use products::multiply_high_unsigned;
 use products::multiply_low;
 use shifts::shift_left;
 use shifts::shift_right;
@@ -127,6 +143,33 @@ pub const PADDW: u8 = 43;
 
 pub const PADDD: u8 = 44;
 
+// Then those of manual 000, in its order.
+pub const MASKMOVQ: u8 = 45;
+
+pub const PAVGB: u8 = 46;
+
+pub const PAVGW: u8 = 47;
+
+pub const PEXTRW: u8 = 48;
+
+pub const PINSRW: u8 = 49;
+
+pub const PMAXSW: u8 = 50;
+
+pub const PMAXUB: u8 = 51;
+
+pub const PMINSW: u8 = 52;
+
+pub const PMINUB: u8 = 53;
+
+pub const PMOVMSKB: u8 = 54;
+
+pub const PMULHUW: u8 = 55;
+
+pub const PSADBW: u8 = 56;
+
+pub const PSHUFW: u8 = 57;
+
 // No place in the list: a number that names none.
 pub const KEEP: u8 = 255;
 
@@ -180,6 +223,31 @@ pub fn operate(operation: u8, destination: u64, source: u64) -> u64
         PADDB => add(destination, source, BYTE),
         PADDW => add(destination, source, WORD),
         PADDD => add(destination, source, DOUBLEWORD),
+        _ => extension(operation, destination, source),
+    }
+}
+
+// The same from the first operation of manual 000 on. Of PEXTRW, PMOVMSKB and PSHUFW the first number is the source, the second the place or the order.
+// MASKMOVQ and PINSRW go by a third number: without one they keep the destination. In a function of its own: in `operate` these texts would keep the
+// compiler from making each family of manual 004 at its widths.
+fn extension(operation: u8, destination: u64, source: u64) -> u64
+    requires { ⌜ 45 ≤ operation ⌝ }
+    ensures { λ r. ⌜ r ≡ operate (operationOf operation) destination source ⌝ }
+{
+    match operation {
+        MASKMOVQ => destination,
+        PAVGB => average(destination, source, BYTE),
+        PAVGW => average(destination, source, WORD),
+        PEXTRW => extract(destination, source),
+        PINSRW => destination,
+        PMAXSW => greatest_signed(destination, source, WORD),
+        PMAXUB => greatest_unsigned(destination, source, BYTE),
+        PMINSW => least_signed(destination, source, WORD),
+        PMINUB => least_unsigned(destination, source, BYTE),
+        PMOVMSKB => top_bits(destination),
+        PMULHUW => multiply_high_unsigned(destination, source),
+        PSADBW => distances(destination, source, BYTE),
+        PSHUFW => shuffle(destination, source),
         _ => destination,
     }
 }

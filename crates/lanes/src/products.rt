@@ -1,8 +1,8 @@
-// PMULLW, PMULHW and PMADDWD: signed products of words.
+// PMULLW, PMULHW and PMADDWD: signed products of words; PMULHUW: unsigned ones.
 ghost use Rattle.basis.specs.Names.{_≡_, _+_, _*_, _^_, _<_, subℕ};
 ghost use Rattle.lanes.specs.Lane.{lane};
 ghost use Rattle.lanes.specs.Signed.{signed};
-ghost use Rattle.lanes.specs.Rules.{packed, pairwise, product, productLow, productHigh, productSum};
+ghost use Rattle.lanes.specs.Rules.{packed, pairwise, product, productLow, productHigh, productSum, productHighUnsigned};
 ghost use Rattle.lanes.specs.inner.Widths.{Within};
 use crate::lane::DOUBLEWORD;
 use crate::lane::DOUBLEWORD_RANGE;
@@ -88,6 +88,25 @@ pub(crate) fn multiply_add(a: u64, b: u64) -> u64
     let mut i: u64 = 0;
     while i < DOUBLEWORDS {
         lanes = with_lane(lanes, multiply_add_lane(a, b, i), DOUBLEWORD, i);
+        i += 1;
+    }
+    lanes
+}
+
+fn multiply_high_unsigned_lane(a: u64, b: u64, i: u64) -> u64
+    requires { ⌜ i < 4 ⌝ }
+    ensures { λ r. ⌜ r ≡ pairwise productHighUnsigned 16 a b i ⌝ }
+{
+    ((a >> (WORD * i)) % WORD_RANGE) * ((b >> (WORD * i)) % WORD_RANGE) / WORD_RANGE
+}
+
+pub(crate) fn multiply_high_unsigned(a: u64, b: u64) -> u64
+    ensures { λ r. ⌜ r ≡ packed (pairwise productHighUnsigned) 16 a b ⌝ }
+{
+    let mut lanes: u64 = 0;
+    let mut i: u64 = 0;
+    while i < WORDS {
+        lanes = with_lane(lanes, multiply_high_unsigned_lane(a, b, i), WORD, i);
         i += 1;
     }
     lanes

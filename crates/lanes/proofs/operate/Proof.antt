@@ -1,7 +1,8 @@
--- `operate` meets its contract: each arm calls the function of its operation.
+-- `operate` meets its contract: each arm calls the function of its operation, and the last that of the extension.
+use Rattle.basis.proofs.Names.{arith}
 use Rattle.lanes.specs.Rules.{andNot}
 use Rattle.lanes.specs.Operations.{operate}
-use Rattle.lanes.proofs.Naming.{naming, unnamed}
+use Rattle.lanes.proofs.Naming.{past, naming}
 use Rattle.lanes.proofs.operate.Statement.{statement}
 use Rattle.lanes.proofs.operate.Tie as tie
 
@@ -16,7 +17,8 @@ operate-spec =
     (λ c κs. search naming) (λ c κs. search naming) (λ c κs. search naming) (λ c κs. search naming) (λ c κs. search naming) (λ c κs. search naming)
     (λ c κs. search naming) (λ c κs. search naming) (λ c κs. search naming) (λ c κs. search naming) (λ c κs. search naming) (λ c κs. search naming)
     (λ c κs. search naming) (λ c κs. search naming) (λ c κs. search naming) (λ c κs. search naming) (λ c κs. search naming) (λ c κs. search naming)
-    (λ c κs. search naming) (λ c κs. search naming) (λ c κs. search naming) (λ c κs. search naming) (λ c. search naming) (λ c. search naming)
+    (λ c κs. search naming) (λ c κs. search naming) (λ c κs. search naming) (λ c κs. search naming)
+    (λ c κs. past (c .before .args .operation) 0 45 (omega arith) (c .match .rest)) (λ c. search naming) (λ c. search naming) (λ c. search naming)
     (λ c. search naming) (λ c. search naming) (λ c. search naming) (λ c. search naming) (λ c. search naming) (λ c. search naming)
     (λ c. search naming) (λ c. search naming) (λ c. search naming) (λ c. search naming) (λ c. search naming) (λ c. search naming)
     (λ c. search naming) (λ c. search naming) (λ c. search naming) (λ c. search naming) (λ c. search naming) (λ c. search naming)
@@ -24,5 +26,4 @@ operate-spec =
     (λ c. search naming) (λ c. search naming) (λ c. search naming) (λ c. search naming) (λ c. search naming) (λ c. search naming)
     (λ c. search naming) (λ c. search naming) (λ c. search naming) (λ c. search naming) (λ c. search naming) (λ c. search naming)
     (λ c. search naming) (λ c. search naming) (λ c. search naming) (λ c. search naming) (λ c. search naming) (λ c. search naming)
-    (λ c. search naming)
-    (λ c. unnamed (c .before .args .operation) (c .before .args .destination) (c .before .args .source) (c .match .rest)))
+    (λ c. search naming))

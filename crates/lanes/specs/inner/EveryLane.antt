@@ -1,7 +1,7 @@
 -- Registers by what stands in every lane: one number, the lowest bit, all bits but the top bit, the top bit of another register's lane, or the end of
 -- the signed range on that lane's side.
-use Rattle.basis.specs.Names.{ℕ, _+_, _-_, _/_, _^_}
-use Rattle.lanes.specs.Lane.{lane, register}
+use Rattle.basis.specs.Names.{ℕ, _+_, _-_, _^_}
+use Rattle.lanes.specs.Lane.{register, topBit}
 
 -- x in every lane
 unfoldable pub repeated : ℕ → ℕ → ℕ
@@ -14,10 +14,6 @@ lowestBits w = repeated w 1
 -- all bits but the top bit, which are the greatest signed number, in every lane
 abbrev pub rests : ℕ → ℕ
 rests w = repeated w (2 ^ (w - 1) - 1)
-
--- the top bit of lane i, as 0 or 1
-unfoldable pub topBit : ℕ → ℕ → ℕ → ℕ
-topBit w x i = lane w i x / 2 ^ (w - 1)
 
 -- the end of the signed range on the side of lane i: the greatest number, or the least, which has the top bit alone
 unfoldable pub rangeEnd : ℕ → ℕ → ℕ → ℕ
