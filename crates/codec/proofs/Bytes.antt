@@ -1,7 +1,8 @@
--- What is found in a list: what every line passes is passed by the line found. So it is said of every second byte, and of every form's number.
+-- What is found in a list: what every line passes is passed by the line found. So it is said of every second byte, and of every form's number. And
+-- what is among the numbers of a list.
 use Rattle.basis.specs.Names.{ℕ, _≤_, _≡_, refl, Bool, true, false, cond, _&&_, _||_, List, [], _∷_, eqb, ltb}
-use Rattle.basis.proofs.Names.{arith, ltb-true, le-ltb, eqb-true}
-use Rattle.codec.specs.Forms.{Form, absent, mmreg1·mmreg2/mem64, forms}
+use Rattle.basis.proofs.Names.{sym, subst, false≢true, arith, ltb-true, le-ltb, eqb-true}
+use Rattle.codec.specs.Forms.{Form, absent, mmreg1·mmreg2/mem64, forms, isAmong}
 use Rattle.codec.specs.Contents.{lines}
 use Rattle.codec.specs.Opcodes.{find, formAt}
 use Rattle.codec.specs.Table.{formOf}
@@ -45,3 +46,20 @@ unfolding formAt
 form-beyond second p =
     found-has (λ x. x .form) absent (λ f. f ≡ absent) (λ x. eqb second (x .second)) (λ x. ltb (x .second) 256) refl
     (λ x e h. absurd (omega (arith, eqb-true second (x .second) e, ltb-true (x .second) 256 h))) lines refl
+
+-- what holds of each number of a list, said one after the other, holds of one that is among them
+abbrev Cases : (ℕ → Type 0) → List ℕ → Type 0 → Type 0
+Cases P [] R = R
+Cases P (x ∷ xs) R = P x → Cases P xs R
+
+settled : (P : ℕ → Type 0) (xs : List ℕ) {R : Type 0} → R → Cases P xs R
+settled P [] r = r
+settled P (x ∷ xs) r = λ p. settled P xs r
+
+pub among : (P : ℕ → Type 0) (n : ℕ) (xs : List ℕ) → isAmong n xs ≡ true → Cases P xs (P n)
+among P n [] e = absurd (false≢true e)
+among P n (x ∷ xs) e = by (eqb n x) refl e (among P n xs)
+  where
+    by : (t : Bool) → eqb n x ≡ t → (t || isAmong n xs) ≡ true → (isAmong n xs ≡ true → Cases P xs (P n)) → P x → Cases P xs (P n)
+    by true q e rest p = settled P xs (subst P (sym (eqb-true n x q)) p)
+    by false q e rest p = rest e

@@ -177,10 +177,16 @@ inside s more i n b e = by (leb n (length s)) refl
         readable i n (ap readPart (sym (take-append-drop n s)) ∙ (rw take-append-le at again))
     by false t = refusal codeEnds (three (record { more = more; are-bytes = b; instruction = i; size = n; found = e; longer = leb-false n (length s) t }))
 
--- a ModRM byte that every form of the list allows: registers, shifted right
-allowed : (second : ℕ) → allows (formAt second) 3 2 0 ≡ true
-unfolding allows
-allowed second = form-passes (λ f. allows f 3 2 0) refl refl second
+-- a ModRM byte that a form allows: registers, shifted right; else memory; else SFENCE's
+sample : Form → ℕ
+sample form = cond (allows form 3 2 0) 0xd0 (cond (allows form 0 0 0) 0x00 0xf8)
+
+allowed : (second : ℕ) → let modrm = sample (formAt second) in (modrm < 256) × (allows (formAt second) (upper modrm) (middle modrm) (lower modrm) ≡ true)
+unfolding sample allows
+allowed second = (
+  ltb-true _ _ (form-passes (λ f. ltb (sample f) 256) refl refl second),
+  form-passes (λ f. allows f (upper (sample f)) (middle (sample f)) (lower (sample f))) refl refl second,
+)
 
 -- after 0F and a second byte that is in the table
 module _ (second : ℕ) (there : isAbsent (formAt second) ≡ false) where
@@ -228,8 +234,10 @@ module _ (second : ℕ) (there : isAbsent (formAt second) ≡ false) where
       by : (t : Bool) → hasOperand (formAt second) ≡ t → (s : List ℕ) → Due (escape ∷ second ∷ s)
       by false bare s = due-bare s bare
       by true has [] =
-          let c = modrm-completed 0xd0 has (allowed second) [] in
-          inside (escape ∷ second ∷ []) (0xd0 ∷ c .more) (c .instruction) (c .size) (all-cons 0xd0 (c .more) (omega arith) (c .are-bytes)) (c .found)
+          let modrm = sample (formAt second) in
+          let (fits, passes) = allowed second in
+          let c = modrm-completed modrm has passes [] in
+          inside (escape ∷ second ∷ []) (modrm ∷ c .more) (c .instruction) (c .size) (all-cons modrm (c .more) fits (c .are-bytes)) (c .found)
       by true has (modrm ∷ s) = tested modrm s has (allows (formAt second) (upper modrm) (middle modrm) (lower modrm)) refl
 
 emms-byte : AllBytes (0x77 ∷ [])

@@ -1,8 +1,8 @@
 -- What the code's tests on a form's number say of the form: rules for the functions that take one.
-use Rattle.basis.specs.Names.{ℕ, zero, suc, _-_, _≤_, _<_, _≡_, refl, Bool, true, false, not, _&&_, List, [], _∷_, eqb}
-use Rattle.basis.proofs.Names.{sym, false≢true, arith, ne-eqb, eqb-true, not-true}
+use Rattle.basis.specs.Names.{ℕ, zero, suc, _+_, _≤_, _<_, _≡_, refl, Bool, true, false, not, _&&_, List, [], _∷_, eqb, ltb}
+use Rattle.basis.proofs.Names.{sym, subst, _∙_, and-true, or-false, false≢true, arith, needs, ne-eqb, eqb-true, eqb-false, ltb-true, ltb-false, not-true}
 use Rattle.words.proofs.Laws.{and-both}
-use Rattle.codec.specs.Forms.{Use, Slot, reg, rm, rm/mem, Form, isAbsent, hasOperand, slotAllows, slotsAllow, digitAmong, allows, immediateSize}
+use Rattle.codec.specs.Forms.{Use, Slot, reg, rm, rm/mem, mem, edi, fixed, Form, alone/7, isAbsent, hasOperand, isAmong, slotAllows, slotsAllow, digitAmong, allows, immediateSize}
 use Rattle.codec.specs.Table.{formOf}
 use Rattle.codec.proofs.Bytes.{number-passes}
 use Rattle.codec.proofs.Sizes.{sized-0, sized-1}
@@ -12,6 +12,9 @@ abbrev isFreeSlot : Slot → Bool
 isFreeSlot (reg file) = true
 isFreeSlot (rm file) = false
 isFreeSlot (rm/mem file size) = true
+isFreeSlot (mem size) = false
+isFreeSlot (edi size) = true
+isFreeSlot (fixed k) = false
 
 abbrev areFree : List (Use × Slot) → Bool
 areFree [] = true
@@ -24,14 +27,19 @@ noDigits (x ∷ xs) = false
 abbrev pub isFree : Form → Bool
 isFree form = areFree (form .operands) && noDigits (form .digits)
 
-slot-free : (x : Slot) (t : Bool) → isFreeSlot x ≡ true → slotAllows x t ≡ true
-slot-free (reg file) t e = refl
-slot-free (rm file) t e = absurd (false≢true e)
-slot-free (rm/mem file size) t e = refl
+slot-free : (x : Slot) (t : Bool) (other : ℕ) → isFreeSlot x ≡ true → slotAllows x t other ≡ true
+slot-free (reg file) t other e = refl
+slot-free (rm file) t other e = absurd (false≢true e)
+slot-free (rm/mem file size) t other e = refl
+slot-free (mem size) t other e = absurd (false≢true e)
+slot-free (edi size) t other e = refl
+slot-free (fixed k) t other e = absurd (false≢true e)
 
-slots-free : (xs : List (Use × Slot)) (t rest : Bool) → areFree xs ≡ true → rest ≡ true → slotsAllow xs t rest ≡ true
-slots-free [] t rest e h = h
-slots-free ((how, x) ∷ xs) t rest e h = let (a, b) = and-both (isFreeSlot x) (areFree xs) e in simp (slot-free x t a) (slots-free xs t rest b h)
+slots-free : (xs : List (Use × Slot)) (t : Bool) (other : ℕ) (rest : Bool) → areFree xs ≡ true → rest ≡ true → slotsAllow xs t other rest ≡ true
+slots-free [] t other rest e h = h
+slots-free ((how, x) ∷ xs) t other rest e h =
+    let (a, b) = and-both (isFreeSlot x) (areFree xs) e in
+    simp (slot-free x t other a) (slots-free xs t other rest b h)
 
 digits-free : (ds : List ℕ) (d : ℕ) → noDigits ds ≡ true → digitAmong ds d ≡ true
 digits-free [] d e = refl
@@ -41,22 +49,29 @@ pub free-allows : (form : Form) (mode digit other : ℕ) → isFree form ≡ tru
 unfolding allows
 free-allows form mode digit other e =
     let (a, b) = and-both (areFree (form .operands)) (noDigits (form .digits)) e in
-    slots-free (form .operands) (eqb mode 3) _ a (digits-free (form .digits) digit b)
+    slots-free (form .operands) (eqb mode 3) other _ a (digits-free (form .digits) digit b)
 
--- past the shifts: any operand, no immediate
-abbrev isPlain : Form → Bool
-isPlain form = isFree form && eqb (immediateSize form) 0
+-- what holds of so many numbers from one on, each
+abbrev Each : (ℕ → Type 0) → ℕ → ℕ → Type 0
+Each P first zero = Unit {0}
+Each P first (suc count) = P first × Each P (suc first) count
 
-past : (n : ℕ) → 3 < n → isPlain (formOf n) ≡ true
-past n h = number-passes isPlain 4 n h refl refl
+in-range : (P : ℕ → Type 0) (first count n : ℕ) → first ≤ n → n < first + count → Each P first count → P n
+in-range P first zero n p q h = absurd (omega arith)
+in-range P first (suc count) n p q (h, hs) = by (eqb n first) refl (in-range P (suc first) count n)
+  where
+    by : (t : Bool) → eqb n first ≡ t → (suc first ≤ n → n < suc first + count → Each P (suc first) count → P n) → P n
+    by true e further = subst P (sym (eqb-true n first e)) h
+    by false e further = further (omega (arith, eqb-false n first e)) (omega arith) hs
 
--- a shift's number is 2 or 3
-shifts : (P : ℕ → Type 0) (n : ℕ) → n ≤ 3 → 2 ≤ n → P 2 → P 3 → P n
-shifts P zero p q a b = absurd (omega arith)
-shifts P (suc zero) p q a b = absurd (omega arith)
-shifts P (suc (suc zero)) p q a b = a
-shifts P (suc (suc (suc zero))) p q a b = b
-shifts P (suc (suc (suc (suc k)))) p q a b = absurd (omega arith)
+below-four : (k : ℕ) → ltb k 4 ≡ isAmong k (0 ∷ 1 ∷ 2 ∷ 3 ∷ [])
+below-four k = by (ltb k 4) refl
+  where
+    by : (t : Bool) → ltb k 4 ≡ t → t ≡ isAmong k (0 ∷ 1 ∷ 2 ∷ 3 ∷ [])
+    by true e = in-range (λ j. true ≡ isAmong j (0 ∷ 1 ∷ 2 ∷ 3 ∷ [])) 0 4 k (omega arith) (ltb-true k 4 e) (refl, (refl, (refl, (refl, tt))))
+    by false e =
+        let h : 4 ≤ k = ltb-false k 4 e in
+        simp (ne-eqb k 0 (λ z. omega arith), ne-eqb k 1 (λ z. omega arith), ne-eqb k 2 (λ z. omega arith), ne-eqb k 3 (λ z. omega arith))
 
 two-up : (n : ℕ) → (n ≡ 0 → ⊥) → (n ≡ 1 → ⊥) → 2 ≤ n
 two-up zero p q = absurd (p refl)
@@ -74,53 +89,110 @@ not-emms zero l q = absurd (false≢true (sym l))
 not-emms (suc n) l q = with-operand (suc n) (λ e. omega arith) q .1
 
 module _ (n mode reg rm : ℕ) where
-  pub allowed-past : 3 < n → true ≡ allows (formOf n) mode reg rm
-  allowed-past h = sym (free-allows (formOf n) mode reg rm (and-both (isFree (formOf n)) _ (past n h) .0))
+  pub allowed-past : 15 < n → true ≡ allows (formOf n) mode reg rm
+  allowed-past h = sym (free-allows (formOf n) mode reg rm (number-passes isFree 16 n h refl refl))
 
   pub allowed-before : n < 2 → true ≡ allows (formOf n) mode reg rm
   unfolding allows
-  allowed-before h = before n h
-    where
-      before : (k : ℕ) → k < 2 → true ≡ allows (formOf k) mode reg rm
-      before zero p = refl
-      before (suc zero) p = refl
-      before (suc (suc k)) p = absurd (omega arith)
+  allowed-before h = in-range (λ k. true ≡ allows (formOf k) mode reg rm) 0 2 n (omega arith) h (refl, (refl, tt))
 
-  module _ (p : n ≤ 3) (q : 2 ≤ n) where
+  -- shifts by an immediate
+  module _ (p : 2 ≤ n) (q : n ≤ 3) where
     pub allowed-memory : (mode ≡ 3 → ⊥) → false ≡ allows (formOf n) mode reg rm
     unfolding allows
-    allowed-memory h =
-        shifts (λ k. false ≡ allows (formOf k) mode reg rm) n p q (simp (ne-eqb mode 3 h)) (simp (ne-eqb mode 3 h))
+    allowed-memory h = in-range (λ k. false ≡ allows (formOf k) mode reg rm) 2 2 n p (omega arith) (simp (ne-eqb mode 3 h), (simp (ne-eqb mode 3 h), tt))
 
-    module _ (m : mode ≡ 3) where
-      pub allowed-2 : reg ≡ 2 → true ≡ allows (formOf n) mode reg rm
+    pub allowed-digit : (t : Bool) → mode ≡ 3 → t ≡ isAmong reg (formOf n .digits) → t ≡ allows (formOf n) mode reg rm
+    unfolding allows
+    allowed-digit t m e = e ∙ in-range (λ k. isAmong reg (formOf k .digits) ≡ allows (formOf k) mode reg rm) 2 2 n p (omega arith) (simp m, (simp m, tt))
+
+  -- PINSRW and PSHUFW
+  pub allowed-both : 3 < n → n ≤ 5 → true ≡ allows (formOf n) mode reg rm
+  unfolding allows
+  allowed-both p q = in-range (λ k. true ≡ allows (formOf k) mode reg rm) 4 2 n p (omega arith) (refl, (refl, tt))
+
+  module _ (p : 5 < n) where
+    -- PEXTRW, PMOVMSKB and MASKMOVQ
+    pub allowed-register : n ≤ 8 → eqb mode 3 ≡ allows (formOf n) mode reg rm
+    unfolding allows
+    allowed-register q = in-range (λ k. eqb mode 3 ≡ allows (formOf k) mode reg rm) 6 3 n p (omega arith) (always, (always, (always, tt)))
+      where
+        always : eqb mode 3 ≡ (eqb mode 3 && true)
+        always = sym (and-true (eqb mode 3))
+
+    -- SFENCE
+    pub allowed-fence : (t : Bool) → n ≡ 9 → t ≡ allows alone/7 mode reg rm → t ≡ allows (formOf n) mode reg rm
+    allowed-fence t e h = rw e h
+
+    pub allowed-unused : 8 < n → (n ≡ 9 → ⊥) → n < 14 → true ≡ allows (formOf n) mode reg rm
+    unfolding allows
+    allowed-unused a b c = in-range (λ k. true ≡ allows (formOf k) mode reg rm) 10 4 n (omega (arith, b)) c (refl, (refl, (refl, (refl, tt))))
+
+    -- MOVNTQ and the prefetches
+    module _ (q : 14 ≤ n) (h : n ≤ 15) where
+      pub allowed-never : mode ≡ 3 → false ≡ allows (formOf n) mode reg rm
       unfolding allows
-      allowed-2 h = shifts (λ k. true ≡ allows (formOf k) mode reg rm) n p q (simp (m, h)) (simp (m, h))
+      allowed-never m = in-range (λ k. false ≡ allows (formOf k) mode reg rm) 14 2 n q (omega arith) (simp m, (simp m, tt))
 
-      pub allowed-6 : reg ≡ 6 → true ≡ allows (formOf n) mode reg rm
+      pub allowed-stream : (mode ≡ 3 → ⊥) → n ≡ 15 → true ≡ allows (formOf n) mode reg rm
       unfolding allows
-      allowed-6 h = shifts (λ k. true ≡ allows (formOf k) mode reg rm) n p q (simp (m, h)) (simp (m, h))
+      allowed-stream m e = simp (e, ne-eqb mode 3 m)
 
-      pub allowed-4 : reg ≡ 4 → eqb n 2 ≡ allows (formOf n) mode reg rm
+      pub allowed-prefetch : (mode ≡ 3 → ⊥) → (n ≡ 15 → ⊥) → ltb reg 4 ≡ allows (formOf n) mode reg rm
       unfolding allows
-      allowed-4 h = shifts (λ k. eqb k 2 ≡ allows (formOf k) mode reg rm) n p q (simp (m, h)) (simp (m, h))
+      allowed-prefetch m e =
+          let is : n ≡ 14 = omega (arith, e) in
+          rw is (simp (ne-eqb mode 3 m) (below-four reg))
 
-      pub allowed-none : (reg ≡ 2 → ⊥) → (reg ≡ 4 → ⊥) → (reg ≡ 6 → ⊥) → false ≡ allows (formOf n) mode reg rm
-      unfolding allows
-      allowed-none a b c =
-          shifts (λ k. false ≡ allows (formOf k) mode reg rm) n p q
-          (simp (m, ne-eqb reg 2 a, ne-eqb reg 4 b, ne-eqb reg 6 c))
-          (simp (m, ne-eqb reg 2 a, ne-eqb reg 6 c))
+module _ (mode reg rm : ℕ) where
+  pub fence-memory : (mode ≡ 3 → ⊥) → false ≡ allows alone/7 mode reg rm
+  unfolding allows
+  fence-memory h = simp (ne-eqb mode 3 h)
 
-pub immediate-past : (n : ℕ) → 3 < n → 0 ≡ immediateSize (formOf n)
-immediate-past n h = sym (eqb-true _ _ (and-both (isFree (formOf n)) _ (past n h) .1))
+  pub fence-other : mode ≡ 3 → (rm ≡ 0 → ⊥) → false ≡ allows alone/7 mode reg rm
+  unfolding allows
+  fence-other m h = simp (m, ne-eqb rm 0 h)
+
+  pub fence-digit : mode ≡ 3 → rm ≡ 0 → eqb reg 7 ≡ allows alone/7 mode reg rm
+  unfolding allows
+  fence-digit m h = simp (m, h) (sym (or-false (eqb reg 7)))
+
+-- from MOVNTQ on every mod but 11 is allowed
+pub allowed-in-memory : (n mode digit other : ℕ) → 15 ≤ n → (mode ≡ 3 → ⊥) → true ≡ allows (formOf n) mode digit other
+allowed-in-memory n mode digit other h m = by (eqb n 15) refl
+  where
+    by : (t : Bool) → eqb n 15 ≡ t → true ≡ allows (formOf n) mode digit other
+    by true e = allowed-stream n mode digit other (omega arith) (omega arith) (omega (arith, eqb-true n 15 e)) m (eqb-true n 15 e)
+    by false e = allowed-past n mode digit other (omega (arith, eqb-false n 15 e))
+
+-- the digits of a shift, whose number is 2 or 3
+module _ (n reg : ℕ) (p : 2 ≤ n) (q : n ≤ 3) where
+  abbrev Digit : Bool → Type 0
+  Digit t = t ≡ isAmong reg (formOf n .digits)
+
+  shift-by : (P : ℕ → Type 0) → P 2 → P 3 → P n
+  shift-by P a b = in-range P 2 2 n p (omega arith) (a, (b, tt))
+
+  pub digit-2 : reg ≡ 2 → Digit true
+  digit-2 h = rw h (shift-by (λ k. true ≡ isAmong 2 (formOf k .digits)) refl refl)
+
+  pub digit-6 : reg ≡ 6 → Digit true
+  digit-6 h = rw h (shift-by (λ k. true ≡ isAmong 6 (formOf k .digits)) refl refl)
+
+  pub digit-4 : reg ≡ 4 → Digit (eqb n 2)
+  digit-4 h = rw h (shift-by (λ k. eqb k 2 ≡ isAmong 4 (formOf k .digits)) refl refl)
+
+  pub digit-none : (reg ≡ 2 → ⊥) → (reg ≡ 4 → ⊥) → (reg ≡ 6 → ⊥) → Digit false
+  digit-none a b c =
+      shift-by (λ k. false ≡ isAmong reg (formOf k .digits)) (simp (ne-eqb reg 2 a, ne-eqb reg 4 b, ne-eqb reg 6 c)) (simp (ne-eqb reg 2 a, ne-eqb reg 6 c))
+
+pub immediate-past : (n : ℕ) → 6 < n → 0 ≡ immediateSize (formOf n)
+immediate-past n h = sym (eqb-true _ _ (number-passes (λ f. eqb (immediateSize f) 0) 7 n h refl refl))
 
 pub immediate-before : (n : ℕ) → n < 2 → 0 ≡ immediateSize (formOf n)
-immediate-before zero h = refl
-immediate-before (suc zero) h = refl
-immediate-before (suc (suc k)) h = absurd (omega arith)
+immediate-before n h = in-range (λ k. 0 ≡ immediateSize (formOf k)) 0 2 n (omega arith) h (refl, (refl, tt))
 
-pub immediate-shift : (n : ℕ) → n ≤ 3 → 2 ≤ n → 1 ≡ immediateSize (formOf n)
-immediate-shift n p q = shifts (λ k. 1 ≡ immediateSize (formOf k)) n p q refl refl
+pub immediate-there : (n : ℕ) → n ≤ 6 → 2 ≤ n → 1 ≡ immediateSize (formOf n)
+immediate-there n p q = in-range (λ k. 1 ≡ immediateSize (formOf k)) 2 5 n q (omega arith) (refl, (refl, (refl, (refl, (refl, tt)))))
 
-pub ruleset form-rules = (sized-0, sized-1, allowed-past, allowed-before, allowed-memory, allowed-2, allowed-6, allowed-4, allowed-none, immediate-past, immediate-before, immediate-shift)
+pub ruleset form-rules = (needs, sized-0, sized-1, allowed-past, allowed-before, allowed-memory, allowed-digit, allowed-both, allowed-register, allowed-fence, allowed-unused, allowed-never, allowed-stream, allowed-prefetch, fence-memory, fence-other, fence-digit, digit-2, digit-6, digit-4, digit-none, immediate-past, immediate-before, immediate-there)

@@ -1,31 +1,46 @@
--- The list has 47 headings with 57 lines, and each line is found by its bytes: by computation.
-use Rattle.basis.specs.Names.{_≡_, refl, cond, List, [], _∷_, _++_, map, Option, none, some, ℕ, eqb, length}
-use Rattle.codec.specs.Contents.{Line, contents, lines}
+-- The list has 47 headings of manual 004 with 57 lines, and 16 of manual 000 with 19, and each line is found by its bytes: by computation.
+use Rattle.basis.specs.Names.{_≡_, refl, Bool, false, not, _&&_, cond, List, [], _∷_, map, flatten, Option, none, some, ℕ, zero, suc, eqb, length}
+use Rattle.codec.specs.Forms.{isAbsent}
+use Rattle.codec.specs.Contents.{Line, contents, extensions, linesOf, lines}
 use Rattle.codec.specs.Opcodes.{formAt, operationAt}
+use Rattle.codec.specs.Table.{listed}
 
 -- what stands in reg: the digit, or anything, as 0
 abbrev regOf : Option ℕ → ℕ
 regOf none = 0
 regOf (some d) = d
 
--- the digits of the lines of a second byte, the last line's first
-abbrev only : Option ℕ → List ℕ
-only none = []
-only (some d) = d ∷ []
+abbrev isDigit : ℕ → Option ℕ → Bool
+isDigit digit none = false
+isDigit digit (some d) = eqb digit d
 
-abbrev digitsAt : ℕ → List Line → List ℕ
-digitsAt second [] = []
-digitsAt second (x ∷ xs) = digitsAt second xs ++ cond (eqb second (x .second)) (only (x .digit)) []
+-- a digit, once for each line of a second byte that has it
+abbrev withDigit : ℕ → ℕ → List Line → List ℕ
+withDigit second digit [] = []
+withDigit second digit (x ∷ xs) = cond (eqb second (x .second) && isDigit digit (x .digit)) (digit ∷ withDigit second digit xs) (withDigit second digit xs)
+
+-- the digits of the lines of a second byte, in ascending order
+abbrev digitsAt : ℕ → List ℕ
+digitsAt second = flatten (listed (λ digit. withDigit second digit lines) 0 8)
+
+-- the numbers from one on, of so many, that pass a test
+abbrev filter : (ℕ → Bool) → ℕ → ℕ → List ℕ
+filter test from zero = []
+filter test from (suc count) = cond (test from) (from ∷ filter test (suc from) count) (filter test (suc from) count)
 
 pub record Complete : Type 0 where
   pub headings : length contents ≡ 47
-  pub in-lines : length lines ≡ 57
+  pub in-lines : length (linesOf contents) ≡ 57
+  pub extension-headings : length extensions ≡ 16
+  pub extension-lines : length (linesOf extensions) ≡ 19
+  -- they have 68 second bytes
+  pub second-bytes : length (filter (λ second. not (isAbsent (formAt second))) 0 256) ≡ 68
   -- no line is hidden by another: its bytes have its form and its operation
   pub forms : map (λ x. formAt (x .second)) lines ≡ map (λ (x : Line). x .form) lines
   pub operations : map (λ x. operationAt (x .second) (regOf (x .digit))) lines ≡ map (λ (x : Line). x .operation) lines
   -- and its form has the digits of the lines with its second byte
-  pub digits : map (λ x. digitsAt (x .second) lines) lines ≡ map (λ (x : Line). x .form .digits) lines
+  pub digits : map (λ x. digitsAt (x .second)) lines ≡ map (λ (x : Line). x .form .digits) lines
 
 pub complete : Complete
-unfolding formAt operationAt
-complete = record { headings = refl; in-lines = refl; forms = refl; operations = refl; digits = refl }
+unfolding flatten formAt operationAt
+complete = record { headings = refl; in-lines = refl; extension-headings = refl; extension-lines = refl; second-bytes = refl; forms = refl; operations = refl; digits = refl }

@@ -1,8 +1,8 @@
--- The instructions: the manual's 47 headings in the order of its table of contents, each with its opcode bytes, forms and operations. Reading, writing,
--- effects and footprints all go by this list.
+-- The instructions: manual 004's 47 headings and the 16 of manual 000, in the order of their tables of contents, each with its opcode bytes, forms and
+-- operations. Reading, writing, effects and footprints all go by this list.
 use Rattle.basis.specs.Names.{ℕ, String, List, [], _∷_, _++_, Option, none, some}
-use Rattle.lanes.specs.Operations.{Operation, PUNPCKLBW, PUNPCKLWD, PUNPCKLDQ, PACKSSWB, PACKUSWB, PACKSSDW, PCMPGTB, PCMPGTW, PCMPGTD, PUNPCKHBW, PUNPCKHWD, PUNPCKHDQ, MOVE, PCMPEQB, PCMPEQW, PCMPEQD, PSRLW, PSRLD, PSRLQ, PSRAW, PSRAD, PSLLW, PSLLD, PSLLQ, PMULLW, PMULHW, PMADDWD, PSUBUSB, PSUBUSW, PADDUSB, PADDUSW, PSUBSB, PSUBSW, PADDSB, PADDSW, PAND, PANDN, POR, PXOR, PSUBB, PSUBW, PSUBD, PADDB, PADDW, PADDD, KEEP}
-use Rattle.codec.specs.Forms.{Form, alone, mmreg1·imm8/2/4/6, mmreg1·imm8/2/6, reg32/mem32←mmreg1, mmreg1←reg32/mem32, mmreg2/mem64←mmreg1, mmreg1·mmreg2/mem32, mmreg1·mmreg2/mem64, mmreg1←mmreg2/mem64}
+use Rattle.lanes.specs.Operations.{Operation, PUNPCKLBW, PUNPCKLWD, PUNPCKLDQ, PACKSSWB, PACKUSWB, PACKSSDW, PCMPGTB, PCMPGTW, PCMPGTD, PUNPCKHBW, PUNPCKHWD, PUNPCKHDQ, MOVE, PCMPEQB, PCMPEQW, PCMPEQD, PSRLW, PSRLD, PSRLQ, PSRAW, PSRAD, PSLLW, PSLLD, PSLLQ, PMULLW, PMULHW, PMADDWD, PSUBUSB, PSUBUSW, PADDUSB, PADDUSW, PSUBSB, PSUBSW, PADDSB, PADDSW, PAND, PANDN, POR, PXOR, PSUBB, PSUBW, PSUBD, PADDB, PADDW, PADDD, MASKMOVQ, PAVGB, PAVGW, PEXTRW, PINSRW, PMAXSW, PMAXUB, PMINSW, PMINUB, PMOVMSKB, PMULHUW, PSADBW, PSHUFW, KEEP}
+use Rattle.codec.specs.Forms.{Form, alone, mmreg1·imm8/2/4/6, mmreg1·imm8/2/6, reg32←mmreg2+imm8, mmreg1·reg32/mem16+imm8, mmreg1←mmreg2/mem64+imm8, reg32←mmreg2, edi·mmreg1·mmreg2, mem8/0/1/2/3, alone/7, mem64←mmreg1, reg32/mem32←mmreg1, mmreg1←reg32/mem32, mmreg2/mem64←mmreg1, mmreg1·mmreg2/mem32, mmreg1·mmreg2/mem64, mmreg1←mmreg2/mem64}
 
 -- a line of a heading: the byte after 0F, the digit that reg must be, if any, the form, and the operation (MOVE leaves the source, KEEP computes
 -- nothing)
@@ -22,8 +22,8 @@ line/digit second digit form operation = record { second = second; digit = some 
 pub data Heading : Type 0 where
   heading : String → List Line → Heading
 
--- a heading's name is for the reader: its bytes decide. PCMPGTD goes by its heading, though its text names another; the low unpacks have mem32 since
--- revision D
+-- Manual 004; a heading's name is for the reader: its bytes decide. PCMPGTD goes by its heading, though its text names another; the low unpacks have
+-- mem32 since revision D
 abbrev pub contents : List Heading
 contents =
     heading "EMMS" (line 0x77 alone KEEP ∷ [])
@@ -75,9 +75,31 @@ contents =
     ∷ heading "PXOR" (line 0xef mmreg1·mmreg2/mem64 PXOR ∷ [])
     ∷ []
 
+-- Manual 000, its extensions to the MMX instruction set
+abbrev pub extensions : List Heading
+extensions =
+    heading "MASKMOVQ" (line 0xf7 edi·mmreg1·mmreg2 MASKMOVQ ∷ [])
+    ∷ heading "MOVNTQ" (line 0xe7 mem64←mmreg1 MOVE ∷ [])
+    ∷ heading "PAVGB" (line 0xe0 mmreg1·mmreg2/mem64 PAVGB ∷ [])
+    ∷ heading "PAVGW" (line 0xe3 mmreg1·mmreg2/mem64 PAVGW ∷ [])
+    ∷ heading "PEXTRW" (line 0xc5 reg32←mmreg2+imm8 PEXTRW ∷ [])
+    ∷ heading "PINSRW" (line 0xc4 mmreg1·reg32/mem16+imm8 PINSRW ∷ [])
+    ∷ heading "PMAXSW" (line 0xee mmreg1·mmreg2/mem64 PMAXSW ∷ [])
+    ∷ heading "PMAXUB" (line 0xde mmreg1·mmreg2/mem64 PMAXUB ∷ [])
+    ∷ heading "PMINSW" (line 0xea mmreg1·mmreg2/mem64 PMINSW ∷ [])
+    ∷ heading "PMINUB" (line 0xda mmreg1·mmreg2/mem64 PMINUB ∷ [])
+    ∷ heading "PMOVMSKB" (line 0xd7 reg32←mmreg2 PMOVMSKB ∷ [])
+    ∷ heading "PMULHUW" (line 0xe4 mmreg1·mmreg2/mem64 PMULHUW ∷ [])
+    ∷ heading "PREFETCHNTA - PREFETCHT0 - PREFETCHT1 - PREFETCHT2"
+    (line/digit 0x18 0 mem8/0/1/2/3 KEEP ∷ line/digit 0x18 1 mem8/0/1/2/3 KEEP ∷ line/digit 0x18 2 mem8/0/1/2/3 KEEP ∷ line/digit 0x18 3 mem8/0/1/2/3 KEEP ∷ [])
+    ∷ heading "PSADBW" (line 0xf6 mmreg1·mmreg2/mem64 PSADBW ∷ [])
+    ∷ heading "PSHUFW" (line 0x70 mmreg1←mmreg2/mem64+imm8 PSHUFW ∷ [])
+    ∷ heading "SFENCE" (line/digit 0xae 7 alone/7 KEEP ∷ [])
+    ∷ []
+
 abbrev pub linesOf : List Heading → List Line
 linesOf [] = []
 linesOf (heading name lines ∷ rest) = lines ++ linesOf rest
 
 abbrev pub lines : List Line
-lines = linesOf contents
+lines = linesOf contents ++ linesOf extensions

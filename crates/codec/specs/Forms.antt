@@ -1,11 +1,11 @@
--- The forms of instructions: the operands in the manual's notation, with what each is used for; and what a form says of the bytes after the opcode.
-use Rattle.basis.specs.Names.{ℕ, List, [], _∷_, Bool, true, false, _&&_, _||_, eqb}
+-- The forms of instructions: the operands in the manuals' notation, with what each is used for; and what a form says of the bytes after the opcode.
+use Rattle.basis.specs.Names.{ℕ, List, [], _∷_, Bool, true, false, not, _&&_, _||_, eqb}
 use Rattle.codec.specs.declared.Kind.{Kind}
-use Rattle.codec.specs.declared.Kind.the-variants.{Ordinary, Emms}
+use Rattle.codec.specs.declared.Kind.the-variants.{Ordinary, Emms, Silent}
 
--- what an instruction does with an operand: `updated` is read and written
+-- what an instruction does with an operand: `updated` is read and written, `untouched` neither
 pub data Use : Type 0 where
-  read written updated : Use
+  read written updated untouched : Use
 
 -- the MMX registers, or the integer registers
 pub data File : Type 0 where
@@ -17,8 +17,14 @@ pub data Slot : Type 0 where
   reg rm : File → Slot
   -- the register that rm names at mod 11, else so many bytes in memory
   rm/mem : File → ℕ → Slot
+  -- so many bytes in memory, at any mod but 11
+  mem : ℕ → Slot
+  -- so many bytes in memory from the address in EDI on, whatever the ModRM byte
+  edi : ℕ → Slot
+  -- nothing: rm is this number, at mod 11 alone
+  fixed : ℕ → Slot
 
--- Operands, in the manual's notation
+-- Operands, in the manuals' notation
 
 abbrev pub mmreg1 : Slot
 mmreg1 = reg mmxFile
@@ -35,8 +41,24 @@ mmreg2/mem64 = rm/mem mmxFile 8
 abbrev pub reg32/mem32 : Slot
 reg32/mem32 = rm/mem integerFile 4
 
+abbrev pub reg32/mem16 : Slot
+reg32/mem16 = rm/mem integerFile 2
+
+abbrev pub reg32 : Slot
+reg32 = reg integerFile
+
+abbrev pub mem64 : Slot
+mem64 = mem 8
+
+abbrev pub mem8 : Slot
+mem8 = mem 1
+
+abbrev pub mem64-at-edi : Slot
+mem64-at-edi = edi 8
+
 pub record Form : Type 0 where
-  -- its number in the code's table (0: no instruction); from 16 on are the forms of a destination and a source, one named by reg, the other by r/m
+  -- its number in the code's table (0: no instruction; 10 to 13: none); from 15 on are the forms of a destination and a source alone, one named by reg,
+  -- the other by r/m
   pub number : ℕ
   -- what reg may be where it is a digit of the opcode; none where it names a register
   pub digits : List ℕ
@@ -46,7 +68,7 @@ pub record Form : Type 0 where
   pub immediate : ℕ
   pub kind : Kind
 
--- Forms, by their operands in the manual's notation: ← where the destination is only written, · where it is read too
+-- Forms, by their operands in the manuals' notation: ← where the destination is only written, · where it is read too, + before an immediate
 
 -- no instruction
 abbrev pub absent : Form
@@ -56,17 +78,48 @@ absent = record { number = 0; digits = []; operands = []; immediate = 0; kind = 
 abbrev pub alone : Form
 alone = record { number = 1; digits = []; operands = []; immediate = 0; kind = Emms }
 
--- the manual's mmreg1, imm8: the register is the one that rm names, and reg has the digit: /2 right logical, /4 right arithmetic, /6 left
+-- 004's mmreg1, imm8: the register is the one that rm names, and reg has the digit: /2 right logical, /4 right arithmetic, /6 left
 abbrev pub mmreg1·imm8/2/4/6 : Form
 mmreg1·imm8/2/4/6 = record { number = 2; digits = 2 ∷ 4 ∷ 6 ∷ []; operands = (updated, mmreg2) ∷ []; immediate = 1; kind = Ordinary }
 
 abbrev pub mmreg1·imm8/2/6 : Form
 mmreg1·imm8/2/6 = record { number = 3; digits = 2 ∷ 6 ∷ []; operands = (updated, mmreg2) ∷ []; immediate = 1; kind = Ordinary }
 
+-- PINSRW, PSHUFW, PEXTRW: an immediate beside two operands
+abbrev pub mmreg1·reg32/mem16+imm8 : Form
+mmreg1·reg32/mem16+imm8 = record { number = 4; digits = []; operands = (updated, mmreg1) ∷ (read, reg32/mem16) ∷ []; immediate = 1; kind = Ordinary }
+
+abbrev pub mmreg1←mmreg2/mem64+imm8 : Form
+mmreg1←mmreg2/mem64+imm8 = record { number = 5; digits = []; operands = (written, mmreg1) ∷ (read, mmreg2/mem64) ∷ []; immediate = 1; kind = Ordinary }
+
+abbrev pub reg32←mmreg2+imm8 : Form
+reg32←mmreg2+imm8 = record { number = 6; digits = []; operands = (written, reg32) ∷ (read, mmreg2) ∷ []; immediate = 1; kind = Ordinary }
+
+-- PMOVMSKB
+abbrev pub reg32←mmreg2 : Form
+reg32←mmreg2 = record { number = 7; digits = []; operands = (written, reg32) ∷ (read, mmreg2) ∷ []; immediate = 0; kind = Ordinary }
+
+-- MASKMOVQ: 000's mmreg1, mmreg2 (edi), the data and the mask
+abbrev pub edi·mmreg1·mmreg2 : Form
+edi·mmreg1·mmreg2 =
+    record { number = 8; digits = []; operands = (updated, mem64-at-edi) ∷ (read, mmreg1) ∷ (read, mmreg2) ∷ []; immediate = 0; kind = Ordinary }
+
+-- SFENCE: its ModRM byte is F8
+abbrev pub alone/7 : Form
+alone/7 = record { number = 9; digits = 7 ∷ []; operands = (untouched, fixed 0) ∷ []; immediate = 0; kind = Silent }
+
+-- the prefetches: /0 NTA, /1 T0, /2 T1, /3 T2
+abbrev pub mem8/0/1/2/3 : Form
+mem8/0/1/2/3 = record { number = 14; digits = 0 ∷ 1 ∷ 2 ∷ 3 ∷ []; operands = (untouched, mem8) ∷ []; immediate = 0; kind = Silent }
+
 -- an ordinary instruction of a destination and a source
 abbrev pub pair : ℕ → Use × Slot → Slot → Form
 pair number destination source =
     record { number = number; digits = []; operands = destination ∷ (read, source) ∷ []; immediate = 0; kind = Ordinary }
+
+-- MOVNTQ
+abbrev pub mem64←mmreg1 : Form
+mem64←mmreg1 = pair 15 (written, mem64) mmreg1
 
 abbrev pub reg32/mem32←mmreg1 : Form
 reg32/mem32←mmreg1 = pair 16 (written, reg32/mem32) mmreg1
@@ -90,7 +143,8 @@ mmreg1·mmreg2/mem64 = pair 21 (updated, mmreg1) mmreg2/mem64
 abbrev pub forms : List Form
 forms =
     absent ∷ alone ∷ mmreg1·imm8/2/4/6 ∷ mmreg1·imm8/2/6
-    ∷ reg32/mem32←mmreg1 ∷ mmreg1←reg32/mem32 ∷ mmreg2/mem64←mmreg1 ∷ mmreg1←mmreg2/mem64 ∷ mmreg1·mmreg2/mem32 ∷ mmreg1·mmreg2/mem64 ∷ []
+    ∷ mmreg1·reg32/mem16+imm8 ∷ mmreg1←mmreg2/mem64+imm8 ∷ reg32←mmreg2+imm8 ∷ reg32←mmreg2 ∷ edi·mmreg1·mmreg2 ∷ alone/7 ∷ mem8/0/1/2/3
+    ∷ mem64←mmreg1 ∷ reg32/mem32←mmreg1 ∷ mmreg1←reg32/mem32 ∷ mmreg2/mem64←mmreg1 ∷ mmreg1←mmreg2/mem64 ∷ mmreg1·mmreg2/mem32 ∷ mmreg1·mmreg2/mem64 ∷ []
 
 -- What a form says
 
@@ -114,20 +168,23 @@ abbrev pub digitAmong : List ℕ → ℕ → Bool
 digitAmong [] digit = true
 digitAmong (x ∷ xs) digit = isAmong digit (x ∷ xs)
 
--- whether an operand allows mod 11 (true), or another mod (false)
-abbrev pub slotAllows : Slot → Bool → Bool
-slotAllows (reg file) register = true
-slotAllows (rm file) register = register
-slotAllows (rm/mem file bytes) register = true
+-- whether an operand allows mod 11 (true), or another mod (false), with this rm
+abbrev pub slotAllows : Slot → Bool → ℕ → Bool
+slotAllows (reg file) register lower = true
+slotAllows (rm file) register lower = register
+slotAllows (rm/mem file bytes) register lower = true
+slotAllows (mem bytes) register lower = not register
+slotAllows (edi bytes) register lower = true
+slotAllows (fixed k) register lower = register && eqb lower k
 
 -- whether all operands allow it, and the rest of the test holds
-abbrev pub slotsAllow : List (Use × Slot) → Bool → Bool → Bool
-slotsAllow [] register rest = rest
-slotsAllow ((how, slot) ∷ xs) register rest = slotAllows slot register && slotsAllow xs register rest
+abbrev pub slotsAllow : List (Use × Slot) → Bool → ℕ → Bool → Bool
+slotsAllow [] register lower rest = rest
+slotsAllow ((how, slot) ∷ xs) register lower rest = slotAllows slot register lower && slotsAllow xs register lower rest
 
--- what a ModRM byte may be, by its fields mod, reg and rm: mod for each operand, reg where it is a digit; rm restrains no form
+-- what a ModRM byte may be, by its fields mod, reg and rm: mod and rm for each operand, reg where it is a digit
 unfoldable pub allows : Form → ℕ → ℕ → ℕ → Bool
-allows form upper middle lower = slotsAllow (form .operands) (eqb upper 3) (digitAmong (form .digits) middle)
+allows form upper middle lower = slotsAllow (form .operands) (eqb upper 3) lower (digitAmong (form .digits) middle)
 
 abbrev pub immediateSize : Form → ℕ
 immediateSize form = form .immediate
@@ -138,6 +195,9 @@ sizeIn [] = 0
 sizeIn ((how, reg file) ∷ xs) = sizeIn xs
 sizeIn ((how, rm file) ∷ xs) = sizeIn xs
 sizeIn ((how, rm/mem file bytes) ∷ xs) = bytes
+sizeIn ((how, mem bytes) ∷ xs) = bytes
+sizeIn ((how, edi bytes) ∷ xs) = bytes
+sizeIn ((how, fixed k) ∷ xs) = sizeIn xs
 
 abbrev pub memorySize : Form → ℕ
 memorySize form = sizeIn (form .operands)

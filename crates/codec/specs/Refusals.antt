@@ -17,7 +17,8 @@ prefixed = 4
 abbrev pub notListed : ℕ
 notListed = 5
 
--- a ModRM byte that the form does not allow: 71, 72 or 73 with mod not 11, or with a digit that is not listed
+-- a ModRM byte that the form does not allow: 71, 72 or 73 with mod not 11, a register or memory form that 000 does not list, a digit that is not
+-- listed, or AE before another byte than F8
 abbrev pub notAllowed : ℕ
 notAllowed = 6
 

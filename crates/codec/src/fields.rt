@@ -1,17 +1,23 @@
 // Which parts an instruction has: the fields of its ModRM and SIB bytes, the sizes of its displacement and its immediate.
+use crate::forms::EXTRACT;
+use crate::forms::FENCE;
 use crate::forms::LEFT;
+use crate::forms::MASKED;
+use crate::forms::PREFETCH;
 use crate::forms::RIGHT;
 use crate::forms::RIGHT_SIGNED;
 use crate::forms::SHIFT_Q;
 use crate::forms::SHIFT_WD;
+use crate::forms::SHUFFLE;
+use crate::forms::STREAM;
 use crate::modes::BYTE_DISPLACEMENT;
 use crate::modes::LONG_DISPLACEMENT;
 use crate::modes::NO_BASE;
 use crate::modes::NO_DISPLACEMENT;
 use crate::modes::REGISTER;
 use crate::modes::SIB;
-ghost use Rattle.basis.specs.Names.{_≡_};
-ghost use Rattle.codec.specs.Forms.{allows, immediateSize};
+ghost use Rattle.basis.specs.Names.{_≡_, _≤_, _<_};
+ghost use Rattle.codec.specs.Forms.{alone/7, isAmong, allows, immediateSize};
 ghost use Rattle.codec.specs.Table.{formOf};
 ghost use Rattle.codec.specs.Operands.{hasSib, displacementSize};
 ghost use Rattle.codec.specs.inner.Fields.{Sized};
@@ -33,19 +39,78 @@ pub(crate) const ONE_BYTE: usize = 1;
 
 const FOUR_BYTES: usize = 4;
 
+// How many digits the prefetches have.
+const PREFETCHES: u8 = 4;
+
+// SFENCE's digit, and its rm.
+const FENCE_DIGIT: u8 = 7;
+
+const FENCE_RM: u8 = 0;
+
 // Whether a form may have a ModRM byte of these fields.
 pub(crate) fn allowed(form: u32, mode: u8, reg: u8, rm: u8) -> bool
     ensures { λ r. ⌜ r ≡ allows (formOf form) mode reg rm ⌝ }
 {
-    if SHIFT_Q < form {
+    if STREAM < form {
         return true;
     }
     if form < SHIFT_WD {
         return true;
     }
+    if form <= SHIFT_Q {
+        if mode != REGISTER {
+            return false;
+        }
+        return has_digit(form, reg);
+    }
+    if form <= SHUFFLE {
+        return true;
+    }
+    restrained(form, mode, reg, rm)
+}
+
+// The forms past SHUFFLE: those of registers alone, SFENCE, and those of memory alone.
+fn restrained(form: u32, mode: u8, reg: u8, rm: u8) -> bool
+    requires { ⌜ (5 < form) × (form ≤ 15) ⌝ }
+    ensures { λ r. ⌜ r ≡ allows (formOf form) mode reg rm ⌝ }
+{
+    if form <= MASKED {
+        return mode == REGISTER;
+    }
+    if form == FENCE {
+        return is_fence(mode, reg, rm);
+    }
+    // no form has these numbers: they name the usual form
+    if form < PREFETCH {
+        return true;
+    }
+    if mode == REGISTER {
+        return false;
+    }
+    if form == STREAM {
+        return true;
+    }
+    reg < PREFETCHES
+}
+
+// Whether the fields are those of F8.
+fn is_fence(mode: u8, reg: u8, rm: u8) -> bool
+    ensures { λ r. ⌜ r ≡ allows alone/7 mode reg rm ⌝ }
+{
     if mode != REGISTER {
         return false;
     }
+    if rm != FENCE_RM {
+        return false;
+    }
+    reg == FENCE_DIGIT
+}
+
+// Whether a form of the shifts by an immediate has this digit.
+fn has_digit(form: u32, reg: u8) -> bool
+    requires { ⌜ (2 ≤ form) × (form ≤ 3) ⌝ }
+    ensures { λ r. ⌜ r ≡ isAmong reg (formOf form .digits) ⌝ }
+{
     if reg == RIGHT {
         return true;
     }
@@ -62,7 +127,7 @@ pub(crate) fn allowed(form: u32, mode: u8, reg: u8, rm: u8) -> bool
 pub(crate) fn immediate_size(form: u32) -> usize
     ensures { λ r. ⌜ (r ≡ immediateSize (formOf form)) × Sized r ⌝ }
 {
-    if SHIFT_Q < form {
+    if EXTRACT < form {
         return NO_BYTE;
     }
     if form < SHIFT_WD {

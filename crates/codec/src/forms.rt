@@ -27,8 +27,32 @@ pub const SHIFT_WD: u32 = 2;
 
 pub const SHIFT_Q: u32 = 3;
 
-// From here on: a destination and a source, one named by reg, the other by r/m. Up to LOAD_D, r/m may name an integer register.
-pub const TWO_OPERANDS: u32 = 16;
+// mmreg1, reg32/mem16, imm8: PINSRW.
+pub const INSERT: u32 = 4;
+
+// mmreg1, mmreg2/mem64, imm8: PSHUFW.
+pub const SHUFFLE: u32 = 5;
+
+// reg32, mmreg2, imm8: PEXTRW. From SHIFT_WD to here there is an immediate.
+pub const EXTRACT: u32 = 6;
+
+// reg32, mmreg2: PMOVMSKB.
+pub const TOP_BITS: u32 = 7;
+
+// mmreg1, mmreg2 (edi): MASKMOVQ.
+pub const MASKED: u32 = 8;
+
+// SFENCE.
+pub const FENCE: u32 = 9;
+
+// mem8: the prefetches. The numbers before it are free; from here to STREAM there is memory alone.
+pub const PREFETCH: u32 = 14;
+
+// From here on: a destination and a source, one named by reg, the other by r/m.
+pub const TWO_OPERANDS: u32 = 15;
+
+// mem64, mmreg1: MOVNTQ.
+pub const STREAM: u32 = 15;
 
 // reg32/mem32, mmreg1: MOVD from MMX.
 pub const STORE_D: u32 = 16;

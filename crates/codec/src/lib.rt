@@ -33,7 +33,7 @@ pub struct Operand {
     pub displacement: u32,
 }
 
-// The opcode bytes, the operand and the immediate; of 71 to 73 the digit is in reg.
+// The opcode bytes, the operand and the immediate; where the opcode has a digit (71 to 73, 18, AE), it is in reg.
 pub struct Instruction {
     pub first: u8,
     pub second: u8,
@@ -41,10 +41,12 @@ pub struct Instruction {
     pub immediate: u32,
 }
 
-// What an instruction does to the tag mark, and which others it meets wherever they read and write.
+// What an instruction does to the tag mark, whether the control marks stop it, and which others it meets wherever they read and write. The silent ones
+// touch nothing: the prefetches and SFENCE.
 pub enum Kind {
     Ordinary,
     Emms,
+    Silent,
 }
 
 // What reading gives: the instruction and its length, or the refusal.

@@ -1,16 +1,24 @@
 // The table of second bytes, and what is looked up in it.
 use crate::forms::ABSENT;
 use crate::forms::EMMS;
+use crate::forms::EXTRACT;
+use crate::forms::FENCE;
 use crate::forms::FORM;
+use crate::forms::INSERT;
 use crate::forms::LANE;
 use crate::forms::LOAD_D;
 use crate::forms::LOAD_Q;
 use crate::forms::LOW;
+use crate::forms::MASKED;
+use crate::forms::PREFETCH;
 use crate::forms::SHIFT_Q;
 use crate::forms::SHIFT_WD;
+use crate::forms::SHUFFLE;
 use crate::forms::SIZE;
 use crate::forms::STORE_D;
 use crate::forms::STORE_Q;
+use crate::forms::STREAM;
+use crate::forms::TOP_BITS;
 use crate::forms::USUAL;
 ghost use Rattle.basis.specs.Names.{_≡_, getD};
 ghost use Rattle.codec.specs.Opcodes.{formAt};
@@ -48,6 +56,19 @@ const SHIFT: u32 = SHIFT_WD * FORM;
 
 const SHIFT_QUADWORD: u32 = SHIFT_Q * FORM;
 
+// The forms of manual 000, with the size of the operand in memory, if there is one.
+const EXTRACT_WORD: u32 = EXTRACT * FORM;
+
+const INSERT_WORD: u32 = INSERT * FORM + 2 * SIZE;
+
+const SHUFFLE_WORDS: u32 = SHUFFLE * FORM + 8 * SIZE;
+
+const MOVE_TOP_BITS: u32 = TOP_BITS * FORM;
+
+const STORE_MASKED: u32 = MASKED * FORM + 8 * SIZE;
+
+const STORE_STREAM: u32 = STREAM * FORM + 8 * SIZE;
+
 // The lane width.
 const BYTES: u32 = 8 * LANE;
 
@@ -57,8 +78,12 @@ const DOUBLEWORDS: u32 = 32 * LANE;
 
 const WHOLE: u32 = 64 * LANE;
 
-// Whole entries: EMMS, and a byte that the table has not.
+// Whole entries: EMMS, the prefetches, SFENCE, and a byte that the table has not.
 const ALONE: u32 = EMMS * FORM + WHOLE + lanes::KEEP as u32;
+
+const PREFETCH_BYTE: u32 = PREFETCH * FORM + SIZE + WHOLE + lanes::KEEP as u32;
+
+const STORE_FENCE: u32 = FENCE * FORM + WHOLE + lanes::KEEP as u32;
 
 const NONE: u32 = ABSENT * FORM + WHOLE + lanes::KEEP as u32;
 
@@ -88,7 +113,7 @@ pub(crate) const TABLE: [u32; 256] = [
     NONE,
     NONE,
     NONE,
-    NONE,
+    PREFETCH_BYTE, // 18: the prefetches
     NONE,
     NONE,
     NONE,
@@ -176,7 +201,7 @@ pub(crate) const TABLE: [u32; 256] = [
     NONE,
     LOAD_DOUBLEWORD + WHOLE + lanes::MOVE as u32, // 6e: MOVD to MMX
     LOAD_QUADWORD + WHOLE + lanes::MOVE as u32, // 6f: MOVQ, load form
-    NONE,
+    SHUFFLE_WORDS + WORDS + lanes::PSHUFW as u32, // 70
     SHIFT + WORDS + lanes::PSRLW as u32, // 71 /2; /4 and /6 by the digit
     SHIFT + DOUBLEWORDS + lanes::PSRLD as u32, // 72 /2; /4 and /6 by the digit
     SHIFT_QUADWORD + WHOLE + lanes::PSRLQ as u32, // 73 /2; /6 by the digit
@@ -238,6 +263,7 @@ pub(crate) const TABLE: [u32; 256] = [
     NONE,
     NONE,
     NONE,
+    STORE_FENCE, // ae: SFENCE
     NONE,
     NONE,
     NONE,
@@ -259,9 +285,8 @@ pub(crate) const TABLE: [u32; 256] = [
     NONE,
     NONE,
     NONE,
-    NONE,
-    NONE,
-    NONE,
+    INSERT_WORD + WORDS + lanes::PINSRW as u32, // c4
+    EXTRACT_WORD + WORDS + lanes::PEXTRW as u32, // c5
     NONE,
     NONE,
     NONE,
@@ -279,30 +304,30 @@ pub(crate) const TABLE: [u32; 256] = [
     NONE,
     WITH_QUADWORD + WORDS + lanes::PMULLW as u32, // d5
     NONE,
-    NONE,
+    MOVE_TOP_BITS + BYTES + lanes::PMOVMSKB as u32, // d7
     WITH_QUADWORD + BYTES + lanes::PSUBUSB as u32, // d8
     WITH_QUADWORD + WORDS + lanes::PSUBUSW as u32, // d9
-    NONE,
+    WITH_QUADWORD + BYTES + lanes::PMINUB as u32, // da
     WITH_QUADWORD + WHOLE + lanes::PAND as u32, // db
     WITH_QUADWORD + BYTES + lanes::PADDUSB as u32, // dc
     WITH_QUADWORD + WORDS + lanes::PADDUSW as u32, // dd
-    NONE,
+    WITH_QUADWORD + BYTES + lanes::PMAXUB as u32, // de
     WITH_QUADWORD + WHOLE + lanes::PANDN as u32, // df
-    NONE,
+    WITH_QUADWORD + BYTES + lanes::PAVGB as u32, // e0
     WITH_QUADWORD + WORDS + lanes::PSRAW as u32, // e1
     WITH_QUADWORD + DOUBLEWORDS + lanes::PSRAD as u32, // e2
-    NONE,
-    NONE,
+    WITH_QUADWORD + WORDS + lanes::PAVGW as u32, // e3
+    WITH_QUADWORD + WORDS + lanes::PMULHUW as u32, // e4
     WITH_QUADWORD + WORDS + lanes::PMULHW as u32, // e5
     NONE,
-    NONE,
+    STORE_STREAM + WHOLE + lanes::MOVE as u32, // e7: MOVNTQ
     WITH_QUADWORD + BYTES + lanes::PSUBSB as u32, // e8
     WITH_QUADWORD + WORDS + lanes::PSUBSW as u32, // e9
-    NONE,
+    WITH_QUADWORD + WORDS + lanes::PMINSW as u32, // ea
     WITH_QUADWORD + WHOLE + lanes::POR as u32, // eb
     WITH_QUADWORD + BYTES + lanes::PADDSB as u32, // ec
     WITH_QUADWORD + WORDS + lanes::PADDSW as u32, // ed
-    NONE,
+    WITH_QUADWORD + WORDS + lanes::PMAXSW as u32, // ee
     WITH_QUADWORD + WHOLE + lanes::PXOR as u32, // ef
     NONE,
     WITH_QUADWORD + WORDS + lanes::PSLLW as u32, // f1
@@ -310,8 +335,8 @@ pub(crate) const TABLE: [u32; 256] = [
     WITH_QUADWORD + WHOLE + lanes::PSLLQ as u32, // f3
     NONE,
     WITH_QUADWORD + DOUBLEWORDS + lanes::PMADDWD as u32, // f5
-    NONE,
-    NONE,
+    WITH_QUADWORD + BYTES + lanes::PSADBW as u32, // f6
+    STORE_MASKED + BYTES + lanes::MASKMOVQ as u32, // f7
     WITH_QUADWORD + BYTES + lanes::PSUBB as u32, // f8
     WITH_QUADWORD + WORDS + lanes::PSUBW as u32, // f9
     WITH_QUADWORD + DOUBLEWORDS + lanes::PSUBD as u32, // fa

@@ -4,6 +4,7 @@ pub mod addresses
 pub mod ways
 pub mod operands
 pub mod pointers
+pub mod picking
 pub mod gathering
 pub mod quick
 pub mod stepping

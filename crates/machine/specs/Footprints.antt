@@ -74,7 +74,7 @@ share p q =
     || not (eqb (bitAnd (p .integers) (q .integers)) 0)
     || overlap (p .start) (p .length) (q .start) (q .length)
 
--- one writes a place that the other reads or writes, or either is EMMS
+-- one writes a place that the other reads or writes, or their kinds meet: either is EMMS, and neither a prefetch or SFENCE
 unfoldable pub meet : Footprint → Footprint → Bool
 meet f g =
     kindsMeet (f .kind) (g .kind)

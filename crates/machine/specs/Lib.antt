@@ -1,4 +1,4 @@
--- What the code's types are in the manual's words: the state of a machine, the paper's answers for a step and a run, footprints as masks and
+-- What the code's types are in the manuals' words: the state of a machine, the paper's answers for a step and a run, footprints as masks and
 -- ranges, the machine of a page; then the words of private contracts.
 pub mod State
 pub mod Steps

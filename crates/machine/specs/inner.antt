@@ -2,6 +2,7 @@
 pub mod Ways
 pub mod Spots
 pub mod Works
+pub mod Picks
 pub mod Reaches
 pub mod Pointers
 pub mod Quick

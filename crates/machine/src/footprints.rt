@@ -4,6 +4,7 @@ use crate::Machine;
 use crate::Places;
 use crate::Tracing;
 use crate::gathering;
+use crate::operands::AT_EDI;
 use crate::reaches;
 use crate::reaches::Reach;
 use crate::refusals::LONGEST_MEMORY;
@@ -20,7 +21,7 @@ ghost use Rattle.basis.specs.Names.{_≡_};
 ghost use Rattle.codec.specs.inner.Fields.{Registers};
 ghost use Rattle.machine.specs.State.{stateOf};
 ghost use Rattle.machine.specs.Footprints.{maskedAt, paperOfFootprint};
-ghost use Rattle.machine.specs.inner.Reaches.{ordinaryFootprint, footprintOfWay, unmarkedFootprint};
+ghost use Rattle.machine.specs.inner.Reaches.{ordinaryFootprint, pointedBy, footprintOfWay, unmarkedFootprint};
 ghost use Rattle.machine.specs.inner.Works.{effectIn, Listed};
 
 // What is read, with the address registers, and what is written.
@@ -40,7 +41,7 @@ fn ordinary(registers: u8, reads: Places, writes: Places) -> Footprint
     }
 }
 
-// What each way reads and writes: of two operands the one of r/m has these address registers and places.
+// What each way reads and writes: an operand that may be in memory has these address registers and places.
 fn footprint_of_way(way: Way, operand: Operand, registers: u8, places: Places) -> Footprint
     requires { ⌜ Registers operand ⌝ }
     ensures { λ r. ⌜ r ≡ footprintOfWay way operand registers places ⌝ }
@@ -52,13 +53,51 @@ fn footprint_of_way(way: Way, operand: Operand, registers: u8, places: Places) -
             writes: reaches::NOWHERE,
             kind: Kind::Emms,
         },
+        Way::Passes => Footprint {
+            reads: reaches::NOWHERE,
+            writes: reaches::NOWHERE,
+            kind: Kind::Silent,
+        },
         Way::Shifts => {
             let shifted = reaches::with_register(operand.rm, reaches::NOWHERE);
             ordinary(0, shifted, shifted)
         }
+        Way::Extracts => ordinary(
+            0,
+            reaches::with_register(operand.rm, reaches::NOWHERE),
+            reaches::of_integer(operand.reg),
+        ),
         Way::Stores => ordinary(registers, own, places),
         Way::Loads => ordinary(registers, places, own),
         Way::Computes => ordinary(registers, reaches::with_register(operand.reg, places), own),
+        Way::Inserts => ordinary(registers, reaches::with_register(operand.reg, places), own),
+        Way::Shuffles => ordinary(registers, places, own),
+        Way::Masks => {
+            let masked = reaches::with_register(operand.rm, places);
+            ordinary(
+                registers,
+                reaches::with_register(operand.reg, masked),
+                places,
+            )
+        }
+    }
+}
+
+// The operand that may be in memory: that of r/m, or for MASKMOVQ [EDI].
+fn pointed(way: Way, operand: Operand) -> Operand
+    ensures { λ r. ⌜ r ≡ pointedBy way operand ⌝ }
+{
+    match way {
+        Way::Empties => operand,
+        Way::Passes => operand,
+        Way::Shifts => operand,
+        Way::Extracts => operand,
+        Way::Stores => operand,
+        Way::Loads => operand,
+        Way::Computes => operand,
+        Way::Inserts => operand,
+        Way::Shuffles => operand,
+        Way::Masks => AT_EDI,
     }
 }
 
@@ -69,8 +108,9 @@ fn unmarked(machine: Machine, entry: u32, instruction: Instruction, memory: &[u8
 {
     let operand = instruction.operand;
     let way = ways::way_of(entry / FORM);
-    if ways::has_two_operands(way) {
-        return match reaches::reach_operand(machine, entry, operand, memory) {
+    if ways::has_other(way) {
+        let pointed = pointed(way, operand);
+        return match reaches::reach_operand(machine, entry, pointed, memory) {
             Reach::Inside(registers, places) => Tracing::Traced(footprint_of_way(
                 way,
                 operand,
@@ -101,8 +141,9 @@ impl Machine {
             return Tracing::Refused(refusal);
         }
         let bar = gathering::barred(self.marks);
-        if bar != 0 {
-            return Tracing::Refused(bar);
+        let stop = gathering::stopping(bar, found.entry);
+        if stop != 0 {
+            return Tracing::Refused(stop);
         }
         let instruction = found.instruction;
         unmarked(self, found.entry, instruction, memory)

@@ -1,6 +1,7 @@
 // The instruction at a position is read and its operands are gathered; what remains to be done is then plain numbers. Nothing is written here.
 use crate::operands;
 use crate::operands::Spot;
+use crate::picking;
 use crate::quick;
 use crate::refusals::INVALID_OPCODE;
 use crate::refusals::IS_PENDING;
@@ -15,15 +16,16 @@ use codec::forms::LANE;
 use codec::forms::PART;
 use lanes::MOVE;
 use manual::Marks;
-ghost use Rattle.basis.specs.Names.{_≡_, true, _/_, _%_, _^_, _≤_, length};
+ghost use Rattle.basis.specs.Names.{_≡_, true, _/_, _%_, _^_, _≤_, length, getD};
 ghost use Rattle.codec.specs.inner.Fields.{Registers};
 ghost use Rattle.codec.specs.Table.{opcodeTable};
 ghost use Rattle.codec.specs.Reads.{longestCode};
 ghost use Rattle.manual.specs.State.{longestMemory};
+ghost use Rattle.machine.specs.inner.Picks.{pickedWork};
 ghost use Rattle.machine.specs.inner.Quick.{Opened};
 ghost use Rattle.machine.specs.inner.Spots.{otherOf, spotOf};
-ghost use Rattle.machine.specs.inner.Ways.{hasTwo, wayOf};
-ghost use Rattle.machine.specs.inner.Works.{barredBy, effectIn, Listed, workOf, refusedWork, putWork, takeWork, Does, Gathered};
+ghost use Rattle.machine.specs.inner.Ways.{hasOther, wayOf};
+ghost use Rattle.machine.specs.inner.Works.{barredBy, stoppingBy, effectIn, Listed, workOf, refusedWork, putWork, takeWork, Does, Gathered};
 
 // The bytes of a doubleword and of a quadword.
 pub(crate) const DOUBLEWORD: u8 = 4;
@@ -55,8 +57,11 @@ pub(crate) const TO_INTEGER: u8 = 2;
 // The tag mark empty.
 pub(crate) const EMPTY: u8 = 3;
 
+// Nothing, and it completes.
+pub(crate) const PASS: u8 = 4;
+
 // Nothing: the refusal of that number.
-const REFUSE: u8 = 4;
+const REFUSE: u8 = 5;
 
 pub(crate) fn work_of(what: u8, number: u8, place: usize, value: u64, next: usize) -> Work
     ensures { λ r. ⌜ r ≡ workOf what number place value next ⌝ }
@@ -92,6 +97,16 @@ pub(crate) fn barred(marks: Marks) -> u8
     0
 }
 
+// The refusal of the control marks, or 0, where they stop the form of an entry; else 0.
+pub(crate) fn stopping(bar: u8, entry: u32) -> u8
+    ensures { λ r. ⌜ r ≡ stoppingBy bar (entry / 2 ^ 24) ⌝ }
+{
+    if ways::is_silent(entry / FORM) {
+        return 0;
+    }
+    bar
+}
+
 // A value is put where the operand is: in memory so many bytes of it.
 fn put(spot: Spot, value: u64, next: usize) -> Work
     ensures { λ r. ⌜ r ≡ putWork spot value next ⌝ }
@@ -119,7 +134,7 @@ fn computed(
     next: usize,
     memory: &[u8],
 ) -> Work
-    requires { ⌜ Registers operand × (Listed entry × (hasTwo (wayOf (entry / 2 ^ 24)) ≡ true)) ⌝ }
+    requires { ⌜ Registers operand × (Listed entry × (hasOther (wayOf (entry / 2 ^ 24)) ≡ true)) ⌝ }
     ensures { λ r. ⌜ r ≡ takeWork (now (mmx .entry)) (now (integers .entry)) (now (memory .entry)) (entry % 256) (operand .reg) (spotOf (now (integers .entry)) (length (now (memory .entry))) (otherOf (entry / 2 ^ 24) operand)) next ⌝ }
 {
     let number = (entry % PART) as u8;
@@ -144,6 +159,28 @@ fn computed(
     }
 }
 
+// An MMX register picked by an immediate: the operand's number is gathered as for a computation, and what is picked from it then moves.
+fn with_immediate(
+    mmx: &[u64; 8],
+    integers: &[u32; 8],
+    entry: u32,
+    instruction: Instruction,
+    next: usize,
+    memory: &[u8],
+) -> Work
+    requires { ⌜ Registers (instruction .operand) × (Listed entry × (hasOther (wayOf (entry / 2 ^ 24)) ≡ true)) ⌝ }
+    ensures { λ r. ⌜ r ≡ pickedWork (entry / 2 ^ 24) (getD (now (mmx .entry)) (instruction .operand .reg) 0) (instruction .immediate) (takeWork (now (mmx .entry)) (now (integers .entry)) (now (memory .entry)) (entry % 256) (instruction .operand .reg) (spotOf (now (integers .entry)) (length (now (memory .entry))) (otherOf (entry / 2 ^ 24) (instruction .operand))) next) ⌝ }
+{
+    let operand = instruction.operand;
+    let work = computed(mmx, integers, entry, operand, next, memory);
+    picking::picked(
+        entry,
+        mmx[operand.reg as usize],
+        instruction.immediate,
+        work,
+    )
+}
+
 // An instruction that the control marks let pass.
 fn sorted(
     mmx: &[u64; 8],
@@ -159,6 +196,7 @@ fn sorted(
     let operand = instruction.operand;
     match ways::way_of(entry / FORM) {
         Way::Empties => work_of(EMPTY, 0, 0, 0, next),
+        Way::Passes => work_of(PASS, 0, 0, 0, next),
         Way::Shifts => {
             let number = shifts::shift_number((entry / LANE % PART) as u8, operand.reg);
             work_of(
@@ -169,17 +207,27 @@ fn sorted(
                 next,
             )
         }
+        Way::Extracts => picking::extracted(
+            entry,
+            mmx[operand.rm as usize],
+            instruction.immediate,
+            operand.reg,
+            next,
+        ),
         Way::Stores => {
             let spot = operands::located(integers, entry, operand, memory.len());
             put(spot, mmx[operand.reg as usize], next)
         }
         Way::Loads => computed(mmx, integers, entry, operand, next, memory),
         Way::Computes => computed(mmx, integers, entry, operand, next, memory),
+        Way::Inserts => with_immediate(mmx, integers, entry, instruction, next, memory),
+        Way::Shuffles => with_immediate(mmx, integers, entry, instruction, next, memory),
+        Way::Masks => picking::masked(mmx, integers, operand, next, memory),
     }
 }
 
-// The instruction at a position: at once, if it can be; else the reader's refusals, then `bar`, that of the control marks or 0, then that of its
-// operand.
+// The instruction at a position: at once, if it can be; else the reader's refusals, then `bar`, that of the control marks or 0, where they stop it, then
+// that of its operand.
 pub(crate) fn gathered(
     table: &[u32; 256],
     quick: &[u32; 256],
@@ -203,8 +251,9 @@ pub(crate) fn gathered(
     if refusal != 0 {
         return refused(refusal);
     }
-    if bar != 0 {
-        return refused(bar);
+    let stop = stopping(bar, found.entry);
+    if stop != 0 {
+        return refused(stop);
     }
     let instruction = found.instruction;
     sorted(mmx, integers, found.entry, instruction, found.next, memory)

@@ -4,6 +4,7 @@ mod footprints;
 mod gathering;
 mod meetings;
 mod operands;
+mod picking;
 mod pointers;
 mod quick;
 mod reaches;

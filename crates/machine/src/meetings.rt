@@ -35,16 +35,22 @@ fn shares(one: Places, other: Places) -> bool
     overlaps(one.start, one.length, other.start, other.length)
 }
 
-// EMMS meets every instruction.
+// EMMS meets every instruction but the silent ones, which meet none.
 fn kinds_meet(one: Kind, other: Kind) -> bool
     ensures { λ r. ⌜ r ≡ kindsMeet one other ⌝ }
 {
     match one {
-        Kind::Emms => true,
+        Kind::Emms => match other {
+            Kind::Emms => true,
+            Kind::Ordinary => true,
+            Kind::Silent => false,
+        },
         Kind::Ordinary => match other {
             Kind::Emms => true,
             Kind::Ordinary => false,
+            Kind::Silent => false,
         },
+        Kind::Silent => false,
     }
 }
 

@@ -1,16 +1,17 @@
-// Where the operand that r/m names is: in a register, or in memory at an address that is tested.
+// Where an operand is that r/m names, or MASKMOVQ's at EDI: in a register, or in memory at an address that is tested.
 use crate::addresses;
 use crate::refusals::OUTSIDE_MEMORY;
+use crate::ways;
 use codec::Operand;
 use codec::forms::FORM;
-use codec::forms::LOAD_D;
 use codec::forms::PART;
 use codec::forms::SIZE;
+use codec::modes::NO_DISPLACEMENT;
 use codec::modes::REGISTER;
 ghost use Rattle.basis.specs.Names.{_≡_, true, _+_, _/_, _^_, leb};
 ghost use Rattle.codec.specs.inner.Fields.{Registers};
 ghost use Rattle.machine.specs.inner.Spots.{otherOf, spotOf};
-ghost use Rattle.machine.specs.inner.Ways.{hasTwo, wayOf};
+ghost use Rattle.machine.specs.inner.Ways.{hasOther, wayOf};
 ghost use Rattle.machine.specs.inner.Works.{Listed};
 
 // The number of the MMX register or of the integer register, the address of the first byte with how many they are, or the refusal.
@@ -20,6 +21,20 @@ pub(crate) enum Spot {
     Bytes(usize, u8),
     Refused(u8),
 }
+
+// The number of EDI.
+const EDI: u8 = 7;
+
+// [EDI]: the operand of MASKMOVQ in memory.
+pub(crate) const AT_EDI: Operand = Operand {
+    mode: NO_DISPLACEMENT,
+    reg: 0,
+    rm: EDI,
+    scale: 0,
+    index: 0,
+    base: 0,
+    displacement: 0,
+};
 
 // Whether all bytes of an operand are below the memory's length.
 pub(crate) fn is_inside(room: usize, address: usize, size: usize) -> bool
@@ -31,10 +46,10 @@ pub(crate) fn is_inside(room: usize, address: usize, size: usize) -> bool
     address <= room - size
 }
 
-// Where the operand that r/m names is: at mod 11 a register, an integer register for MOVD, whose forms go up to LOAD_D, else an MMX register; else its
-// bytes in memory, refused where one is outside.
+// Where an operand is: at mod 11 a register, by the form an integer register or an MMX register; else its bytes in memory, refused where
+// one is outside.
 pub(crate) fn located(integers: &[u32; 8], entry: u32, operand: Operand, room: usize) -> Spot
-    requires { ⌜ Registers operand × (Listed entry × (hasTwo (wayOf (entry / 2 ^ 24)) ≡ true)) ⌝ }
+    requires { ⌜ Registers operand × (Listed entry × (hasOther (wayOf (entry / 2 ^ 24)) ≡ true)) ⌝ }
     ensures { λ r. ⌜ r ≡ spotOf (now (integers .entry)) room (otherOf (entry / 2 ^ 24) operand) ⌝ }
 {
     if operand.mode != REGISTER {
@@ -45,8 +60,8 @@ pub(crate) fn located(integers: &[u32; 8], entry: u32, operand: Operand, room: u
         }
         return Spot::Refused(OUTSIDE_MEMORY);
     }
-    if LOAD_D < entry / FORM {
-        return Spot::Mmx(operand.rm);
+    if ways::is_integer(entry / FORM) {
+        return Spot::Integer(operand.rm);
     }
-    Spot::Integer(operand.rm)
+    Spot::Mmx(operand.rm)
 }

@@ -1,5 +1,5 @@
-// Instructions read and gathered at once. One that is to be refused has no answer here, nor has EMMS as the code's last two bytes: they are left to the
-// reader.
+// Instructions read and gathered at once. One that is to be refused has no answer here, nor have the odd forms of manual 000 and EMMS as the code's last
+// two bytes: they are left to the reader.
 use crate::gathering;
 use crate::gathering::DOUBLEWORD;
 use crate::gathering::QUADWORD;
@@ -30,7 +30,7 @@ use codec::prefixes::ESCAPE;
 use lanes::MOVE;
 ghost use Rattle.basis.specs.Names.{_≡_, _/_, _%_, _^_, _≤_, _<_, length, getD};
 ghost use Rattle.words.specs.Buffer.{loaded};
-ghost use Rattle.codec.specs.Forms.{allows};
+ghost use Rattle.codec.specs.Forms.{isAmong};
 ghost use Rattle.codec.specs.Table.{formOf};
 ghost use Rattle.codec.specs.Finding.{findWith};
 ghost use Rattle.machine.specs.inner.Pointers.{Unless};
@@ -101,7 +101,7 @@ fn at_address(
     next: usize,
     memory: &[u8],
 ) -> Work
-    requires { ⌜ register < 8 ⌝ }
+    requires { ⌜ (register < 8) × (15 ≤ entry / 2 ^ 24) ⌝ }
     ensures { λ r. ⌜ Unless (r .what ≡ toRefuse) (AtAddress r (now (mmx .entry)) (now (memory .entry)) entry register address next) ⌝ }
 {
     let form = entry / FORM;
@@ -111,16 +111,14 @@ fn at_address(
         }
         return load(entry, register, address, QUADWORD, next, memory);
     }
-    if form == STORE_Q {
-        return store(mmx, register, address, QUADWORD, next, memory.len());
-    }
     if form == STORE_D {
         return store(mmx, register, address, DOUBLEWORD, next, memory.len());
     }
     if form == LOAD_D {
         return load(entry, register, address, DOUBLEWORD, next, memory);
     }
-    none()
+    // MOVQ's store form, and MOVNTQ
+    store(mmx, register, address, QUADWORD, next, memory.len())
 }
 
 // EMMS, whose opcode ends here.
@@ -133,10 +131,10 @@ fn alone(entry: u32, at: usize) -> Work
     none()
 }
 
-// Whether a form of the shifts by an immediate has this digit.
+// Whether a form of the shifts by an immediate has this digit (codec's own is private, since it asks for such a form).
 fn has_digit(form: u32, digit: u8) -> bool
     requires { ⌜ (2 ≤ form) × (form ≤ 3) ⌝ }
-    ensures { λ r. ⌜ r ≡ allows (formOf form) 3 digit 0 ⌝ }
+    ensures { λ r. ⌜ r ≡ isAmong digit (formOf form .digits) ⌝ }
 {
     if digit == RIGHT {
         return true;
@@ -163,7 +161,7 @@ fn shift(number: u8, register: u8, immediate: u8, next: usize) -> Work
     )
 }
 
-// A shift by an immediate of the register that rm names, or EMMS.
+// A shift by an immediate of the register that rm names, or EMMS; no other form.
 fn shifted(entry: u32, modrm: u8, code: &[u8], at: usize) -> Work
     requires { ⌜ (at < length (now code)) × ((192 ≤ modrm) × (modrm ≡ getD (now code) at 0)) ⌝ }
     ensures { λ r. ⌜ Unless (r .what ≡ toRefuse) (QuickAnyhow r entry (now (code .entry)) at) ⌝ }
@@ -186,7 +184,7 @@ fn shifted(entry: u32, modrm: u8, code: &[u8], at: usize) -> Work
     none()
 }
 
-// A move between an MMX register and another by its form, or a form without two operands.
+// A move between an MMX register and another by its form, or a form without two operands, or of memory alone.
 fn moved(mmx: &[u64; 8], integers: &[u32; 8], entry: u32, modrm: u8, code: &[u8], at: usize) -> Work
     requires { ⌜ (at < length (now code)) × ((192 ≤ modrm) × (modrm ≡ getD (now code) at 0)) ⌝ }
     ensures { λ r. ⌜ Unless (r .what ≡ toRefuse) (QuickAnywhere r (now (mmx .entry)) (now (integers .entry)) entry (now (code .entry)) at) ⌝ }

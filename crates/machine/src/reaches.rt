@@ -9,9 +9,9 @@ ghost use Rattle.basis.specs.Names.{_≡_, true, _/_, _^_, _<_};
 ghost use Rattle.codec.specs.inner.Fields.{Registers};
 ghost use Rattle.manual.specs.Locations.{placesOf};
 ghost use Rattle.machine.specs.State.{stateOf};
-ghost use Rattle.machine.specs.inner.Reaches.{beside, reachOf};
+ghost use Rattle.machine.specs.inner.Reaches.{integerAlone, beside, reachOf};
 ghost use Rattle.machine.specs.inner.Spots.{otherOf};
-ghost use Rattle.machine.specs.inner.Ways.{hasTwo, wayOf};
+ghost use Rattle.machine.specs.inner.Ways.{hasOther, wayOf};
 ghost use Rattle.machine.specs.inner.Works.{Listed};
 
 // No places.
@@ -41,9 +41,22 @@ pub(crate) fn with_register(register: u8, places: Places) -> Places
     }
 }
 
-// The operand that r/m names.
+// An integer register.
+pub(crate) fn of_integer(register: u8) -> Places
+    requires { ⌜ register < 8 ⌝ }
+    ensures { λ r. ⌜ r ≡ integerAlone register ⌝ }
+{
+    Places {
+        mmx: 0,
+        integers: register_masks::bit(register),
+        start: 0,
+        length: 0,
+    }
+}
+
+// The operand that r/m names, or [EDI].
 pub(crate) fn reach_operand(machine: Machine, entry: u32, operand: Operand, memory: &[u8]) -> Reach
-    requires { ⌜ Registers operand × (Listed entry × (hasTwo (wayOf (entry / 2 ^ 24)) ≡ true)) ⌝ }
+    requires { ⌜ Registers operand × (Listed entry × (hasOther (wayOf (entry / 2 ^ 24)) ≡ true)) ⌝ }
     ensures { λ r. ⌜ r ≡ reachOf (otherOf (entry / 2 ^ 24) operand) (placesOf (stateOf machine (now (memory .entry))) (otherOf (entry / 2 ^ 24) operand)) ⌝ }
 {
     let integers = machine.integers;
@@ -51,15 +64,7 @@ pub(crate) fn reach_operand(machine: Machine, entry: u32, operand: Operand, memo
     let registers = register_masks::address_mask(operand);
     match spot {
         Spot::Mmx(register) => Reach::Inside(registers, with_register(register, NOWHERE)),
-        Spot::Integer(register) => Reach::Inside(
-            registers,
-            Places {
-                mmx: 0,
-                integers: register_masks::bit(register),
-                start: 0,
-                length: 0,
-            },
-        ),
+        Spot::Integer(register) => Reach::Inside(registers, of_integer(register)),
         Spot::Bytes(address, size) => Reach::Inside(
             registers,
             Places {

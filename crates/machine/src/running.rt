@@ -55,6 +55,7 @@ impl Machine {
                 &mut mmx,
                 &mut integers,
                 bar,
+                marks.valid,
                 code,
                 at,
                 memory,

@@ -22,19 +22,20 @@ fn put_low(integers: &mut [u32; 8], register: usize, value: u64)
     integers[register] = (value % gathering::DOUBLEWORD_RANGE) as u32;
 }
 
-// The step at a position, where memory and code are within their limits and `bar` is the refusal of the control marks, or 0.
+// The step at a position, where memory and code are within their limits, `bar` is the refusal of the control marks, or 0, and `valid` the tag mark.
 pub(crate) fn advance(
     table: &[u32; 256],
     quick: &[u32; 256],
     mmx: &mut [u64; 8],
     integers: &mut [u32; 8],
     bar: u8,
+    valid: bool,
     code: &[u8],
     at: usize,
     memory: &mut [u8],
 ) -> Moved
     requires { ⌜ (now table ≡ opcodeTable) × (Opened bar (now quick) × ((length (now code) ≤ longestCode) × (length (now memory) ≤ longestMemory))) ⌝ }
-    ensures { λ r. ⌜ Advanced r (now (mmx .entry)) (now (integers .entry)) bar (now (code .entry)) at (now (memory .entry)) (now (mmx .exit)) (now (integers .exit)) (now (memory .exit)) ⌝ }
+    ensures { λ r. ⌜ Advanced r (now (mmx .entry)) (now (integers .entry)) bar valid (now (code .entry)) at (now (memory .entry)) (now (mmx .exit)) (now (integers .exit)) (now (memory .exit)) ⌝ }
 {
     let work = gathering::gathered(table, quick, mmx, integers, bar, code, at, memory);
     let what = work.what;
@@ -67,6 +68,13 @@ pub(crate) fn advance(
             refusal: 0,
             next: work.next,
             valid: false,
+        };
+    }
+    if what == gathering::PASS {
+        return Moved {
+            refusal: 0,
+            next: work.next,
+            valid: valid,
         };
     }
     Moved {

@@ -1,5 +1,5 @@
--- A run stays within its bounds: its position within the code, its count within the budget, its refusal at most 10; and it changes nothing that is
--- frozen. By its turns: so does each step.
+-- A run stays within its bounds: its position within the code, its count within the budget, its refusal's number of at most two digits; and it changes
+-- nothing that is frozen. By its turns: so does each step.
 use Rattle.basis.specs.Names.{_≡_, refl, Bool, true, false, cond, List, ℕ, zero, suc, _+_, _≤_, _<_, eqb, ltb, length, drop}
 use Rattle.basis.proofs.Names.{sym, ap, subst, _∙_, false≢true, arith, length-drop}
 use Rattle.reorder.specs.Result.{Result, done, refused, caseOf}
@@ -20,18 +20,22 @@ use Rattle.manual.proofs.Turns.{onward, turn, instruction-here}
 use Rattle.manual.proofs.Refusals.{refused-step, step-frozen}
 use Rattle.manual.proofs.Exactly.{step-exactly}
 
--- a step's refusal is at most 10
-part-small : (s : List ℕ) (n : ℕ) → codec.Reason s n → n ≤ 10
+-- a refusal's number has at most two digits: what is printed of it goes by that (which numbers there are, Exactly.antt says)
+abbrev pub greatestRefusal : ℕ
+greatestRefusal = 99
+
+-- and so has a step's
+part-small : (s : List ℕ) (n : ℕ) → codec.Reason s n → n ≤ greatestRefusal
 part-small s n (codec.three x) = omega arith
 part-small s n (codec.four x) = omega arith
 part-small s n (codec.five x) = omega arith
 part-small s n (codec.six x) = omega arith
 
-reading-small : (code : List ℕ) (at n : ℕ) → codec.ReasonAt code at n → n ≤ 10
+reading-small : (code : List ℕ) (at n : ℕ) → codec.ReasonAt code at n → n ≤ greatestRefusal
 reading-small code at n (codec.two h) = omega arith
 reading-small code at n (codec.reading h r) = part-small (drop at code) n r
 
-reason-small : (code : List ℕ) (at : ℕ) (s : State) (n : ℕ) → Reason code at s n → n ≤ 10
+reason-small : (code : List ℕ) (at : ℕ) (s : State) (n : ℕ) → Reason code at s n → n ≤ greatestRefusal
 reason-small code at s n (one h) = omega arith
 reason-small code at s n (reading h r) = reading-small code at n r
 reason-small code at s n (seven i size h em) = omega arith
@@ -65,7 +69,7 @@ pub record Bounds (code : List ℕ) (budget : ℕ) (start : State) (at count : �
 abbrev pub Bounded : List ℕ → ℕ → State → Answer State → Type 0
 Bounded code budget start (finished at count t) = Bounds code budget start at count t
 Bounded code budget start (spent at count t) = Bounds code budget start at count t
-Bounded code budget start (stopped n at count t) = (n ≤ 10) × Bounds code budget start at count t
+Bounded code budget start (stopped n at count t) = (n ≤ greatestRefusal) × Bounds code budget start at count t
 
 module _ (code : List ℕ) (code-fits : ltb longestCode (length code) ≡ false) (budget : ℕ) (start : State) where
   from : (remaining at count : ℕ) (s : State) → count + remaining ≤ budget → isTooLong (s .memory) ≡ false → Bounds code budget start at count s

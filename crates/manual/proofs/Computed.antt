@@ -1,10 +1,10 @@
 -- The examples hold: the definitions compute them.
 use Rattle.basis.specs.Names.{_≡_, refl, true, false, [], _∷_, flatten, map}
 use Rattle.basis.proofs.Names.{arith, T}
-use Rattle.lanes.specs.Lane.{lane, build, register}
+use Rattle.lanes.specs.Lane.{lane, topBit, build, register}
 use Rattle.lanes.specs.Signed.{signed, wrap, clamp, clampSigned, clampUnsigned}
-use Rattle.lanes.specs.Rules.{packed, pairwise, sum, sumSigned, sumUnsigned, greater, productHigh, productSum, pack, unpack, shift, left, right, rightSigned}
-use Rattle.lanes.specs.Operations.{operate}
+use Rattle.lanes.specs.Rules.{packed, pairwise, sum, sumSigned, sumUnsigned, greater, productHigh, productSum, pack, unpack, shift, left, right, rightSigned, blend, mean, extract, insert, maximumSigned, maximumUnsigned, minimumSigned, minimumUnsigned, topBits, productHighUnsigned, distance, total, distances, shuffle}
+use Rattle.lanes.specs.Operations.{operate, operateThree}
 use Rattle.reorder.specs.Run.{finished}
 use Rattle.reorder.specs.Block.{rearranged}
 use Rattle.codec.specs.Forms.{allows}
@@ -19,19 +19,22 @@ use Rattle.manual.specs.Steps.{instructionAt, stepAt}
 use Rattle.manual.specs.Runs.{read, runOf}
 use Rattle.manual.specs.Footprints.{footprintAt, footprintInRun, Meets}
 use Rattle.manual.proofs.Meeting.{apart}
-use Rattle.manual.proofs.Plates.{start, plates}
-use Rattle.manual.proofs.Edges.{edges}
-use Rattle.manual.proofs.FootprintTable.{here, footprints, inRuns}
+use Rattle.manual.proofs.Plates.{start, plates, extensionPlates}
+use Rattle.manual.proofs.Edges.{edges, extensionEdges}
+use Rattle.manual.proofs.FootprintTable.{here, barred, footprints, whereBarred, inRuns}
 use Rattle.manual.proofs.Example as example
 
 pub record Computed : Type 0 where
-  -- document 01's plates, and its edges
+  -- document 01's plates and its edges, and those of manual 000
   pub plates : T (all plates)
   pub edges : T (all edges)
+  pub extension-plates : T (all extensionPlates)
+  pub extension-edges : T (all extensionEdges)
   -- the customer's example: PADDB MM0, MM1
   pub customer : runOf (0x0f ∷ 0xfc ∷ 0xc1 ∷ []) 4096 (start 0xff 2 false) ≡ finished 3 1 (start 1 2 true)
-  -- the table of footprints, of single steps and in runs
+  -- the table of footprints, of single steps, with no control mark and with all, and in runs
   pub footprints : map (λ e. footprintAt (e .0) 0 here) footprints ≡ map (λ e. e .1) footprints
+  pub where-barred : map (λ e. footprintAt (e .0) 0 barred) whereBarred ≡ map (λ e. e .1) whereBarred
   pub in-runs : map (λ e. footprintInRun (e .0) here (e .1)) inRuns ≡ map (λ e. e .2) inRuns
   -- PADDB MM0, MM1 and PADDB MM2, MM3 do not meet
   pub registers-apart : ¬ Meets (footprintAt (0x0f ∷ 0xfc ∷ 0xc1 ∷ []) 0 here) (footprintAt (0x0f ∷ 0xfc ∷ 0xd3 ∷ []) 0 here)
@@ -41,13 +44,16 @@ pub record Computed : Type 0 where
   pub forbidden : runOf (rearranged read example.block example.forbidden) 4096 example.start ≡ finished 17 5 example.spoilt
 
 pub computed : Computed
-unfolding lane build register signed wrap clamp clampSigned clampUnsigned packed pairwise sum sumSigned sumUnsigned greater productHigh productSum pack unpack shift left right rightSigned operate allows formAt operationAt hasSib displacementSize immediateReader displacementReader sibReader modrmReader formReader refusalOf secondReader instructionReader readAt flatten displacementOf baseOf indexOf addressOf address rmOf effectOf execute footprint instructionAt stepAt read runOf footprintAt
+unfolding lane topBit build register signed wrap clamp clampSigned clampUnsigned packed pairwise sum sumSigned sumUnsigned greater productHigh productSum pack unpack shift left right rightSigned blend mean extract insert maximumSigned maximumUnsigned minimumSigned minimumUnsigned topBits productHighUnsigned distance total distances shuffle operate operateThree allows formAt operationAt hasSib displacementSize immediateReader displacementReader sibReader modrmReader formReader refusalOf secondReader instructionReader readAt flatten displacementOf baseOf indexOf addressOf address rmOf effectOf execute footprint instructionAt stepAt read runOf footprintAt
 computed =
     record {
       plates = tt;
       edges = tt;
+      extension-plates = tt;
+      extension-edges = tt;
       customer = refl;
       footprints = refl;
+      where-barred = refl;
       in-runs = refl;
       registers-apart = apart 0 1 2 3 (λ e. omega arith) (λ e. omega arith) (λ e. omega arith);
       block = refl;

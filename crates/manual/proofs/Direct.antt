@@ -10,13 +10,13 @@ use Rattle.codec.specs.declared.Kind.the-variants.{Ordinary}
 use Rattle.manual.specs.Refusals.{outsideMemory}
 use Rattle.manual.specs.State.{State, withMemory}
 use Rattle.manual.specs.Places.{Place, mmx, integer, byte, look, put}
-use Rattle.manual.specs.Kinds.{marked}
+use Rattle.manual.specs.Kinds.{marked, heeded}
 use Rattle.manual.specs.Addresses.{Address, address}
 use Rattle.manual.specs.Locations.{Location, mmxRegister, integerRegister, memory, bytesFrom, liesInside, placesOf}
 use Rattle.manual.specs.Effects.{Effect, placeCount, valueIn, contentsOf, unlessMarked, planOn, placed, perform as performs}
 use Rattle.manual.specs.inner.Unmarked.{directly}
 use Rattle.manual.proofs.Marking.{past-marks}
-use Rattle.manual.proofs.Shapes.{both, move}
+use Rattle.manual.proofs.Shapes.{both, move, three}
 
 -- the places of a list of one operand
 abbrev pub one : Result (List Place) → Result (List Place)
@@ -121,6 +121,22 @@ module _ (s : State) where
   unfolding opened
   both-direct f r x = operates f r x (valueAt s x) (placesOf s x) (taken s x)
 
-  -- the control marks go first
-  pub marks-first : (e : Effect) → performs e s ≡ unlessMarked (s .marks) (directly e s)
-  marks-first e = past-marks (perform look put marked s) (λ n. refl) (s .marks) (placed e s)
+  -- eight bytes made from themselves and two registers
+  pub three-direct : (f : ℕ → ℕ → ℕ → ℕ) (a : Address) (j k : ℕ) → let x = memory a 8 in
+      directly (three f x (mmxRegister j) (mmxRegister k)) s ≡ andThen (valueAt s x) (λ v. putAt s x (f v (getD (s .mmx) j 0) (getD (s .mmx) k 0)))
+  unfolding opened
+  three-direct f a j k = by (inside s a 8) (address (s .integers) a)
+    where
+      by : (t : Bool) (p : ℕ) → let there = cond t (done (bytesFrom p 8)) (refused outsideMemory) in
+          opened (three f (memory a 8) (mmxRegister j) (mmxRegister k)) (andThen there (λ ps. mapResult (λ qs. ps ++ qs) (done (mmx j ∷ mmx k ∷ [])))) (one there)
+          ≡ andThen (cond t (done (number (gets 8 (s .memory) p))) (refused outsideMemory))
+          (λ v.
+          cond t (done (marked Ordinary (withMemory s (sets (s .memory) p (bytes 8 (f v (getD (s .mmx) j 0) (getD (s .mmx) k 0))))))) (refused outsideMemory))
+      by true p =
+          ap (λ (u : State). done (marked Ordinary u))
+          (put-bytes 8 (f (number (gets 8 (s .memory) p)) (getD (s .mmx) j 0) (getD (s .mmx) k 0)) s p)
+      by false p = refl
+
+  -- the control marks that stop its kind go first
+  pub marks-first : (e : Effect) → performs e s ≡ unlessMarked (heeded (e .kind) (s .marks)) (directly e s)
+  marks-first e = past-marks (perform look put marked s) (λ n. refl) (heeded (e .kind) (s .marks)) (placed e s)

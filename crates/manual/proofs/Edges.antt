@@ -1,5 +1,5 @@
 -- The edges of steps and runs: each a block, run from a state over eight bytes of memory, and how it ends.
-use Rattle.basis.specs.Names.{Bool, true, false, not, _&&_, List, [], _∷_, ℕ, eqb, getD, replicate}
+use Rattle.basis.specs.Names.{Bool, true, false, not, _&&_, List, [], _∷_, _++_, map, flatten, ℕ, eqb, getD, replicate}
 use Rattle.words.specs.Number.{number}
 use Rattle.reorder.specs.Run.{Answer, finished, spent, stopped}
 use Rattle.manual.specs.State.{State}
@@ -77,6 +77,11 @@ completes = doneWith 1 (λ t. t .marks .valid)
 abbrev refuses : ℕ → Answer State → Bool
 refuses number = refusedAfter number 0 unchanged
 
+-- a prefetch of FFFFFFFF, by its ModRM byte
+abbrev far : ℕ → List ℕ
+far modrm = 0x0f ∷ 0x18 ∷ modrm ∷ replicate 4 0xff
+
+-- the edges of document 01
 abbrev pub edges : List Bool
 edges =
     -- MOVQ at 0 completes, at 1 is 10
@@ -147,4 +152,54 @@ edges =
     ∷ stepRefusedBy 3 (stepAt (0x0f ∷ 0x77 ∷ []) 2 (start 0 0 false false false))
     -- PXOR MM0, MM0 stays done where the instruction after it is refused
     ∷ refusedAfter 5 1 (mm0 0) (run (0x0f ∷ 0xef ∷ 0xc0 ∷ 0x90 ∷ []))
+    ∷ []
+
+-- the edges of manual 000's instructions
+abbrev pub extensionEdges : List Bool
+extensionEdges =
+    -- a form that is not listed is 6 at its ModRM byte, before what would follow; else code that ends is 3: PEXTRW, PSHUFW
+    refuses 6 (run (0x0f ∷ 0xc5 ∷ 0x00 ∷ []))
+    ∷ refuses 3 (run (0x0f ∷ 0xc5 ∷ 0xc0 ∷ []))
+    ∷ refuses 3 (run (0x0f ∷ 0x70 ∷ 0xc1 ∷ []))
+    -- MOVNTQ of registers, MASKMOVQ and PMOVMSKB of memory
+    ∷ refuses 6 (run (0x0f ∷ 0xe7 ∷ 0xc0 ∷ []))
+    ∷ refuses 6 (run (0x0f ∷ 0xf7 ∷ 0x00 ∷ []))
+    ∷ refuses 6 (run (0x0f ∷ 0xd7 ∷ 0x00 ∷ []))
+    -- 18 before a register, before /4, and before /4 with an SIB byte to come; then before the code's end
+    ∷ refuses 6 (run (0x0f ∷ 0x18 ∷ 0xc0 ∷ []))
+    ∷ refuses 6 (run (0x0f ∷ 0x18 ∷ 0x20 ∷ []))
+    ∷ refuses 6 (run (0x0f ∷ 0x18 ∷ 0x24 ∷ []))
+    ∷ refuses 3 (run (0x0f ∷ 0x18 ∷ []))
+    ∷ refuses 3 (run (0x0f ∷ 0x18 ∷ 0x04 ∷ []))
+    -- AE before another byte than F8: another digit, another rm, memory; then before the code's end
+    ∷ refuses 6 (run (0x0f ∷ 0xae ∷ 0xe8 ∷ []))
+    ∷ refuses 6 (run (0x0f ∷ 0xae ∷ 0xf0 ∷ []))
+    ∷ refuses 6 (run (0x0f ∷ 0xae ∷ 0xf9 ∷ []))
+    ∷ refuses 6 (run (0x0f ∷ 0xae ∷ 0x38 ∷ []))
+    ∷ refuses 6 (run (0x0f ∷ 0xae ∷ 0x3c ∷ []))
+    ∷ refuses 3 (run (0x0f ∷ 0xae ∷ []))
+    -- MASKMOVQ at EDI = 0: with all ones for a mask all bytes, with 0 none, with 80007FFF those of FF and 80
+    ∷ doneWith 1 (memory 0xffffffffffffffff) (run (0x0f ∷ 0xf7 ∷ 0xc0 ∷ []))
+    ∷ doneWith 1 (memory 0x1716151413121110) (run (0x0f ∷ 0xf7 ∷ 0xc1 ∷ []))
+    ∷ doneWith 2 (memory 0x17161514ff1211ff) (runWith 0x80007fff 0 (0x0f ∷ 0x6e ∷ 0xc8 ∷ 0x0f ∷ 0xf7 ∷ 0xc1 ∷ []))
+    -- and at EDI = FFFF, by PEXTRW EDI, MM0, 0, it is 10, with a mask of 0 too
+    ∷ refusedAfter 10 1 (memory 0x1716151413121110) (run (0x0f ∷ 0xc5 ∷ 0xf8 ∷ 0 ∷ 0x0f ∷ 0xf7 ∷ 0xc1 ∷ []))
+    -- PINSRW MM0, [6], 1 takes two bytes; at 7 it is 10
+    ∷ doneWith 1 (mm0 0xffffffff1716ffff) (run (0x0f ∷ 0xc4 ∷ 0x05 ∷ 6 ∷ 0 ∷ 0 ∷ 0 ∷ 1 ∷ []))
+    ∷ refuses 10 (run (0x0f ∷ 0xc4 ∷ 0x05 ∷ 7 ∷ 0 ∷ 0 ∷ 0 ∷ 1 ∷ []))
+    -- PINSRW MM0, EAX, 6 takes the low word, and goes by the immediate's low two bits; so does PEXTRW EAX, MM0, 6, after MOVQ MM0, [0]
+    ∷ doneWith 1 (mm0 0xffff5678ffffffff) (runWith 0x12345678 0 (0x0f ∷ 0xc4 ∷ 0xc0 ∷ 6 ∷ []))
+    ∷ doneWith 2 (eax 0x1514) (run (0x0f ∷ 0x6f ∷ 0x05 ∷ 0 ∷ 0 ∷ 0 ∷ 0 ∷ 0x0f ∷ 0xc5 ∷ 0xc0 ∷ 6 ∷ []))
+    -- PEXTRW EAX, MM0, 0 and PMOVMSKB EAX, MM0 clear the upper bits
+    ∷ doneWith 1 (eax 0xffff) (runWith 0xffffffff 0 (0x0f ∷ 0xc5 ∷ 0xc0 ∷ 0 ∷ []))
+    ∷ doneWith 1 (eax 0xff) (runWith 0xffffffff 0 (0x0f ∷ 0xd7 ∷ 0xc0 ∷ []))
+    -- PSHUFW MM0, [0], 1B turns the words round; MOVNTQ [0], MM0
+    ∷ doneWith 1 (mm0 0x1110131215141716) (run (0x0f ∷ 0x70 ∷ 0x05 ∷ 0 ∷ 0 ∷ 0 ∷ 0 ∷ 0x1b ∷ []))
+    ∷ doneWith 1 (memory 0xffffffffffffffff) (run (0x0f ∷ 0xe7 ∷ 0x05 ∷ 0 ∷ 0 ∷ 0 ∷ 0 ∷ []))
+    -- /0 to /3 at FFFFFFFF, and SFENCE, complete though EM, TS and pending are set, and leave everything; PMOVMSKB is 7
+    ∷ doneWith 5 unchanged (runOf (flatten (map far (0x05 ∷ 0x0d ∷ 0x15 ∷ 0x1d ∷ [])) ++ 0x0f ∷ 0xae ∷ 0xf8 ∷ []) 4096 (start 0 0 true true true))
+    ∷ refuses 7 (runOf (0x0f ∷ 0xd7 ∷ 0xc0 ∷ []) 1 (start 0 0 true false false))
+    -- after PXOR MM0, MM0 a prefetch and SFENCE keep the tags valid, and after EMMS empty
+    ∷ doneWith 3 (mm0 0) (run (0x0f ∷ 0xef ∷ 0xc0 ∷ 0x0f ∷ 0x18 ∷ 0x00 ∷ 0x0f ∷ 0xae ∷ 0xf8 ∷ []))
+    ∷ doneWith 4 tagsEmpty (run (0x0f ∷ 0xef ∷ 0xc0 ∷ 0x0f ∷ 0x77 ∷ 0x0f ∷ 0x18 ∷ 0x00 ∷ 0x0f ∷ 0xae ∷ 0xf8 ∷ []))
     ∷ []

@@ -17,7 +17,7 @@ use Rattle.manual.specs.Effects.{placesOfAll, planOn, plan, unlessMarked
 use Rattle.manual.specs.inner.Unmarked.{directly}
 use Rattle.manual.specs.Instructions.{effectOf, execute}
 use Rattle.manual.specs.Steps.{refusedWith, resultOf, concluded, instructionAt, stepAt}
-use Rattle.manual.specs.Reasons.{Stands, Outside, Reason, one, reading, seven, eight, nine, ten}
+use Rattle.manual.specs.Reasons.{Stands, stopsIt, Outside, Reason, one, reading, seven, eight, nine, ten}
 use Rattle.manual.proofs.Marking.{controlled}
 
 -- Operands: the only refusal is 10, and it is given exactly where one of them is outside
@@ -147,7 +147,8 @@ step-exactly code at s n = (λ e. memory-test (isTooLong (s .memory)) refl e, st
     executed next (done t) h = absurd (false≢true (cc))
     executed next (refused m) h = cc
 
-    marks : (i : Instruction) (size : ℕ) → Stands code at s i size → (em ts pending : Bool) → s .marks .em ≡ em → s .marks .ts ≡ ts → s .marks .pending ≡ pending
+    marks : (i : Instruction) (size : ℕ) → Stands code at s i size → (em ts pending : Bool)
+        → stopsIt i (s .marks .em) ≡ em → stopsIt i (s .marks .ts) ≡ ts → stopsIt i (s .marks .pending) ≡ pending
         → perform look put marked s (unlessMarked (controlled (s .marks) em ts pending) (andThen (source i s) (λ from. mapResult (planOn (effectOf i) from) (target i s)))) ≡ refused n
         → Reason code at s n
     marks i size stands true ts pending e f g h = subst (Reason code at s) (cc) (seven i size stands e)
@@ -164,7 +165,8 @@ step-exactly code at s n = (λ e. memory-test (isTooLong (s .memory)) refl e, st
         let same : m ≡ n = cc in
         reading fit (reading-exactly code at n .0 (e ∙ ap decoded.refused same))
     read (decoded.good i size) fit e h =
-        marks i size (record { memory-fits = fit; read = e }) (s .marks .em) (s .marks .ts) (s .marks .pending) refl refl refl (executed (at + size) (execute i s) h)
+        marks i size (record { memory-fits = fit; read = e }) (stopsIt i (s .marks .em)) (stopsIt i (s .marks .ts)) (stopsIt i (s .marks .pending)) refl refl refl
+        (executed (at + size) (execute i s) h)
 
     memory-test : (t : Bool) → isTooLong (s .memory) ≡ t
         → caseOf (cond t (refused memoryTooLong) (resultOf (readAt code at))) (λ m. refusedWith m at s) (λ r. concluded at (at + r .size) s (execute (r .instruction) s)) ≡ refusedWith n at s

@@ -1,18 +1,27 @@
 -- The table of footprints: for each form of instruction, which places its step reads and writes; and the footprints of instructions in a run.
-use Rattle.basis.specs.Names.{false, List, [], _∷_, ℕ, replicate}
+use Rattle.basis.specs.Names.{true, false, List, [], _∷_, _++_, ℕ, replicate}
 use Rattle.reorder.specs.Result.{Result, done, refused}
 use Rattle.reorder.specs.Footprint.{Footprint}
 use Rattle.codec.specs.declared.Kind.{Kind}
-use Rattle.codec.specs.declared.Kind.the-variants.{Ordinary, Emms}
+use Rattle.codec.specs.declared.Kind.the-variants.{Ordinary, Emms, Silent}
+use Rattle.manual.specs.declared.Marks.{Marks}
 use Rattle.manual.specs.State.{State}
 use Rattle.manual.specs.Places.{Place, mmx, integer}
 use Rattle.manual.specs.Locations.{bytesFrom}
-use Rattle.manual.proofs.Marking.{clear}
+use Rattle.manual.proofs.Marking.{controlled, clear}
 
--- 8 in EAX, 2 in ECX, and 32 bytes of memory
+-- 8 in EAX, 2 in ECX, 20 in EDI, 32 bytes of memory, and these marks
+abbrev under : Marks → State
+under marks =
+    record { mmx = replicate 8 0; integers = 8 ∷ 2 ∷ 0 ∷ 0 ∷ 0 ∷ 0 ∷ 0 ∷ 20 ∷ []; marks = marks; memory = replicate 32 0 }
+
+-- no control mark is set
 abbrev pub here : State
-here =
-    record { mmx = replicate 8 0; integers = 8 ∷ 2 ∷ replicate 6 0; marks = clear false; memory = replicate 32 0 }
+here = under (clear false)
+
+-- all of them are
+abbrev pub barred : State
+barred = under (controlled (clear false) true true true)
 
 -- an instruction's bytes, and the footprint of its step or the step's refusal
 abbrev Line : Type 0
@@ -21,6 +30,10 @@ Line = List ℕ × Result (Footprint Place Kind)
 -- bytes, what the step reads, what it writes
 abbrev uses : List ℕ → List Place → List Place → Line
 uses code reads writes = (code, done (record { reads = reads; writes = writes; kind = Ordinary }))
+
+-- the bytes of an instruction that touches nothing
+abbrev passes : List ℕ → Line
+passes code = (code, done (record { reads = []; writes = []; kind = Silent }))
 
 abbrev pub footprints : List Line
 footprints =
@@ -46,12 +59,38 @@ footprints =
     ∷ uses (0x0f ∷ 0x71 ∷ 0xd2 ∷ 3 ∷ []) (mmx 2 ∷ []) (mmx 2 ∷ [])
     -- EMMS
     ∷ (0x0f ∷ 0x77 ∷ [], done (record { reads = []; writes = []; kind = Emms }))
+    -- PEXTRW EDX, MM1, 3, and PMOVMSKB EDX, MM1
+    ∷ uses (0x0f ∷ 0xc5 ∷ 0xd1 ∷ 3 ∷ []) (mmx 1 ∷ []) (integer 2 ∷ [])
+    ∷ uses (0x0f ∷ 0xd7 ∷ 0xd1 ∷ []) (mmx 1 ∷ []) (integer 2 ∷ [])
+    -- PINSRW MM1, EDX, 3, and MM1, [EAX + 4], 3
+    ∷ uses (0x0f ∷ 0xc4 ∷ 0xca ∷ 3 ∷ []) (mmx 1 ∷ integer 2 ∷ []) (mmx 1 ∷ [])
+    ∷ uses (0x0f ∷ 0xc4 ∷ 0x48 ∷ 4 ∷ 3 ∷ []) (integer 0 ∷ mmx 1 ∷ bytesFrom 12 2) (mmx 1 ∷ [])
+    -- PSHUFW MM1, MM2, 3, and MM1, [EAX + 4], 3
+    ∷ uses (0x0f ∷ 0x70 ∷ 0xca ∷ 3 ∷ []) (mmx 2 ∷ []) (mmx 1 ∷ [])
+    ∷ uses (0x0f ∷ 0x70 ∷ 0x48 ∷ 4 ∷ 3 ∷ []) (integer 0 ∷ bytesFrom 12 8) (mmx 1 ∷ [])
+    -- PAVGB MM1, [EAX + 4], and MOVNTQ [EAX + 4], MM1
+    ∷ uses (0x0f ∷ 0xe0 ∷ 0x48 ∷ 4 ∷ []) (integer 0 ∷ mmx 1 ∷ bytesFrom 12 8) (mmx 1 ∷ [])
+    ∷ uses (0x0f ∷ 0xe7 ∷ 0x48 ∷ 4 ∷ []) (integer 0 ∷ mmx 1 ∷ []) (bytesFrom 12 8)
+    -- MASKMOVQ MM1, MM2: all eight bytes, though the mask is 0 (EDI stands behind what is taken and behind what is given)
+    ∷ uses (0x0f ∷ 0xf7 ∷ 0xca ∷ []) (integer 7 ∷ integer 7 ∷ bytesFrom 20 8 ++ mmx 1 ∷ mmx 2 ∷ []) (bytesFrom 20 8)
+    -- PREFETCHT0 [EAX + ECX * 8 + 80000000], which is far outside, and SFENCE
+    ∷ passes (0x0f ∷ 0x18 ∷ 0x8c ∷ 0xc8 ∷ 0 ∷ 0 ∷ 0 ∷ 0x80 ∷ [])
+    ∷ passes (0x0f ∷ 0xae ∷ 0xf8 ∷ [])
     -- MOVQ MM1, [EAX + EAX], and MM1, [0]
     ∷ uses (0x0f ∷ 0x6f ∷ 0x0c ∷ 0x00 ∷ []) (integer 0 ∷ integer 0 ∷ bytesFrom 16 8) (mmx 1 ∷ [])
     ∷ uses (0x0f ∷ 0x6f ∷ 0x0d ∷ 0 ∷ 0 ∷ 0 ∷ 0 ∷ []) (bytesFrom 0 8) (mmx 1 ∷ [])
     -- the step's refusal: MOVQ MM1, [EAX + 17], and at the code's end
     ∷ (0x0f ∷ 0x6f ∷ 0x48 ∷ 17 ∷ [], refused 10)
     ∷ ([], refused 3)
+    ∷ []
+
+-- where all control marks are set: the same prefetch and SFENCE, PADDB MM1, MM2, and EMMS
+abbrev pub whereBarred : List Line
+whereBarred =
+    passes (0x0f ∷ 0x18 ∷ 0x8c ∷ 0xc8 ∷ 0 ∷ 0 ∷ 0 ∷ 0x80 ∷ [])
+    ∷ passes (0x0f ∷ 0xae ∷ 0xf8 ∷ [])
+    ∷ (0x0f ∷ 0xfc ∷ 0xca ∷ [], refused 7)
+    ∷ (0x0f ∷ 0x77 ∷ [], refused 7)
     ∷ []
 
 -- a block, the number of an instruction, and its footprint in the block's run

@@ -4,10 +4,10 @@ use Rattle.basis.proofs.Names.{sym, ap, List·Memᴰ·head as here, Memᴰ·app
 use Rattle.reorder.specs.Result.{andThen, mapResult}
 use Rattle.reorder.proofs.Places.{Laws, Local}
 use Rattle.codec.specs.declared.Kind.{Kind}
-use Rattle.codec.specs.declared.Kind.the-variants.{Ordinary, Emms}
+use Rattle.codec.specs.declared.Kind.the-variants.{Ordinary, Emms, Silent}
 use Rattle.manual.specs.State.{State, frozen}
 use Rattle.manual.specs.Places.{Place, mmx, integer, byte, look, put}
-use Rattle.manual.specs.Kinds.{marked, KindsMeet}
+use Rattle.manual.specs.Kinds.{marked, heeded, KindsMeet}
 use Rattle.manual.specs.Addresses.{Address, registerPart, address, registersOf, addressRegisters}
 use Rattle.manual.specs.Locations.{Location, mmxRegister, integerRegister, memory, tested, placesOf, registersBehind}
 use Rattle.manual.specs.Effects.{placesOfAll, registersBehindAll, addressRegistersOf, unlessMarked, planOn, plan, via}
@@ -59,6 +59,9 @@ look-marked s Ordinary (byte i) = refl
 look-marked s Emms (mmx i) = refl
 look-marked s Emms (integer i) = refl
 look-marked s Emms (byte i) = refl
+look-marked s Silent (mmx i) = refl
+look-marked s Silent (integer i) = refl
+look-marked s Silent (byte i) = refl
 
 put-marked : (s : State) (k : Kind) (q : Place) (v : ℕ) → put (marked k s) q v ≡ marked k (put s q v)
 put-marked s Ordinary (mmx i) v = refl
@@ -67,12 +70,20 @@ put-marked s Ordinary (byte i) v = refl
 put-marked s Emms (mmx i) v = refl
 put-marked s Emms (integer i) v = refl
 put-marked s Emms (byte i) v = refl
+put-marked s Silent (mmx i) v = refl
+put-marked s Silent (integer i) v = refl
+put-marked s Silent (byte i) v = refl
 
 marked-comm : (s : State) (a b : Kind) → ¬ KindsMeet a b → marked b (marked a s) ≡ marked a (marked b s)
 marked-comm s Ordinary Ordinary n = refl
 marked-comm s Ordinary Emms n = absurd (n refl)
+marked-comm s Ordinary Silent n = refl
 marked-comm s Emms Ordinary n = absurd (n refl)
 marked-comm s Emms Emms n = absurd (n refl)
+marked-comm s Emms Silent n = refl
+marked-comm s Silent Ordinary n = refl
+marked-comm s Silent Emms n = refl
+marked-comm s Silent Silent n = refl
 
 frozen-put : (s : State) (p : Place) (v : ℕ) → frozen (put s p v) ≡ frozen s
 frozen-put s (mmx i) v = cc (length-set (s .mmx) i v)
@@ -82,6 +93,7 @@ frozen-put s (byte i) v = cc (length-set (s .memory) i v)
 frozen-marked : (s : State) (k : Kind) → frozen (marked k s) ≡ frozen s
 frozen-marked s Ordinary = refl
 frozen-marked s Emms = refl
+frozen-marked s Silent = refl
 
 pub laws : Laws look put marked frozen KindsMeet
 laws =
@@ -128,7 +140,7 @@ module _ (s s′ : State) (same : frozen s ≡ frozen s′) where
 
 pub local : Local look frozen via plan
 local e s s′ same h =
-    λ j. unlessMarked (controlled (s .marks) (same j .em) (same j .ts) (same j .pending))
+    λ j. unlessMarked (heeded (e .kind) (controlled (s .marks) (same j .em) (same j .ts) (same j .pending)))
     (andThen (takes j) (λ source. mapResult (planOn e source) (gives j)))
   where
     agree : Agree s s′ same (addressRegistersOf e)

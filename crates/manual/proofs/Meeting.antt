@@ -1,70 +1,91 @@
--- When two instructions meet: meeting is symmetric, EMMS meets every instruction, and two others meet exactly where one writes a
--- place that the other reads or writes.
-use Rattle.basis.specs.Names.{_≡_, refl, _⊎_, false, not, [], _∷_, List·Memᴰ as In, ℕ, eqb}
-use Rattle.basis.proofs.Names.{sym, ap, _∙_, subst₂, _↔_, inl, inr, false≢true, List·Memᴰ·head as here, List·Memᴰ·tail as later, List·Memᴰ·eq-of-singleton as eq-of-singleton, eqb-true, eq-eqb, not-false}
-use Rattle.reorder.specs.Result.{Result, done}
+-- When two instructions meet: meeting is symmetric, prefetches and SFENCE meet none, EMMS meets every other, and two others meet exactly where one
+-- writes a place that the other reads or writes.
+use Rattle.basis.specs.Names.{_≡_, refl, _⊎_, Bool, true, false, cond, [], _∷_, List·Memᴰ as In, ℕ, eqb}
+use Rattle.basis.proofs.Names.{sym, ap, ap₂, _∙_, subst, subst₂, _↔_, inl, inr, false≢true, List·Memᴰ·head as here, List·Memᴰ·tail as later, List·Memᴰ·eq-of-singleton as eq-of-singleton, List·Memᴰ·not-nil as not-nil, eqb-true}
+use Rattle.reorder.specs.Result.{Result, done, refused}
 use Rattle.reorder.specs.Footprint as places
 use Rattle.reorder.proofs.Meeting.{meets-symmetric}
 use Rattle.codec.specs.declared.Instruction.{Instruction}
 use Rattle.codec.specs.declared.Kind.{Kind}
-use Rattle.codec.specs.declared.Kind.the-variants.{Ordinary, Emms}
+use Rattle.codec.specs.declared.Kind.the-variants.{Ordinary, Emms, Silent}
 use Rattle.manual.specs.State.{State}
 use Rattle.manual.specs.Places.{Place, mmx, integer, byte}
-use Rattle.manual.specs.Kinds.{KindsMeet}
+use Rattle.manual.specs.Kinds.{kindsMeet, KindsMeet}
 use Rattle.manual.specs.Instructions.{footprint}
 use Rattle.manual.specs.Footprints.{Meets}
-use Rattle.manual.proofs.Uses.{tagOf, footprint-kind}
+use Rattle.manual.proofs.Uses.{isSilent, kindAt, footprint-kind, silent-passes}
 
 kinds-turn : (a b : Kind) → KindsMeet a b → KindsMeet b a
 kinds-turn Ordinary Ordinary e = e
 kinds-turn Ordinary Emms e = refl
+kinds-turn Ordinary Silent e = e
 kinds-turn Emms Ordinary e = refl
 kinds-turn Emms Emms e = refl
+kinds-turn Emms Silent e = e
+kinds-turn Silent b e = absurd (false≢true e)
 
 pub meeting-symmetric : (f g : Result (places.Footprint Place Kind)) → Meets f g → Meets g f
 meeting-symmetric f g m = meets-symmetric KindsMeet kinds-turn f g m
 
--- kinds meet exactly where one of them sets the tag mark empty
-kinds-exactly : (a b : Kind) → KindsMeet a b ↔ ((tagOf a ≡ false) ⊎ (tagOf b ≡ false))
-kinds-exactly a b = (from a b, to a b)
+-- the first is EMMS, and the second no prefetch or SFENCE
+abbrev pub Empties : Instruction → Instruction → Type 0
+Empties i j = (i .second ≡ 0x77) × (isSilent (j .second) ≡ false)
+
+-- the kinds of two second bytes meet exactly where one of them empties the tags, and the other touches them
+kinds-exactly : (i j : Instruction) → KindsMeet (kindAt (i .second)) (kindAt (j .second)) ↔ (Empties i j ⊎ Empties j i)
+kinds-exactly i j = (from (eqb (i .second) 0x77) (isSilent (i .second)) (eqb (j .second) 0x77) (isSilent (j .second)) refl refl refl refl, to)
   where
-    from : (a b : Kind) → KindsMeet a b → (tagOf a ≡ false) ⊎ (tagOf b ≡ false)
-    from Ordinary Ordinary e = absurd (false≢true e)
-    from Ordinary Emms e = inr refl
-    from Emms b e = inl refl
+    from : (a b c d : Bool) → eqb (i .second) 0x77 ≡ a → isSilent (i .second) ≡ b → eqb (j .second) 0x77 ≡ c → isSilent (j .second) ≡ d
+        → KindsMeet (cond a Emms (cond b Silent Ordinary)) (cond c Emms (cond d Silent Ordinary)) → Empties i j ⊎ Empties j i
+    from true b c false ea eb ec ed h = inl (eqb-true (i .second) 0x77 ea, ed)
+    from true b true true ea eb ec ed h = absurd (false≢true (sym (ap isSilent (eqb-true (j .second) 0x77 ec)) ∙ ed))
+    from true b false true ea eb ec ed h = absurd (false≢true h)
+    from false false true d ea eb ec ed h = inr (eqb-true (j .second) 0x77 ec, eb)
+    from false false false true ea eb ec ed h = absurd (false≢true h)
+    from false false false false ea eb ec ed h = absurd (false≢true h)
+    from false true c d ea eb ec ed h = absurd (false≢true h)
 
-    to : (a b : Kind) → (tagOf a ≡ false) ⊎ (tagOf b ≡ false) → KindsMeet a b
-    to Ordinary Ordinary (inl e) = absurd (false≢true (sym e))
-    to Ordinary Ordinary (inr e) = absurd (false≢true (sym e))
-    to Ordinary Emms e = refl
-    to Emms b e = refl
+    one : (i j : Instruction) → Empties i j → KindsMeet (kindAt (i .second)) (kindAt (j .second))
+    one i j (e, n) =
+        ap₂ (λ (second : ℕ) (t : Bool). kindsMeet (kindAt second) (cond (eqb (j .second) 0x77) Emms (cond t Silent Ordinary))) e n
+        ∙ by (eqb (j .second) 0x77)
+      where
+        by : (t : Bool) → kindsMeet Emms (cond t Emms Ordinary) ≡ true
+        by true = refl
+        by false = refl
 
--- which the footprint of an instruction does exactly where it is EMMS
-emms-exactly : (i : Instruction) (s : State) (f : places.Footprint Place Kind) → footprint i s ≡ done f → (tagOf (f .kind) ≡ false) ↔ (i .second ≡ 0x77)
-emms-exactly i s f e =
-    let tag = footprint-kind i s f e in
-    (λ h. eqb-true (i .second) 0x77 (not-false (eqb (i .second) 0x77) (sym tag ∙ h)), λ h. tag ∙ ap not (eq-eqb (i .second) 0x77 h))
+    to : Empties i j ⊎ Empties j i → KindsMeet (kindAt (i .second)) (kindAt (j .second))
+    to (inl h) = one i j h
+    to (inr h) = kinds-turn (kindAt (j .second)) (kindAt (i .second)) (one j i h)
 
--- statements that say the same, put in an alternative
-either : {A A′ B B′ : Type 0} → A ↔ A′ → B ↔ B′ → (A ⊎ B) ↔ (A′ ⊎ B′)
-either {A} {A′} {B} {B′} a b = (from, to)
-  where
-    from : A ⊎ B → A′ ⊎ B′
-    from (inl x) = inl (a .0 x)
-    from (inr y) = inr (b .0 y)
-
-    to : A′ ⊎ B′ → A ⊎ B
-    to (inl x) = inl (a .1 x)
-    to (inr y) = inr (b .1 y)
-
--- "Two instructions meet if one writes a place that the other reads or writes, or if either is EMMS", and no others do
+-- "Two instructions meet if one writes a place that the other reads or writes, or if either is EMMS", and the other no prefetch or SFENCE; no others do
 pub meets-exactly : (i j : Instruction) (s t : State) (f g : places.Footprint Place Kind) → footprint i s ≡ done f → footprint j t ≡ done g
-    → Meets (footprint i s) (footprint j t) ↔ (((i .second ≡ 0x77) ⊎ (j .second ≡ 0x77)) ⊎ places.Share f g)
+    → Meets (footprint i s) (footprint j t) ↔ ((Empties i j ⊎ Empties j i) ⊎ places.Share f g)
 meets-exactly i j s t f g ef eg =
-    let kinds = kinds-exactly (f .kind) (g .kind) in
-    let emms = either (emms-exactly i s f ef) (emms-exactly j t g eg) in
-    subst₂ (λ x y. Meets x y ↔ (((i .second ≡ 0x77) ⊎ (j .second ≡ 0x77)) ⊎ places.Share f g)) (sym ef) (sym eg)
-    (either (λ k. emms .0 (kinds .0 k), λ e. kinds .1 (emms .1 e)) (λ shared. shared, λ shared. shared))
+    subst₂ (λ x y. Meets x y ↔ ((Empties i j ⊎ Empties j i) ⊎ places.Share f g)) (sym ef) (sym eg) (from, to)
+  where
+    same : KindsMeet (f .kind) (g .kind) ≡ KindsMeet (kindAt (i .second)) (kindAt (j .second))
+    same = ap₂ KindsMeet (footprint-kind i s f ef) (footprint-kind j t g eg)
+
+    from : Meets (done f) (done g) → (Empties i j ⊎ Empties j i) ⊎ places.Share f g
+    from (inl h) = inl (kinds-exactly i j .0 (subst (λ X. X) same h))
+    from (inr h) = inr h
+
+    to : (Empties i j ⊎ Empties j i) ⊎ places.Share f g → Meets (done f) (done g)
+    to (inl h) = inl (subst (λ X. X) (sym same) (kinds-exactly i j .1 h))
+    to (inr h) = inr h
+
+-- a prefetch or SFENCE meets nothing, EMMS included
+pub silent-meets-none : (i : Instruction) (s : State) (x : Result (places.Footprint Place Kind)) → isSilent (i .second) ≡ true
+    → ¬ Meets (footprint i s) x
+silent-meets-none i s x h m = by x (subst (λ y. Meets y x) (silent-passes i s h .1) m)
+  where
+    by : (x : Result (places.Footprint Place Kind)) → Meets (done (record { reads = []; writes = []; kind = Silent })) x → ⊥
+    by (refused n) m = m
+    by (done g) (inl e) = false≢true e
+    by (done g) (inr (inl (p, w, r))) = not-nil w
+    by (done g) (inr (inr (p, w, inl r))) = not-nil r
+    by (done g) (inr (inr (p, w, inr r))) = not-nil r
 
 -- so two computations on different registers do not meet
 

@@ -1,20 +1,20 @@
--- A second opinion on the list of instructions: document 01's table of opcode bytes, in its own order, with its words on operands. Each instruction has the
--- effect that its row says, for every operand and immediate: by computation.
-use Rattle.basis.specs.Names.{_≡_, refl, cond, not, _&&_, List, [], _∷_, map, ℕ, _%_, _^_, bitAnd, bitOr, bitXor, eqb, length}
+-- A second opinion on the list of instructions: document 01's table of opcode bytes and manual 000's, each in its own order, with its words on
+-- operands. Each instruction has the effect that its row says, for every operand and immediate: by computation.
+use Rattle.basis.specs.Names.{_≡_, refl, Bool, cond, not, _&&_, List, [], _∷_, _++_, map, flatten, ℕ, _%_, _^_, bitAnd, bitOr, bitXor, eqb, length}
 use Rattle.lanes.specs.Signed.{clampSigned, clampUnsigned}
-use Rattle.lanes.specs.Rules.{packed, pairwise, sum, difference, sumSigned, differenceSigned, sumUnsigned, differenceUnsigned, equal, greater, productLow, productHigh, productSum, pack, unpackLow, unpackHigh, andNot, shift, left, right, rightSigned}
-use Rattle.lanes.specs.Operations.{described, operate}
+use Rattle.lanes.specs.Rules.{packed, pairwise, sum, difference, sumSigned, differenceSigned, sumUnsigned, differenceUnsigned, equal, greater, productLow, productHigh, productSum, pack, unpackLow, unpackHigh, andNot, shift, left, right, rightSigned, blend, mean, extract, insert, maximumSigned, maximumUnsigned, minimumSigned, minimumUnsigned, topBits, productHighUnsigned, distances, shuffle}
+use Rattle.lanes.specs.Operations.{described, operate, operateThree}
 use Rattle.codec.specs.Forms.{isAmong, isAbsent, hasOperand, immediateSize}
 use Rattle.codec.specs.Opcodes.{escape, formAt, operationAt}
 use Rattle.codec.specs.Table.{listed}
 use Rattle.codec.specs.Reads.{instructionOf}
 use Rattle.codec.specs.declared.Operand.{Operand}
-use Rattle.codec.specs.declared.Kind.the-variants.{Emms}
+use Rattle.codec.specs.declared.Kind.the-variants.{Emms, Silent}
 use Rattle.manual.specs.Addresses.{addressOf}
-use Rattle.manual.specs.Locations.{Location, mmxRegister, integerRegister, memory, rmOf}
+use Rattle.manual.specs.Locations.{Location, mmxRegister, integerRegister, memory, rmOf, atEdi}
 use Rattle.manual.specs.Effects.{Effect}
 use Rattle.manual.specs.Instructions.{effectOf}
-use Rattle.manual.proofs.Shapes.{both, move, bare}
+use Rattle.manual.proofs.Shapes.{both, move, three, bare}
 
 -- "the reg field names the MMX register and r/m the other operand": at mod 11 a register, else bytes in memory
 
@@ -46,6 +46,7 @@ unchanged x = x
 abbrev lowHalf : ℕ → ℕ
 lowHalf x = x % 2 ^ 32
 
+-- document 01's table
 abbrev table : List (ℕ × (Operand → Effect))
 table =
     -- 60 61 62: PUNPCKLBW, PUNPCKLWD, PUNPCKLDQ
@@ -82,6 +83,43 @@ table =
     ∷ (0xf8, eight (packed (pairwise difference) 8)) ∷ (0xf9, eight (packed (pairwise difference) 16)) ∷ (0xfa, eight (packed (pairwise difference) 32))
     ∷ (0xfc, eight (packed (pairwise sum) 8)) ∷ (0xfd, eight (packed (pairwise sum) 16)) ∷ (0xfe, eight (packed (pairwise sum) 32)) ∷ []
 
+-- "mmreg2" and "reg32": a register in any case
+
+abbrev mmxOfRm : Operand → Location
+mmxOfRm w = mmxRegister (w .rm)
+
+abbrev integerOfReg : Operand → Location
+integerOfReg w = integerRegister (w .reg)
+
+-- manual 000's Table 2, in its order: with an operand and an immediate
+abbrev extension : List (ℕ × (Operand → ℕ → Effect))
+extension =
+    -- MASKMOVQ mmreg1, mmreg2 (edi): the bytes of mmreg1 whose bytes in mmreg2 have their top bit set, to the 8 bytes at EDI
+    (0xf7, λ w immediate. three (λ destination source mask. packed (blend mask) 8 destination source) (memory atEdi 8) (mmxOfReg w) (mmxOfRm w))
+    -- MOVNTQ mem64, mmreg1 (at mod 11, which is refused by 6, a register)
+    ∷ (0xe7, λ w immediate. copies unchanged (mmxOr 8) mmxOfReg w)
+    -- PAVGB, PAVGW mmreg1, mmreg2/mem64
+    ∷ (0xe0, λ w immediate. eight (packed (pairwise mean) 8) w) ∷ (0xe3, λ w immediate. eight (packed (pairwise mean) 16) w)
+    -- PEXTRW reg32, mmreg, imm8: the upper bits cleared
+    ∷ (0xc5, λ w immediate. copies (λ x. lowHalf (extract 16 x immediate)) integerOfReg mmxOfRm w)
+    -- PINSRW mmreg, reg32/mem16, imm8
+    ∷ (0xc4, λ w immediate. both (packed (insert immediate) 16) (mmxOfReg w) (integerOr 2 w))
+    -- PMAXSW, PMAXUB, PMINSW, PMINUB mmreg1, mmreg2/mem64
+    ∷ (0xee, λ w immediate. eight (packed (pairwise maximumSigned) 16) w) ∷ (0xde, λ w immediate. eight (packed (pairwise maximumUnsigned) 8) w)
+    ∷ (0xea, λ w immediate. eight (packed (pairwise minimumSigned) 16) w) ∷ (0xda, λ w immediate. eight (packed (pairwise minimumUnsigned) 8) w)
+    -- PMOVMSKB reg32, mmreg: the upper bits cleared
+    ∷ (0xd7, λ w immediate. copies (λ x. lowHalf (topBits 8 x)) integerOfReg mmxOfRm w)
+    -- PMULHUW mmreg1, mmreg2/mem64
+    ∷ (0xe4, λ w immediate. eight (packed (pairwise productHighUnsigned) 16) w)
+    -- PREFETCHNTA, T0, T1, T2 mem8
+    ∷ (0x18, λ w immediate. bare Silent)
+    -- PSADBW mmreg1, mmreg2/mem64
+    ∷ (0xf6, λ w immediate. eight (distances 8) w)
+    -- PSHUFW mmreg1, mmreg2/mem64, imm8
+    ∷ (0x70, λ w immediate. copies (λ x. packed shuffle 16 x immediate) mmxOfReg (mmxOr 8) w)
+    -- SFENCE
+    ∷ (0xae, λ w immediate. bare Silent) ∷ []
+
 -- "immediate shifts of W, D, Q: /2 right logical, /4 right arithmetic (71 and 72 only), /6 left": the byte, the digit, and what the register becomes by a
 -- count
 abbrev shifts : List (ℕ × (ℕ × (ℕ → ℕ → ℕ)))
@@ -97,25 +135,51 @@ withDigit digit w =
 abbrev tableBytes : List ℕ
 tableBytes = 0x71 ∷ 0x72 ∷ 0x73 ∷ map (λ (x : ℕ × (Operand → Effect)). x .0) table
 
+abbrev extensionBytes : List ℕ
+extensionBytes = map (λ (x : ℕ × (Operand → ℕ → Effect)). x .0) extension
+
+abbrev isListed : ℕ → Bool
+isListed b = isAmong b (tableBytes ++ extensionBytes)
+
 pub record Agrees : Type 0 where
-  -- "That is 52 second bytes", and the list has no other
+  -- "That is 52 second bytes"; 000's are 16, together 68 different ones, and the list has no other
   pub count : length tableBytes ≡ 52
-  pub bytes : listed (λ b. isAmong b tableBytes) 0 256 ≡ listed (λ b. not (isAbsent (formAt b))) 0 256
+  pub count-of-extension : length extensionBytes ≡ 16
+  pub together : length (flatten (listed (λ b. cond (isListed b) (b ∷ []) []) 0 256)) ≡ 68
+  pub bytes : listed isListed 0 256 ≡ listed (λ b. not (isAbsent (formAt b))) 0 256
   pub effects : (w : Operand) (immediate : ℕ)
       → map (λ (x : ℕ × (Operand → Effect)). effectOf (instructionOf escape (x .0) w immediate)) table
       ≡ map (λ (x : ℕ × (Operand → Effect)). x .1 w) table
-  -- "All but EMMS have a ModRM byte; 71-73 then have one immediate byte"
-  pub operand-bytes : listed (λ b. hasOperand (formAt b)) 0 256 ≡ listed (λ b. isAmong b tableBytes && not (eqb b 0x77)) 0 256
-  pub immediates : listed (λ b. immediateSize (formAt b)) 0 256 ≡ listed (λ b. cond (isAmong b (0x71 ∷ 0x72 ∷ 0x73 ∷ [])) 1 0) 0 256
+  pub effects-of-extension : (w : Operand) (immediate : ℕ)
+      → map (λ (x : ℕ × (Operand → ℕ → Effect)). effectOf (instructionOf escape (x .0) w immediate)) extension
+      ≡ map (λ (x : ℕ × (Operand → ℕ → Effect)). x .1 w immediate) extension
+  -- "All but EMMS have a ModRM byte; 71-73 then have one immediate byte", and of 000's so have PINSRW, PEXTRW and PSHUFW
+  pub operand-bytes : listed (λ b. hasOperand (formAt b)) 0 256 ≡ listed (λ b. isListed b && not (eqb b 0x77)) 0 256
+  pub immediates : listed (λ b. immediateSize (formAt b)) 0 256 ≡ listed (λ b. cond (isAmong b (0x71 ∷ 0x72 ∷ 0x73 ∷ 0xc4 ∷ 0xc5 ∷ 0x70 ∷ [])) 1 0) 0 256
   -- the lane widths of the table: of 71 to 73, then in the order of the rows
   pub widths : map (λ b. described (operationAt b 2) .width) tableBytes
       ≡ 16 ∷ 32 ∷ 64 ∷ 8 ∷ 16 ∷ 32 ∷ 8 ∷ 8 ∷ 16 ∷ 8 ∷ 16 ∷ 32 ∷ 8 ∷ 16 ∷ 32 ∷ 64 ∷ 64 ∷ 64 ∷ 64 ∷ 8 ∷ 16 ∷ 32 ∷ 64
       ∷ 16 ∷ 32 ∷ 64 ∷ 16 ∷ 32 ∷ 16 ∷ 32 ∷ 64 ∷ 16 ∷ 16 ∷ 32 ∷ 8 ∷ 16 ∷ 8 ∷ 16 ∷ 8 ∷ 16 ∷ 8 ∷ 16 ∷ 64 ∷ 64 ∷ 64 ∷ 64 ∷ 8 ∷ 16 ∷ 32 ∷ 8 ∷ 16 ∷ 32 ∷ []
+  pub widths-of-extension : map (λ b. described (operationAt b 2) .width) extensionBytes
+      ≡ 8 ∷ 64 ∷ 8 ∷ 16 ∷ 16 ∷ 16 ∷ 16 ∷ 8 ∷ 16 ∷ 8 ∷ 8 ∷ 16 ∷ 64 ∷ 8 ∷ 16 ∷ 64 ∷ []
   -- "and shift the register named by rm"
   pub shifted : (w : Operand) (immediate : ℕ)
       → map (λ (x : ℕ × (ℕ × (ℕ → ℕ → ℕ))). effectOf (instructionOf escape (x .0) (withDigit (x .1 .0) w) immediate)) shifts
       ≡ map (λ (x : ℕ × (ℕ × (ℕ → ℕ → ℕ))). move (λ y. x .1 .1 y immediate) (mmxRegister (w .rm)) (mmxRegister (w .rm))) shifts
 
 pub agrees : Agrees
-unfolding operate formAt operationAt rmOf effectOf
-agrees = record { count = refl; bytes = refl; operand-bytes = refl; immediates = refl; widths = refl; effects = λ w immediate. refl; shifted = λ w immediate. refl }
+unfolding flatten operate operateThree formAt operationAt rmOf effectOf
+agrees =
+    record {
+      count = refl;
+      count-of-extension = refl;
+      together = refl;
+      bytes = refl;
+      effects = λ w immediate. refl;
+      effects-of-extension = λ w immediate. refl;
+      operand-bytes = refl;
+      immediates = refl;
+      widths = refl;
+      widths-of-extension = refl;
+      shifted = λ w immediate. refl;
+    }

@@ -1,4 +1,4 @@
--- The plates of document 01, from bytes: a block of one instruction over MM0 and MM1, run whole.
+-- The plates of document 01 and of manual 000, from bytes: a block of one instruction over MM0 and MM1, run whole.
 use Rattle.basis.specs.Names.{Bool, false, _&&_, List, [], _∷_, ℕ, eqb, getD, replicate}
 use Rattle.reorder.specs.Run.{Answer, finished, spent, stopped}
 use Rattle.manual.specs.State.{State}
@@ -26,6 +26,7 @@ stoppedBy (stopped n at count t) number = eqb n number && eqb at 0 && eqb count 
 abbrev plate : List ℕ → ℕ → ℕ → ℕ → Bool
 plate code destination source result = leaves (runOf code 4096 (start destination source false)) result
 
+-- the plates of document 01
 abbrev pub plates : List Bool
 plates =
     -- PADDSB
@@ -54,4 +55,19 @@ plates =
     ∷ stoppedBy (runOf (0x0f ∷ 0x71 ∷ 0xc0 ∷ 0x01 ∷ []) 4096 (start 0 0 false)) 6
     -- the letter's question: of 0001 and FFFF, PCMPGTW finds 0001 the greater
     ∷ plate (0x0f ∷ 0x65 ∷ 0xc1 ∷ []) 0x0001 0xffff 0xffff
+    ∷ []
+
+-- and of manual 000
+abbrev pub extensionPlates : List Bool
+extensionPlates =
+    -- 000's illustration: PAVGB
+    plate (0x0f ∷ 0xe0 ∷ 0xc1 ∷ []) 0xffff010f0070079a 0xff00ff100144f7a8 0xff808010015a7fa1
+    -- PAVGW, PMAXSW, PMAXUB, PMINSW, PMINUB, PMULHUW, PSADBW
+    ∷ plate (0x0f ∷ 0xe3 ∷ 0xc1 ∷ []) 0xffff0001ffff7ffe 0xffff0000000080ff 0xffff00018000807f
+    ∷ plate (0x0f ∷ 0xee ∷ 0xc1 ∷ []) 0x8000ffff00017fff 0x7fff000080000000 0x7fff000000017fff
+    ∷ plate (0x0f ∷ 0xde ∷ 0xc1 ∷ []) 0x00ff807f01fe0a0b 0xff00817e02fd0b0a 0xffff817f02fe0b0b
+    ∷ plate (0x0f ∷ 0xea ∷ 0xc1 ∷ []) 0x8000ffff00017fff 0x7fff000080000000 0x8000ffff80000000
+    ∷ plate (0x0f ∷ 0xda ∷ 0xc1 ∷ []) 0x00ff807f01fe0a0b 0xff00817e02fd0b0a 0x0000807e01fd0a0a
+    ∷ plate (0x0f ∷ 0xe4 ∷ 0xc1 ∷ []) 0xffff8000ffff0001 0xffff800000020001 0xfffe400000010000
+    ∷ plate (0x0f ∷ 0xf6 ∷ 0xc1 ∷ []) 0xff00ff00ff00ff00 0x00ff00ff00ff00ff 0x7f8
     ∷ []

@@ -26,6 +26,16 @@ move f destination source =
       kind = Ordinary;
     }
 
+-- the destination becomes a number made from the destination, the source and a third operand
+abbrev pub three : (ℕ → ℕ → ℕ → ℕ) → Location → Location → Location → Effect
+three f destination source third =
+    record {
+      takes = destination ∷ source ∷ third ∷ [];
+      gives = destination ∷ [];
+      value = λ values. done (f (getD values 0 0) (getD values 1 0) (getD values 2 0) ∷ []);
+      kind = Ordinary;
+    }
+
 -- no operand
 abbrev pub bare : Kind → Effect
 bare kind = record { takes = []; gives = []; value = λ values. done []; kind = kind }

@@ -1,24 +1,25 @@
 -- The footprint says what a step uses: the step goes by what its footprint reads alone, and changes what it writes alone, since both are made
 -- from one plan.
-use Rattle.basis.specs.Names.{_≡_, refl, Bool, true, false, not, _||_, List, [], List·Memᴰ as In, ℕ, _+_, eqb}
-use Rattle.basis.proofs.Names.{sym, ap, _∙_, subst, subst₂, false≢true, eqb-true}
+use Rattle.basis.specs.Names.{_≡_, refl, Bool, true, false, cond, _||_, List, [], _∷_, List·Memᴰ as In, ℕ, _+_, eqb, getD, drop}
+use Rattle.basis.proofs.Names.{sym, ap, ap₂, _∙_, subst, subst₂, false≢true, eqb-true}
 use Rattle.reorder.specs.Result.{Result, done, refused, caseOf, andThen, mapResult}
-use Rattle.reorder.specs.Plan.{Plan, looks, perform as performed}
+use Rattle.reorder.specs.Plan.{Plan, looks, puts, perform as performed}
 use Rattle.reorder.specs.Footprint.{Footprint, footprintOf as ofPlan, footprintIn, asked}
 use Rattle.reorder.specs.Run.{Fetched}
 use Rattle.reorder.proofs.Swapping.{completed as planned}
 use Rattle.reorder.proofs.Honest.{Alike, asked-reads, honest, untouched}
-use Rattle.codec.specs.Forms.{absent}
+use Rattle.codec.specs.Forms.{absent, isAmong}
 use Rattle.codec.specs.Contents.{Line, lines}
 use Rattle.codec.specs.Opcodes.{formAt, operationAt}
 use Rattle.codec.specs.declared.Instruction.{Instruction}
 use Rattle.codec.proofs.Bytes.{found-has}
 use Rattle.codec.specs.declared.Kind.{Kind}
-use Rattle.codec.specs.declared.Kind.the-variants.{Ordinary, Emms}
+use Rattle.codec.specs.declared.Kind.the-variants.{Ordinary, Emms, Silent}
+use Rattle.manual.specs.declared.Marks.{Marks}
 use Rattle.manual.specs.State.{State, withTag, frozen}
-use Rattle.manual.specs.Places.{Place, look, put}
-use Rattle.manual.specs.Kinds.{marked, KindsMeet}
-use Rattle.manual.specs.Effects.{Effect, placesOfAll, planOn, unlessMarked, via, plan, perform}
+use Rattle.manual.specs.Places.{Place, mmx, integer, byte, look, put}
+use Rattle.manual.specs.Kinds.{marked, heeded, KindsMeet}
+use Rattle.manual.specs.Effects.{Effect, placesOfAll, planOn, unlessMarked, via, plan, perform, footprintOf}
 use Rattle.manual.specs.Instructions.{effectBy, effectOf, execute, footprint}
 use Rattle.manual.specs.Steps.{Outcome, completed, refusedWith, concluded, instructionAt, stepAt}
 use Rattle.manual.specs.Footprints.{footprintAt}
@@ -70,71 +71,112 @@ completes-footprint i s t e =
     let (pl, vs, ep, em, et) = planned look put marked via plan (effectOf i) s t e in
     (ofPlan (via (effectOf i)) pl, simp (ep, em))
 
--- the tag mark that a kind leaves
-abbrev pub tagOf : Kind → Bool
-tagOf Ordinary = true
-tagOf Emms = false
+-- the tag mark that a kind leaves, from the one before
+abbrev pub tagOf : Kind → Bool → Bool
+tagOf Ordinary valid = true
+tagOf Emms valid = false
+tagOf Silent valid = valid
 
-tag-marked : (k : Kind) (s : State) → marked k s .marks .valid ≡ tagOf k
+tag-marked : (k : Kind) (s : State) → marked k s .marks .valid ≡ tagOf k (s .marks .valid)
 tag-marked Ordinary s = refl
 tag-marked Emms s = refl
+tag-marked Silent s = refl
+
+-- what is put into places leaves the marks
+puts-marks : (s : State) (ps : List Place) (values : List ℕ) → puts put s ps values .marks ≡ s .marks
+puts-marks s [] values = refl
+puts-marks s (p ∷ ps) values = puts-marks (put s p (getD values 0 0)) ps (drop 1 values) ∙ one p (getD values 0 0)
+  where
+    one : (p : Place) (value : ℕ) → put s p value .marks ≡ s .marks
+    one (mmx k) value = refl
+    one (integer k) value = refl
+    one (byte a) value = refl
 
 -- a plan has its effect's kind
 plan-kind : (e : Effect) (s : State) (pl : Plan Place Kind) → plan e s ≡ done pl → pl .kind ≡ e .kind
 plan-kind e s pl =
-    by-marks (λ a b. a ≡ done pl → pl .kind ≡ e .kind) (λ n h. absurd (false≢true (cc))) (s .marks) _ (done pl) (placed (placesOfAll s (e .takes)) (placesOfAll s (e .gives)))
+    by-marks (λ a b. a ≡ done pl → pl .kind ≡ e .kind) (λ n h. absurd (false≢true (cc))) (heeded (e .kind) (s .marks)) _ (done pl)
+    (placed (placesOfAll s (e .takes)) (placesOfAll s (e .gives)))
   where
     placed : (a b : Result (List Place)) → andThen a (λ source. mapResult (planOn e source) b) ≡ done pl → pl .kind ≡ e .kind
     placed (done from) (done to) h = let same : planOn e from to ≡ pl = cc in sym (ap (λ (p : Plan Place Kind). p .kind) same)
     placed (done from) (refused n) h = absurd (false≢true (cc))
     placed (refused n) b h = absurd (false≢true (cc))
 
--- 77 has the kind of EMMS, and no other second byte
-byte-tag : (second : ℕ) → tagOf (formAt second .kind) ≡ not (eqb second 0x77)
-unfolding formAt
-byte-tag second = by (eqb second 0x77) refl
+-- 18 and AE, the prefetches and SFENCE
+abbrev pub isSilent : ℕ → Bool
+isSilent second = isAmong second (0x18 ∷ 0xae ∷ [])
+
+silent-byte : (P : ℕ → Type 0) (second : ℕ) → isSilent second ≡ true → P 0x18 → P 0xae → P second
+silent-byte P second h prefetch sfence = by (eqb second 0x18) (eqb second 0xae) refl refl h
   where
-    other : (x : Line) → eqb second 0x77 ≡ false → eqb second (x .second) ≡ true → (tagOf (x .form .kind) || eqb (x .second) 0x77) ≡ true → tagOf (x .form .kind) ≡ true
-    other x n e h = go (tagOf (x .form .kind)) h
+    by : (a b : Bool) → eqb second 0x18 ≡ a → eqb second 0xae ≡ b → (a || (b || false)) ≡ true → P second
+    by true b e f h = subst P (sym (eqb-true second 0x18 e)) prefetch
+    by false true e f h = subst P (sym (eqb-true second 0xae f)) sfence
+    by false false e f h = absurd (false≢true h)
+
+-- the kind of a second byte
+abbrev pub kindAt : ℕ → Kind
+kindAt second = cond (eqb second 0x77) Emms (cond (isSilent second) Silent Ordinary)
+
+-- which the list says too: 77 has the kind of EMMS, 18 and AE that of what touches nothing, and no other second byte has either
+byte-kind : (second : ℕ) → formAt second .kind ≡ kindAt second
+unfolding formAt
+byte-kind second = by (eqb second 0x77) (isSilent second) refl refl
+  where
+    isOrdinary : Kind → Bool
+    isOrdinary Ordinary = true
+    isOrdinary Emms = false
+    isOrdinary Silent = false
+
+    ordinary : (k : Kind) → (isOrdinary k || false) ≡ true → k ≡ Ordinary
+    ordinary Ordinary h = refl
+    ordinary Emms h = absurd (false≢true h)
+    ordinary Silent h = absurd (false≢true h)
+
+    by : (a b : Bool) → eqb second 0x77 ≡ a → isSilent second ≡ b → formAt second .kind ≡ cond a Emms (cond b Silent Ordinary)
+    by true b e f = ap (λ (k : ℕ). formAt k .kind) (eqb-true second 0x77 e)
+    by false true e f = silent-byte (λ k. formAt k .kind ≡ Silent) second f refl refl
+    by false false e f =
+        found-has (λ x. x .form) absent (λ form. form .kind ≡ Ordinary) (λ x. eqb second (x .second))
+        (λ x. isOrdinary (x .form .kind) || (eqb (x .second) 0x77 || isSilent (x .second))) refl other lines refl
       where
-        go : (t : Bool) → (t || eqb (x .second) 0x77) ≡ true → t ≡ true
-        go true h = refl
-        go false h = absurd (false≢true (sym n ∙ ap (λ (k : ℕ). eqb k 0x77) (eqb-true second (x .second) e) ∙ h))
+        other : (x : Line) → eqb second (x .second) ≡ true → (isOrdinary (x .form .kind) || (eqb (x .second) 0x77 || isSilent (x .second))) ≡ true
+            → x .form .kind ≡ Ordinary
+        other x g h =
+            let same : x .second ≡ second = sym (eqb-true second (x .second) g) in
+            ordinary (x .form .kind) (simp (e, f) at (rw same at h))
 
-    by : (t : Bool) → eqb second 0x77 ≡ t → tagOf (formAt second .kind) ≡ not t
-    by true e = ap (λ (k : ℕ). tagOf (formAt k .kind)) (eqb-true second 0x77 e)
-    by false n =
-        found-has (λ x. x .form) absent (λ f. tagOf (f .kind) ≡ true) (λ x. eqb second (x .second)) (λ x. tagOf (x .form .kind) || eqb (x .second) 0x77)
-        refl (λ x e h. other x n e h) lines refl
-
--- so an instruction is of EMMS's kind exactly where its second byte is 77
-kind-tag : (i : Instruction) → tagOf (effectOf i .kind) ≡ not (eqb (i .second) 0x77)
+-- an instruction has the kind of its second byte
+kind-exactly : (i : Instruction) → effectOf i .kind ≡ kindAt (i .second)
 unfolding effectOf
-kind-tag i = byte-tag (i .second)
+kind-exactly i = byte-kind (i .second)
 
--- and its footprint has its kind
-pub footprint-kind : (i : Instruction) (s : State) (f : Footprint Place Kind) → footprint i s ≡ done f → tagOf (f .kind) ≡ not (eqb (i .second) 0x77)
+-- and so has its footprint
+pub footprint-kind : (i : Instruction) (s : State) (f : Footprint Place Kind) → footprint i s ≡ done f → f .kind ≡ kindAt (i .second)
 unfolding footprint
 footprint-kind i s f h = planning (plan (effectOf i) s) refl h
   where
     making : (pl : Plan Place Kind) → plan (effectOf i) s ≡ done pl → (o : Result (List ℕ))
-        → mapResult (λ values. ofPlan (via (effectOf i)) pl) o ≡ done f → tagOf (f .kind) ≡ not (eqb (i .second) 0x77)
+        → mapResult (λ values. ofPlan (via (effectOf i)) pl) o ≡ done f → f .kind ≡ kindAt (i .second)
     making pl e (refused n) h = absurd (false≢true (cc))
     making pl e (done values) h =
         let same : ofPlan (via (effectOf i)) pl ≡ f = cc in
-        ap (λ (g : Footprint Place Kind). tagOf (g .kind)) (sym same) ∙ ap tagOf (plan-kind (effectOf i) s pl e) ∙ kind-tag i
+        ap (λ (g : Footprint Place Kind). g .kind) (sym same) ∙ plan-kind (effectOf i) s pl e ∙ kind-exactly i
 
     planning : (o : Result (Plan Place Kind)) → plan (effectOf i) s ≡ o → footprintIn look (via (effectOf i)) s o ≡ done f
-        → tagOf (f .kind) ≡ not (eqb (i .second) 0x77)
+        → f .kind ≡ kindAt (i .second)
     planning (refused n) e h = absurd (false≢true (cc))
     planning (done pl) e h = making pl e (pl .make (looks look s (pl .source))) h
 
--- "Every completed instruction but EMMS sets it valid; EMMS sets it empty"
-pub tag-after : (i : Instruction) (s t : State) → execute i s ≡ done t → t .marks .valid ≡ not (eqb (i .second) 0x77)
+-- "Every completed instruction but EMMS sets it valid; EMMS sets it empty"; prefetches and SFENCE keep it
+pub tag-after : (i : Instruction) (s t : State) → execute i s ≡ done t → t .marks .valid ≡ tagOf (kindAt (i .second)) (s .marks .valid)
 unfolding execute
 tag-after i s t e =
     let (pl, vs, ep, em, et) = planned look put marked via plan (effectOf i) s t e in
-    ap (λ (u : State). u .marks .valid) et ∙ tag-marked (pl .kind) _ ∙ ap tagOf (plan-kind (effectOf i) s pl ep) ∙ kind-tag i
+    ap (λ (u : State). u .marks .valid) et
+    ∙ tag-marked (pl .kind) (puts put s (pl .target) vs)
+    ∙ ap₂ (λ (k : Kind) (marks : Marks). tagOf k (marks .valid)) (plan-kind (effectOf i) s pl ep ∙ kind-exactly i) (puts-marks s (pl .target) vs)
 
 -- "EMMS sets it empty and changes nothing else": what it leaves is the state with the tag mark empty, unless a control mark refuses it
 pub emms-leaves : (i : Instruction) (s : State) → i .second ≡ 0x77 → execute i s ≡ unlessMarked (s .marks) (done (withTag s false))
@@ -142,6 +184,16 @@ unfolding execute effectOf formAt
 emms-leaves i s e =
     ap (λ (second : ℕ). perform (effectBy (formAt second) (operationAt second (i .operand .reg)) i) s) e
     ∙ past-marks (performed look put marked s) (λ n. refl) (s .marks) (done (planOn (bare Emms) [] []))
+
+-- prefetches and SFENCE touch nothing, not even tags, ignore the control marks, never give 10, and have an empty footprint
+pub silent-passes : (i : Instruction) (s : State) → isSilent (i .second) ≡ true
+    → (execute i s ≡ done s) × (footprint i s ≡ done (record { reads = []; writes = []; kind = Silent }))
+unfolding execute footprint effectOf formAt
+silent-passes i s h =
+    silent-byte
+    (λ second. let e = effectBy (formAt second) (operationAt second (i .operand .reg)) i in
+    (perform e s ≡ done s) × (footprintOf e s ≡ done (record { reads = []; writes = []; kind = Silent })))
+    (i .second) h (refl, refl) (refl, refl)
 
 -- an outcome and a footprint go together: both there, or both refused by one number
 abbrev pub Together : Outcome → Result (Footprint Place Kind) → Type 0

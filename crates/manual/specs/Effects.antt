@@ -10,7 +10,7 @@ use Rattle.manual.specs.declared.Marks.{Marks}
 use Rattle.manual.specs.Refusals.{invalidOpcode, notAvailable, isPending}
 use Rattle.manual.specs.State.{State}
 use Rattle.manual.specs.Places.{Place, integer, look, put}
-use Rattle.manual.specs.Kinds.{marked}
+use Rattle.manual.specs.Kinds.{marked, heeded}
 use Rattle.manual.specs.Locations.{Location, mmxRegister, integerRegister, memory, placesOf, registersBehind}
 
 pub record Effect : Type 0 where
@@ -75,9 +75,9 @@ planOn e source target =
 abbrev pub placed : Effect → State → Result (Plan Place Kind)
 placed e s = andThen (placesOfAll s (e .takes)) (λ source. mapResult (planOn e source) (placesOfAll s (e .gives)))
 
--- the effect in a state: the control marks are tested before the operands
+-- the effect in a state: the control marks that stop its kind are tested before the operands
 abbrev pub plan : Effect → State → Result (Plan Place Kind)
-plan e s = unlessMarked (s .marks) (placed e s)
+plan e s = unlessMarked (heeded (e .kind) (s .marks)) (placed e s)
 
 -- the address registers of what it takes and of what it gives: they are read too
 abbrev pub addressRegistersOf : Effect → List ℕ

@@ -20,6 +20,6 @@ footprintAt code at s = andThen (instructionAt code at s) (λ read. footprint (r
 abbrev pub footprintInRun : List ℕ → State → ℕ → Result (places.Footprint Place Kind)
 footprintInRun code start k = let answer = runOf code k start in footprintAt code (positionReached answer) (stateReached answer)
 
--- one writes a place that the other reads or writes, or either is EMMS
+-- one writes a place that the other reads or writes, or their kinds meet: either is EMMS, and neither a prefetch or SFENCE
 abbrev pub Meets : Result (places.Footprint Place Kind) → Result (places.Footprint Place Kind) → Type 0
 Meets = places.Meets KindsMeet

@@ -1,9 +1,9 @@
 -- What each instruction takes and gives: by its form's operands and its operation.
-use Rattle.basis.specs.Names.{cond, List, [], _∷_, map, ℕ, _-_, _^_, _%_, eqb, length, getD}
-use Rattle.lanes.specs.Operations.{Operation, operate}
+use Rattle.basis.specs.Names.{cond, List, [], _∷_, map, ℕ, _+_, _-_, _^_, _%_, eqb, length, getD}
+use Rattle.lanes.specs.Operations.{Operation, operate, operateThree}
 use Rattle.reorder.specs.Result.{Result, done}
 use Rattle.reorder.specs.Footprint.{Footprint}
-use Rattle.codec.specs.Forms.{Use, read, written, updated, File, mmxFile, integerFile, Slot, reg, rm, rm/mem, Form}
+use Rattle.codec.specs.Forms.{Use, read, written, updated, untouched, File, mmxFile, integerFile, Slot, reg, rm, rm/mem, mem, edi, fixed, Form}
 use Rattle.codec.specs.Opcodes.{formAt, operationAt}
 use Rattle.codec.specs.declared.Instruction.{Instruction}
 use Rattle.codec.specs.declared.Kind.{Kind}
@@ -18,12 +18,14 @@ sources [] = []
 sources ((read, x) ∷ xs) = x ∷ sources xs
 sources ((written, x) ∷ xs) = sources xs
 sources ((updated, x) ∷ xs) = x ∷ sources xs
+sources ((untouched, x) ∷ xs) = sources xs
 
 abbrev pub targets : List (Use × Slot) → List Slot
 targets [] = []
 targets ((read, x) ∷ xs) = targets xs
 targets ((written, x) ∷ xs) = x ∷ targets xs
 targets ((updated, x) ∷ xs) = x ∷ targets xs
+targets ((untouched, x) ∷ xs) = targets xs
 
 -- what an operand keeps of a number: one that may be an integer register, the low doubleword
 abbrev kept : File → ℕ → ℕ
@@ -34,19 +36,32 @@ abbrev pub keptBy : Slot → ℕ → ℕ
 keptBy (reg file) x = kept file x
 keptBy (rm file) x = kept file x
 keptBy (rm/mem file size) x = kept file x
+keptBy (mem size) x = x
+keptBy (edi size) x = x
+keptBy (fixed k) x = x
 
--- the operation's source: the immediate, where the form has one, else the last number that is read
-abbrev pub sourceNumber : Form → ℕ → List ℕ → ℕ
-sourceNumber form immediate values = cond (eqb (form .immediate) 0) (getD values (length (sources (form .operands)) - 1) 0) immediate
+-- how many numbers an instruction goes by: those that it reads, and the immediate
+abbrev pub numberCount : Form → ℕ
+numberCount form = length (sources (form .operands)) + form .immediate
 
--- the effect of an instruction by a form and an operation: every operand that is written becomes what the operation leaves of a destination, the first
--- number that is read, and a source (a move reads one number, which is both)
+-- the last of them: the immediate, where the form has one, else the last number that is read
+abbrev pub lastNumber : Form → ℕ → List ℕ → ℕ
+lastNumber form immediate values = cond (eqb (form .immediate) 0) (getD values (length (sources (form .operands)) - 1) 0) immediate
+
+-- what the operation leaves of them: of the first and the last (a move goes by one, which is both), or of all three
+abbrev pub leftBy : Form → Operation → ℕ → List ℕ → ℕ
+leftBy form operation immediate values =
+    cond (eqb (numberCount form) 3)
+    (operateThree operation (getD values 0 0) (getD values 1 0) (lastNumber form immediate values))
+    (operate operation (getD values 0 0) (lastNumber form immediate values))
+
+-- the effect of an instruction by a form and an operation: every operand that is written becomes what the operation leaves
 abbrev pub effectBy : Form → Operation → Instruction → Effect
 effectBy form operation i =
     record {
       takes = map (locate i) (sources (form .operands));
       gives = map (locate i) (targets (form .operands));
-      value = λ values. done (map (λ x. keptBy x (operate operation (getD values 0 0) (sourceNumber form (i .immediate) values))) (targets (form .operands)));
+      value = λ values. done (map (λ x. keptBy x (leftBy form operation (i .immediate) values)) (targets (form .operands)));
       kind = form .kind;
     }
 

@@ -1,7 +1,7 @@
 -- Where an operand is: in a register, or in memory; and which places it has there.
-use Rattle.basis.specs.Names.{Bool, cond, List, [], _∷_, ℕ, zero, suc, _+_, eqb, leb, length}
+use Rattle.basis.specs.Names.{Bool, cond, none, some, List, [], _∷_, ℕ, zero, suc, _+_, eqb, leb, length}
 use Rattle.reorder.specs.Result.{Result, done, refused}
-use Rattle.codec.specs.Forms.{File, mmxFile, integerFile, Slot, reg, rm, rm/mem}
+use Rattle.codec.specs.Forms.{File, mmxFile, integerFile, Slot, reg, rm, rm/mem, mem, edi, fixed}
 use Rattle.codec.specs.declared.Operand.{Operand}
 use Rattle.codec.specs.declared.Instruction.{Instruction}
 use Rattle.manual.specs.Refusals.{outsideMemory}
@@ -22,11 +22,19 @@ registerIn integerFile k = integerRegister k
 unfoldable pub rmOf : File → ℕ → Operand → Location
 rmOf file size w = cond (eqb (w .mode) 3) (registerIn file (w .rm)) (memory (addressOf w) size)
 
--- the operand of a slot (where rm must be a register, every other mod is refused by 6)
+-- the address in EDI, which is integer register 7
+abbrev pub atEdi : Address
+atEdi = record { base = some 7; index = none; scale = 0; displacement = 0 }
+
+-- the operand of a slot (where rm must be a register, every other mod is refused by 6; where it must not, mod 11 is; what is fixed is never taken
+-- or given)
 abbrev pub locate : Instruction → Slot → Location
 locate i (reg file) = registerIn file (i .operand .reg)
 locate i (rm file) = registerIn file (i .operand .rm)
 locate i (rm/mem file size) = rmOf file size (i .operand)
+locate i (mem size) = rmOf mmxFile size (i .operand)
+locate i (edi size) = memory atEdi size
+locate i (fixed k) = mmxRegister k
 
 -- the bytes from an address on, so many: the operand itself never wraps
 abbrev pub bytesFrom : ℕ → ℕ → List Place

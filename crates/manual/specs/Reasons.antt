@@ -1,11 +1,13 @@
--- When each refusal of a step is due, in document 01's words: 1, then 2 to 6 by the reading, then 7, 8, 9, then 10.
-use Rattle.basis.specs.Names.{_≡_, _⊎_, true, false, List, List·Memᴰ as In, ℕ, _+_, _<_, length}
+-- When each refusal of a step is due, in the customer's words: 1, then 2 to 6 by the reading, then 7, 8, 9 where the control marks stop the instruction,
+-- then 10.
+use Rattle.basis.specs.Names.{_≡_, _⊎_, Bool, true, false, List, List·Memᴰ as In, ℕ, _+_, _<_, length}
 use Rattle.codec.specs.Answers.{good}
 use Rattle.codec.specs.Reads.{readAt}
 use Rattle.codec.specs.Reasons.{ReasonAt}
 use Rattle.codec.specs.declared.Instruction.{Instruction}
 use Rattle.manual.specs.Refusals.{memoryTooLong, invalidOpcode, notAvailable, isPending, outsideMemory}
 use Rattle.manual.specs.State.{State, isTooLong}
+use Rattle.manual.specs.Kinds.{stops}
 use Rattle.manual.specs.Addresses.{Address, address}
 use Rattle.manual.specs.Locations.{Location, memory}
 use Rattle.manual.specs.Instructions.{effectOf}
@@ -14,6 +16,10 @@ use Rattle.manual.specs.Instructions.{effectOf}
 pub record Stands (code : List ℕ) (at : ℕ) (s : State) (i : Instruction) (size : ℕ) : Type 0 where
   pub memory-fits : isTooLong (s .memory) ≡ false
   pub read : readAt code at ≡ good i size
+
+-- a control mark stops the instruction
+abbrev pub stopsIt : Instruction → Bool → Bool
+stopsIt i mark = stops (effectOf i .kind) mark
 
 -- a byte of an operand in memory is outside the memory
 pub record Outside (s : State) (x : Location) : Type 0 where
@@ -25,8 +31,8 @@ pub record Outside (s : State) (x : Location) : Type 0 where
 pub data Reason (code : List ℕ) (at : ℕ) (s : State) : ℕ → Type 0 where
   one : isTooLong (s .memory) ≡ true → Reason code at s memoryTooLong
   reading : {n : ℕ} → isTooLong (s .memory) ≡ false → ReasonAt code at n → Reason code at s n
-  seven : (i : Instruction) (size : ℕ) → Stands code at s i size → s .marks .em ≡ true → Reason code at s invalidOpcode
-  eight : (i : Instruction) (size : ℕ) → Stands code at s i size → s .marks .em ≡ false → s .marks .ts ≡ true → Reason code at s notAvailable
-  nine : (i : Instruction) (size : ℕ) → Stands code at s i size → s .marks .em ≡ false → s .marks .ts ≡ false → s .marks .pending ≡ true → Reason code at s isPending
-  ten : (i : Instruction) (size : ℕ) → Stands code at s i size → s .marks .em ≡ false → s .marks .ts ≡ false → s .marks .pending ≡ false
+  seven : (i : Instruction) (size : ℕ) → Stands code at s i size → stopsIt i (s .marks .em) ≡ true → Reason code at s invalidOpcode
+  eight : (i : Instruction) (size : ℕ) → Stands code at s i size → stopsIt i (s .marks .em) ≡ false → stopsIt i (s .marks .ts) ≡ true → Reason code at s notAvailable
+  nine : (i : Instruction) (size : ℕ) → Stands code at s i size → stopsIt i (s .marks .em) ≡ false → stopsIt i (s .marks .ts) ≡ false → stopsIt i (s .marks .pending) ≡ true → Reason code at s isPending
+  ten : (i : Instruction) (size : ℕ) → Stands code at s i size → stopsIt i (s .marks .em) ≡ false → stopsIt i (s .marks .ts) ≡ false → stopsIt i (s .marks .pending) ≡ false
       → (x : Location) → In x (effectOf i .takes) ⊎ In x (effectOf i .gives) → Outside s x → Reason code at s outsideMemory

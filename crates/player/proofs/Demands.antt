@@ -2,7 +2,7 @@
 
 -- 1. "Every code block, register setting, lent memory and file gets an answer, and every call ends." No public function asks for anything, and a
 -- function that is proved ends; each contract allows one answer; and no text is cut.
-pub use Rattle.lanes.proofs.Allowed.{operate-one}
+pub use Rattle.lanes.proofs.Allowed.{operate-one, extract-one, insert-one, shuffle-one, top-bits-one, blend-one}
 pub use Rattle.words.proofs.Allowed.{load-one, store-one}
 pub use Rattle.codec.proofs.Allowed.{table-one, read-from-one, read-one, write-one}
 pub use Rattle.machine.proofs.Allowed.{from-page-one, step-one, run-one, footprint-one, meets-one}
@@ -20,23 +20,24 @@ pub use Rattle.machine.proofs.Agreeing.{reading-as-step, footprint-as-step, run
 pub use Rattle.pagefile.proofs.Meaning.{thirteen-exactly}
 -- "A refused instruction changes no register, mark or memory byte; a refused run keeps what earlier instructions did."
 pub use Rattle.manual.proofs.Refusals.{refused-step, refused-run}
--- 2. "Reading, writing and running agree with AMD's multimedia manual for all 47 of its instructions." The definitions are computed from the list of its
--- headings, which is complete and says what document 01's table says.
+-- 2. "Reading, writing and running agree with AMD's multimedia manual for all 47 of its instructions", and by document 02's Req 01 with manual 000 for
+-- the 19 that it adds. The definitions are computed from the lists of their headings, which are complete and say what document 01's table and manual
+-- 000's say.
 pub use Rattle.codec.proofs.Headings.{complete}
 pub use Rattle.codec.proofs.OpcodeBytes.{first-bytes, second-bytes}
 pub use Rattle.manual.proofs.OpcodeTable.{agrees}
 -- "Each instruction form has exactly the bytes the manual gives it, and those bytes give that form back."
 pub use Rattle.codec.proofs.Theorems.{read-writes-back, written-reads-back, reading-in-range}
 -- "Each completed step leaves exactly the registers, memory and tag mark the manual states": the contract of `Machine::step` is an equation with the
--- definition, and a run's turn is a step; the plates; what the definition says of tags; and that a step goes by what its footprint reads and changes
--- what it writes.
+-- definition, and a run's turn is a step; the plates; what the definition says of tags, and that prefetches and SFENCE touch nothing; and that a step
+-- goes by what its footprint reads and changes what it writes.
 pub use Rattle.manual.proofs.Turns.{turn}
 pub use Rattle.manual.proofs.Computed.{computed}
-pub use Rattle.manual.proofs.Uses.{tag-after, emms-leaves, goes-by-reads, changes-writes, footprint-exactly}
+pub use Rattle.manual.proofs.Uses.{tag-after, emms-leaves, silent-passes, goes-by-reads, changes-writes, footprint-exactly}
 -- 3. "Put its instructions in any other order that keeps, for each pair whose footprints meet in that run, the earlier one earlier. .. the new block also
 -- runs to its end, in as many instructions, and leaves exactly the registers, tag mark and memory." Over the definitions, and over calls of the
--- program's own functions; such calls can be had; and which instructions meet.
+-- program's own functions; such calls can be had; and which instructions meet: EMMS every other but prefetches and SFENCE, which meet none.
 pub use Rattle.manual.proofs.Demand3.{demand-3, rearranged-parts}
-pub use Rattle.manual.proofs.Meeting.{meets-exactly, meeting-symmetric}
+pub use Rattle.manual.proofs.Meeting.{meets-exactly, meeting-symmetric, silent-meets-none}
 pub use Rattle.machine.proofs.Positions.{meet-at}
 pub use Rattle.machine.proofs.Program.{demand-3-run, recorded}

@@ -1,5 +1,5 @@
 -- What the code has of an entry: the operation that it names, and what is found after an opcode.
-use Rattle.basis.specs.Names.{ℕ, _/_, _%_, _^_, List, Bool, cond, eqb, drop}
+use Rattle.basis.specs.Names.{ℕ, _/_, _%_, _^_, List, Bool, _&&_, cond, eqb, drop}
 use Rattle.lanes.specs.Operations.{Operation, PSRLW, PSRLD, PSRLQ, PSRAW, PSRAD, PSLLW, PSLLD, PSLLQ, KEEP, operationOf}
 use Rattle.codec.specs.Forms.{Form, isAny}
 use Rattle.codec.specs.Table.{formOf}
@@ -8,9 +8,9 @@ use Rattle.codec.specs.Finding.{found}
 use Rattle.codec.specs.declared.reader.Opcode.{Opcode}
 use Rattle.codec.specs.declared.Found.{Found}
 
--- whether its reg is a digit of the opcode
-abbrev pub hasDigits : Form → Bool
-hasDigits form = isAny (form .digits)
+-- whether it is a shift by an immediate: its reg is a digit of the opcode, and it has an immediate (prefetches and SFENCE have a digit alone)
+abbrev pub isShift : Form → Bool
+isShift form = isAny (form .digits) && eqb (form .immediate) 1
 
 -- of a word, doubleword and quadword operation, the one for the width
 abbrev pub ofWidth : ℕ → Operation → Operation → Operation → Operation
@@ -26,7 +26,7 @@ shiftOf width digit =
 -- the operation that an entry names, with what stands in reg
 unfoldable pub operationIn : ℕ → ℕ → Operation
 operationIn entry reg =
-    cond (hasDigits (formOf (entry / 2 ^ 24))) (shiftOf (entry / 2 ^ 8 % 256) reg) (operationOf (entry % 256))
+    cond (isShift (formOf (entry / 2 ^ 24))) (shiftOf (entry / 2 ^ 8 % 256) reg) (operationOf (entry % 256))
 
 -- what is found at a position after an opcode, by one of the readers of its form
 abbrev pub foundAfter : Opcode → (Form → ℕ → ℕ → Reader) → List ℕ → ℕ → Found

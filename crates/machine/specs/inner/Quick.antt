@@ -49,6 +49,6 @@ workAt registers integers memory entry place spot next =
 
 -- the same, where the other is in memory at an address, with all its bytes
 pub record AtAddress (work : Work) (registers memory : List ℕ) (entry place address next : ℕ) : Type 0 where
-  pub two : 16 ≤ entry / 2 ^ 24
+  pub two : 15 ≤ entry / 2 ^ 24
   pub made : Listed entry → work ≡ workAt registers [] memory entry place (Bytes address (entry / 2 ^ 16 % 256)) next
   pub inside : Listed entry → leb (address + entry / 2 ^ 16 % 256) (length memory) ≡ true

@@ -1,6 +1,6 @@
 -- Where the code finds the operand that r/m names.
 use Rattle.basis.specs.Names.{_≡_, cond, List, [], _∷_, ℕ, _<_}
-use Rattle.codec.specs.Forms.{Use, File, mmxFile, Slot, reg, rm, rm/mem, memorySize}
+use Rattle.codec.specs.Forms.{Use, File, mmxFile, Slot, reg, rm, rm/mem, mem, edi, fixed, memorySize}
 use Rattle.codec.specs.Table.{formOf}
 use Rattle.codec.specs.declared.Operand.{Operand}
 use Rattle.manual.specs.Refusals.{outsideMemory}
@@ -9,12 +9,15 @@ use Rattle.manual.specs.Locations.{Location, mmxRegister, integerRegister, memo
 use Rattle.machine.specs.declared.operands.Spot.{Spot}
 use Rattle.machine.specs.declared.operands.Spot.the-variants.{Mmx, Integer, Bytes, Refused}
 
--- the registers that r/m may name, by a form's operands
+-- the registers that r/m may name, by a form's operands (where the operand is in memory alone, any will do)
 abbrev pub fileIn : List (Use × Slot) → File
 fileIn [] = mmxFile
 fileIn ((how, reg file) ∷ xs) = fileIn xs
 fileIn ((how, rm file) ∷ xs) = file
 fileIn ((how, rm/mem file size) ∷ xs) = file
+fileIn ((how, mem size) ∷ xs) = mmxFile
+fileIn ((how, edi size) ∷ xs) = mmxFile
+fileIn ((how, fixed k) ∷ xs) = fileIn xs
 
 -- the operand of r/m, by the form's number
 abbrev pub otherOf : ℕ → Operand → Location

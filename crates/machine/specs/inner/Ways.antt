@@ -1,22 +1,41 @@
--- The way that an instruction goes, by its form's number.
-use Rattle.basis.specs.Names.{Bool, true, false, cond, _||_, ℕ, eqb, leb}
+-- The way that an instruction goes, by its form's number, and what else a number tells.
+use Rattle.basis.specs.Names.{Bool, true, false, cond, _||_, ℕ, eqb, leb, ltb}
 use Rattle.machine.specs.declared.ways.Way.{Way}
-use Rattle.machine.specs.declared.ways.Way.the-variants.{Empties, Shifts, Stores, Loads, Computes}
+use Rattle.machine.specs.declared.ways.Way.the-variants.{Empties, Passes, Shifts, Extracts, Stores, Loads, Computes, Inserts, Shuffles, Masks}
+
+-- whether the control marks don't stop it
+abbrev pub isSilent : ℕ → Bool
+isSilent form = eqb form 9 || eqb form 14
+
+-- whether r/m names an integer register at mod 11
+abbrev pub isInteger : ℕ → Bool
+isInteger form = eqb form 4 || (eqb form 16 || eqb form 17)
 
 -- whether the register that reg names is put where r/m says
 abbrev pub isStore : ℕ → Bool
-isStore form = eqb form 16 || eqb form 18
+isStore form = eqb form 15 || (eqb form 16 || eqb form 18)
 
 unfoldable pub wayOf : ℕ → Way
 wayOf form =
-    cond (leb 16 form)
+    cond (ltb form 15)
+    (cond (leb form 1) Empties
+    (cond (leb form 3) Shifts
+    (cond (eqb form 4) Inserts
+    (cond (eqb form 5) Shuffles
+    (cond (leb form 7) Extracts
+    (cond (eqb form 8) Masks
+    Passes))))))
     (cond (isStore form) Stores (cond (eqb form 17 || eqb form 19) Loads Computes))
-    (cond (eqb form 1) Empties Shifts)
 
--- whether there are two operands, of which r/m names one
-abbrev pub hasTwo : Way → Bool
-hasTwo Empties = false
-hasTwo Shifts = false
-hasTwo Stores = true
-hasTwo Loads = true
-hasTwo Computes = true
+-- whether an operand may be in memory, and is touched
+abbrev pub hasOther : Way → Bool
+hasOther Empties = false
+hasOther Passes = false
+hasOther Shifts = false
+hasOther Extracts = false
+hasOther Stores = true
+hasOther Loads = true
+hasOther Computes = true
+hasOther Inserts = true
+hasOther Shuffles = true
+hasOther Masks = true

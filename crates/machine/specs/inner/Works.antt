@@ -1,9 +1,10 @@
 -- The parts of the code's step in the words of the definitions: lent registers with marks are a machine, what remains to be done leaves a
 -- state, and how a step ended is an outcome.
-use Rattle.basis.specs.Names.{_≡_, Bool, true, false, cond, List, [], _∷_, map, ℕ, _/_, _%_, _^_, _<_, eqb, getD}
-use Rattle.lanes.specs.Operations.{operationOf, operate, described, MOVE}
+use Rattle.basis.specs.Names.{_≡_, Bool, true, cond, Option, none, some, List, [], _∷_, map, ℕ, _/_, _%_, _^_, _<_, eqb, getD}
+use Rattle.lanes.specs.Operations.{Operation, operationOf, operate, described, MOVE, PINSRW, PSHUFW, PEXTRW, PMOVMSKB, MASKMOVQ}
 use Rattle.words.specs.Buffer.{loaded, stored}
-use Rattle.codec.specs.Forms.{Use, read, written, updated, Slot, Form, forms, isAmong, memorySize}
+use Rattle.codec.specs.Forms.{forms, isAmong, memorySize}
+use Rattle.codec.specs.Opcodes.{find}
 use Rattle.codec.specs.Table.{formOf}
 use Rattle.codec.specs.inner.Entries.{operationIn}
 use Rattle.codec.specs.declared.Instruction.{Instruction}
@@ -23,6 +24,7 @@ use Rattle.machine.specs.declared.operands.Spot.{Spot}
 use Rattle.machine.specs.declared.operands.Spot.the-variants.{Mmx, Integer, Bytes, Refused}
 use Rattle.machine.specs.declared.stepping.Moved.{Moved}
 use Rattle.machine.specs.State.{stateOf}
+use Rattle.machine.specs.inner.Ways.{isSilent}
 
 -- lent registers and marks
 abbrev pub machineOf : List ℕ → List ℕ → Marks → Machine
@@ -32,19 +34,23 @@ machineOf registers integers marks = record { mmx = registers; integers = intege
 unfoldable pub barredBy : Marks → ℕ
 barredBy marks = cond (marks .em) invalidOpcode (cond (marks .ts) notAvailable (cond (marks .pending) isPending 0))
 
+-- the same, where they stop the form of this number; else 0
+abbrev pub stoppingBy : ℕ → ℕ → ℕ
+stoppingBy bar form = cond (isSilent form) 0 bar
+
 -- the effect of an instruction by the table's entry for it
 abbrev pub effectIn : ℕ → Instruction → Effect
 effectIn entry i = effectBy (formOf (entry / 2 ^ 24)) (operationIn entry (i .operand .reg)) i
 
--- whether the destination is not read
-abbrev isWritten : List (Use × Slot) → Bool
-isWritten [] = false
-isWritten ((written, x) ∷ xs) = true
-isWritten ((read, x) ∷ xs) = false
-isWritten ((updated, x) ∷ xs) = false
+-- the forms that one operation alone has, with it
+abbrev owners : List (ℕ × Operation)
+owners =
+    (4, PINSRW) ∷ (5, PSHUFW) ∷ (6, PEXTRW) ∷ (7, PMOVMSKB) ∷ (8, MASKMOVQ)
+    ∷ (15, MOVE) ∷ (16, MOVE) ∷ (17, MOVE) ∷ (18, MOVE) ∷ (19, MOVE) ∷ []
 
-abbrev pub isMove : Form → Bool
-isMove form = isWritten (form .operands)
+-- the number of that operation
+abbrev pub owned : ℕ → Option ℕ
+owned form = find (λ x. eqb form (x .0)) (λ x. some (described (x .1) .number)) none owners
 
 -- the numbers of the forms
 abbrev pub numbers : List ℕ
@@ -53,13 +59,13 @@ numbers = map (λ form. form .number) forms
 abbrev pub isListed : ℕ → Bool
 isListed form = isAmong form numbers
 
--- what is said of every entry that is read: its form is one of the list, and not absent; its size is the form's; and a form that does not read its
--- destination moves
+-- what is said of every entry that is read: its form is one of the list, and not absent; its size is the form's; and so is its operation, where one alone
+-- has the form
 pub record Listed (entry : ℕ) : Type 0 where
   pub listed : isListed (entry / 2 ^ 24) ≡ true
   pub present : entry / 2 ^ 24 ≡ 0 → ⊥
   pub sized : entry / 2 ^ 16 % 256 ≡ memorySize (formOf (entry / 2 ^ 24))
-  pub moves : isMove (formOf (entry / 2 ^ 24)) ≡ true → operationOf (entry % 256) ≡ MOVE
+  pub owns : (k : ℕ) → owned (entry / 2 ^ 24) ≡ some k → entry % 256 ≡ k
 
 -- what remains to be done, by the code's numbers
 abbrev pub toOperate : ℕ
@@ -74,8 +80,11 @@ toInteger = 2
 abbrev pub toEmpty : ℕ
 toEmpty = 3
 
+abbrev pub toPass : ℕ
+toPass = 4
+
 abbrev pub toRefuse : ℕ
-toRefuse = 4
+toRefuse = 5
 
 -- the works that the code makes
 
@@ -100,7 +109,7 @@ takeWork registers integers memory number place (Bytes a size) next = workOf toO
 takeWork registers integers memory number place (Refused n) next = refusedWork n
 
 -- what a work comes to at a position, in a state: an operation on an MMX register, a store, a move to an integer register, the tag mark set
--- empty, or a refusal
+-- empty, nothing, or a refusal
 unfoldable pub performed : Work → ℕ → State → Outcome
 performed work at s =
     cond (eqb (work .what) toOperate)
@@ -109,13 +118,14 @@ performed work at s =
     (completed (work .next) (marked Ordinary (withMemory s (stored (s .memory) (work .place) (work .number) (work .value)))))
     (cond (eqb (work .what) toInteger) (completed (work .next) (marked Ordinary (put s (integer (work .place)) (work .value % 2 ^ 32))))
     (cond (eqb (work .what) toEmpty) (completed (work .next) (marked Emms s))
-    (refusedWith (work .number) at s))))
+    (cond (eqb (work .what) toPass) (completed (work .next) s)
+    (refusedWith (work .number) at s)))))
 
 -- the registers that it names are there, and a refusal has a number
 pub record Sound (work : Work) : Type 0 where
   pub operates : work .what ≡ toOperate → work .place < 8
   pub moves : work .what ≡ toInteger → work .place < 8
-  pub refuses : (work .what ≡ toOperate → ⊥) → (work .what ≡ toStore → ⊥) → (work .what ≡ toInteger → ⊥) → (work .what ≡ toEmpty → ⊥) → work .number ≡ 0 → ⊥
+  pub refuses : (work .what ≡ toOperate → ⊥) → (work .what ≡ toStore → ⊥) → (work .what ≡ toInteger → ⊥) → (work .what ≡ toEmpty → ⊥) → (work .what ≡ toPass → ⊥) → work .number ≡ 0 → ⊥
 
 -- with these registers and this memory a work does what an effect does, whatever the marks and the position, and goes on at `next`
 pub record Does (work : Work) (registers integers memory : List ℕ) (e : Effect) (next : ℕ) : Type 0 where
@@ -128,8 +138,9 @@ pub record Gathered (work : Work) (registers integers : List ℕ) (bar : ℕ) (c
   pub steps : (marks : Marks) → bar ≡ barredBy marks → let s = stateOf (machineOf registers integers marks) memory in performed work at s ≡ stepAt code at s
 
 -- a step that ended so, with what is then in the lent registers and memory, is the step at a position of the code, for all marks whose refusal is `bar`
-pub record Advanced (moved : Moved) (registers integers : List ℕ) (bar : ℕ) (code : List ℕ) (at : ℕ) (memory registers′ integers′ memory′ : List ℕ) : Type 0 where
-  pub ends : (marks : Marks) → bar ≡ barredBy marks
+-- and whose tag mark is `valid`
+pub record Advanced (moved : Moved) (registers integers : List ℕ) (bar : ℕ) (valid : Bool) (code : List ℕ) (at : ℕ) (memory registers′ integers′ memory′ : List ℕ) : Type 0 where
+  pub ends : (marks : Marks) → bar ≡ barredBy marks → valid ≡ marks .valid
       → cond (eqb (moved .refusal) 0)
       (completed (moved .next) (stateOf (machineOf registers′ integers′ (tagged marks (moved .valid))) memory′))
       (refusedWith (moved .refusal) (moved .next) (stateOf (machineOf registers′ integers′ marks) memory′))

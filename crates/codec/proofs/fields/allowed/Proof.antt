@@ -7,5 +7,5 @@ pub allowed-spec : {M : Type 1} → statement M
 allowed-spec =
     tie.close
     (tie.spec
-    (λ c. search form-rules) (λ c. search form-rules) (λ c. search form-rules) (λ c. search form-rules) (λ c. search form-rules)
-    (λ c. search form-rules) (λ c. search form-rules))
+    (λ c. search form-rules) (λ c. search form-rules) (λ c. search form-rules) (λ c κs. search form-rules) (λ c. search form-rules)
+    (λ c. search form-rules) (λ c κs. search form-rules) (λ c. search form-rules))

@@ -8,5 +8,5 @@ footprint-spec =
     tie.close
     (tie.spec
     (λ c. search position-rules) (λ c. search position-rules) (λ c κs. search position-rules) (λ c κs. search position-rules)
-    (λ c. search position-rules) (λ c κs. search position-rules) (λ c. search position-rules) (λ c κs. search position-rules)
-    (λ c. search position-rules))
+    (λ c. search position-rules) (λ c κs. search position-rules) (λ c κs. search position-rules) (λ c. search position-rules)
+    (λ c κs. search position-rules) (λ c. search position-rules))

@@ -1,5 +1,5 @@
 -- `Machine::run_from` meets its contract: before each turn, what is left of the run from here is the run from the start.
-use Rattle.basis.specs.Names.{_≡_, _-_, _≤_, length}
+use Rattle.basis.specs.Names.{_≡_, refl, _-_, _≤_, length}
 use Rattle.basis.proofs.Names.{needs}
 use Rattle.machine.specs.State.{stateOf}
 use Rattle.machine.specs.inner.Works.{machineOf, barredBy}
@@ -39,7 +39,7 @@ run-from-spec =
     let inv = turn .before .before .loop .inv in
     let entry = turn .before .before .before .before .before .before .before .before .before .before .before in
     run-refused _ _ _ _ _ _ _ _ _ (inv .1 .1 .1 .1) (turn .before .loop-test .taken) (inv .0) (turn .if1 .left) (entry .pre .0) (entry .args .memory .now)
-    (inv .1 .1 .0) (entry .pre .1 .0) _ _ _ _ _ (inv .1 .1 .1 .0) (c .before .before .before .advance .ensures) (c .if2 .taken))
+    (inv .1 .1 .0) (entry .pre .1 .0) _ _ _ _ _ (inv .1 .1 .1 .0) _ refl (c .before .before .before .advance .ensures) (c .if2 .taken))
     (λ c. search needs) (λ c. search needs)
     (λ c. (search needs, (search turning, (search needs, (search turning, search turning)))))
     (λ c. search needs) (λ c. search needs) (λ c. search turning))

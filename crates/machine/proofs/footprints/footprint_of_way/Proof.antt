@@ -7,8 +7,12 @@ pub footprint-of-way-spec : {M : Type 1} → statement M
 footprint-of-way-spec =
     tie.close
     (tie.spec
-    (λ c κs. search footprint-rules) (λ c. search footprint-rules) (λ c. search footprint-rules) (λ c κs. search footprint-rules)
-    (λ c κs. search footprint-rules) (λ c. search footprint-rules) (λ c κs. search footprint-rules) (λ c. search footprint-rules)
+    (λ c κs. search footprint-rules) (λ c. search footprint-rules) (λ c. search footprint-rules) (λ c. search footprint-rules)
+    (λ c κs. search footprint-rules) (λ c κs. search footprint-rules) (λ c. search footprint-rules) (λ c κs. search footprint-rules)
+    (λ c κs. search footprint-rules) (λ c κs. search footprint-rules) (λ c. search footprint-rules) (λ c κs. search footprint-rules)
+    (λ c. search footprint-rules) (λ c κs. search footprint-rules) (λ c. search footprint-rules) (λ c κs. search footprint-rules)
     (λ c κs. search footprint-rules) (λ c. search footprint-rules) (λ c κs. search footprint-rules) (λ c κs. search footprint-rules)
+    (λ c. search footprint-rules) (λ c κs. search footprint-rules) (λ c. search footprint-rules) (λ c κs. search footprint-rules)
+    (λ c κs. search footprint-rules) (λ c κs. search footprint-rules) (λ c. search footprint-rules) (λ c. search footprint-rules)
     (λ c. search footprint-rules) (λ c. search footprint-rules) (λ c. search footprint-rules) (λ c. search footprint-rules)
-    (λ c. search footprint-rules))
+    (λ c. search footprint-rules) (λ c. search footprint-rules) (λ c. search footprint-rules) (λ c. search footprint-rules))

@@ -1,4 +1,4 @@
--- `gathering::sorted` meets its contract: each way has its work, wherever the operand of r/m is.
+-- `gathering::sorted` meets its contract: each way has its work, wherever its operand is.
 use Rattle.machine.proofs.laws.gathering.Sorting.{sorting}
 use Rattle.machine.proofs.gathering.sorted.Statement.{statement}
 use Rattle.machine.proofs.gathering.sorted.Tie as tie
@@ -7,7 +7,10 @@ pub sorted-spec : {M : Type 1} → statement M
 sorted-spec =
     tie.close
     (tie.spec
-    (λ c κs. search sorting) (λ c. search sorting) (λ c κs. search sorting) (λ c. search sorting) (λ c. search sorting) (λ c κs. search sorting)
-    (λ c. search sorting) (λ c. search sorting) (λ c κs. search sorting) (λ c. search sorting) (λ c κs. search sorting) (λ c. search sorting)
-    (λ c. search sorting) (λ c. search sorting) (λ c κs. search sorting) (λ c. search sorting) (λ c κs. search sorting) (λ c. search sorting)
-    (λ c κs. search sorting) (λ c. search sorting) (λ c. search sorting) (λ c. search sorting) (λ c. search sorting) (λ c. search sorting))
+    (λ c κs. search sorting) (λ c. search sorting) (λ c κs. search sorting) (λ c. search sorting) (λ c κs. search sorting) (λ c. search sorting)
+    (λ c. search sorting) (λ c κs. search sorting) (λ c. search sorting) (λ c. search sorting) (λ c κs. search sorting) (λ c. search sorting)
+    (λ c. search sorting) (λ c. search sorting) (λ c. search sorting) (λ c κs. search sorting) (λ c. search sorting) (λ c κs. search sorting)
+    (λ c. search sorting) (λ c. search sorting) (λ c. search sorting) (λ c κs. search sorting) (λ c. search sorting) (λ c κs. search sorting)
+    (λ c. search sorting) (λ c κs. search sorting) (λ c. search sorting) (λ c κs. search sorting) (λ c. search sorting) (λ c κs. search sorting)
+    (λ c. search sorting) (λ c κs. search sorting) (λ c. search sorting) (λ c. search sorting) (λ c. search sorting) (λ c. search sorting)
+    (λ c. search sorting) (λ c. search sorting) (λ c. search sorting) (λ c. search sorting) (λ c. search sorting) (λ c. search sorting))

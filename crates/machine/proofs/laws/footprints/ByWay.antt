@@ -1,24 +1,25 @@
 -- What each way reads and writes, for any operand: the masks of places one after the other are the masks of both. Rules for what the code makes of a way.
-use Rattle.basis.specs.Names.{_≡_, refl, List, [], _∷_, _++_, map, ℕ, _^_}
+use Rattle.basis.specs.Names.{_≡_, refl, Bool, true, false, cond, List, [], _∷_, _++_, map, ℕ, _^_}
 use Rattle.basis.proofs.Names.{sym, ap, _∙_, append-nil, needs, or-zero-l}
 use Rattle.reorder.specs.Result.{Result, done, refused, andThen, mapResult}
 use Rattle.reorder.specs.Footprint.{footprintIn}
 use Rattle.codec.specs.declared.Operand.{Operand}
-use Rattle.codec.specs.declared.Kind.the-variants.{Emms}
+use Rattle.codec.specs.declared.Kind.the-variants.{Emms, Silent}
 use Rattle.manual.specs.State.{State}
 use Rattle.manual.specs.Places.{Place, mmx, integer, look}
-use Rattle.manual.specs.Locations.{Location, mmxRegister}
+use Rattle.manual.specs.Refusals.{outsideMemory}
+use Rattle.manual.specs.Locations.{Location, mmxRegister, memory, atEdi, bytesFrom}
 use Rattle.manual.specs.Effects.{Effect, planOn, via}
-use Rattle.manual.proofs.Shapes.{both, move}
+use Rattle.manual.proofs.Shapes.{both, move, three}
 use Rattle.manual.proofs.Direct.{one}
 use Rattle.machine.specs.declared.Places.{Places}
 use Rattle.machine.specs.declared.Footprint.{Footprint}
 use Rattle.machine.specs.declared.reaches.Reach.{Reach}
 use Rattle.machine.specs.declared.reaches.Reach.the-variants.{Inside, Refused}
 use Rattle.machine.specs.declared.ways.Way.{Way}
-use Rattle.machine.specs.declared.ways.Way.the-variants.{Empties, Shifts, Stores, Loads, Computes}
+use Rattle.machine.specs.declared.ways.Way.the-variants.{Empties, Passes, Shifts, Extracts, Stores, Loads, Computes, Inserts, Shuffles, Masks}
 use Rattle.machine.specs.Footprints.{mask, setOf, masked}
-use Rattle.machine.specs.inner.Reaches.{nowhere, beside, through, reachOf, ordinaryFootprint, footprintOfWay}
+use Rattle.machine.specs.inner.Reaches.{nowhere, integerAlone, beside, through, reachOf, ordinaryFootprint, footprintOfWay}
 use Rattle.machine.proofs.laws.meetings.Masks.{or-assoc}
 
 -- address registers beside other places
@@ -50,10 +51,21 @@ module _ (s : State) (w : Operand) (x : Location) where
   compute-footprint f (done ps) = simp (append-nil, set-through)
   compute-footprint f (refused n) = refl
 
+-- eight bytes at EDI, and two registers
+pub mask-footprint : (s : State) (w : Operand) (f : ℕ → ℕ → ℕ → ℕ) (t : Bool) (a : ℕ) → let x = memory atEdi 8 in
+    let o = cond t (done (bytesFrom a 8)) (refused outsideMemory) in
+    shown s w x (three f x (mmxRegister (w .reg)) (mmxRegister (w .rm))) (andThen o (λ ps. mapResult (λ qs. ps ++ qs) (done (mmx (w .reg) ∷ mmx (w .rm) ∷ [])))) (one o)
+    ≡ tracedAs (footprintOfWay Masks w) (reachOf x o)
+mask-footprint s w f true a = refl
+mask-footprint s w f false a = refl
+
 -- the ways as the code makes them
 module _ (y : Way) (w : Operand) (m : ℕ) (p : Places) where
   pub made-empties : y ≡ Empties → record { reads = nowhere; writes = nowhere; kind = Emms } ≡ footprintOfWay y w m p
   made-empties e = simp e
+
+  pub made-passes : y ≡ Passes → record { reads = nowhere; writes = nowhere; kind = Silent } ≡ footprintOfWay y w m p
+  made-passes e = simp e
 
   module _ (r : Footprint) where
     made-by : (z : Way) → y ≡ z → r ≡ footprintOfWay z w m p → r ≡ footprintOfWay y w m p
@@ -61,6 +73,12 @@ module _ (y : Way) (w : Operand) (m : ℕ) (p : Places) where
 
     pub made-shifts : (shifted : Places) → y ≡ Shifts → shifted ≡ beside (w .rm) nowhere → r ≡ ordinaryFootprint 0 shifted shifted → r ≡ footprintOfWay y w m p
     made-shifts shifted e f h = made-by Shifts e (simp f at h)
+
+    pub made-extracts : (from to : Places) → y ≡ Extracts → from ≡ beside (w .rm) nowhere → to ≡ integerAlone (w .reg) → r ≡ ordinaryFootprint 0 from to → r ≡ footprintOfWay y w m p
+    made-extracts from to e f g h = made-by Extracts e (simp (f, g) at h)
+
+    pub made-masks : (masked both : Places) → y ≡ Masks → masked ≡ beside (w .rm) p → both ≡ beside (w .reg) masked → r ≡ ordinaryFootprint m both p → r ≡ footprintOfWay y w m p
+    made-masks masked both e f g h = made-by Masks e (simp (f, g) at h)
 
     module _ (own : Places) (f : own ≡ beside (w .reg) nowhere) where
       pub made-stores : y ≡ Stores → r ≡ ordinaryFootprint m own p → r ≡ footprintOfWay y w m p
@@ -72,4 +90,10 @@ module _ (y : Way) (w : Operand) (m : ℕ) (p : Places) where
       pub made-computes : (both : Places) → y ≡ Computes → both ≡ beside (w .reg) p → r ≡ ordinaryFootprint m both own → r ≡ footprintOfWay y w m p
       made-computes both e g h = made-by Computes e (simp (f, g) at h)
 
-pub ruleset footprint-rules = (needs, made-empties, made-shifts, made-stores, made-loads, made-computes)
+      pub made-inserts : (both : Places) → y ≡ Inserts → both ≡ beside (w .reg) p → r ≡ ordinaryFootprint m both own → r ≡ footprintOfWay y w m p
+      made-inserts both e g h = made-by Inserts e (simp (f, g) at h)
+
+      pub made-shuffles : y ≡ Shuffles → r ≡ ordinaryFootprint m p own → r ≡ footprintOfWay y w m p
+      made-shuffles e h = made-by Shuffles e (simp f at h)
+
+pub ruleset footprint-rules = (needs, made-empties, made-passes, made-shifts, made-extracts, made-stores, made-loads, made-computes, made-inserts, made-shuffles, made-masks)

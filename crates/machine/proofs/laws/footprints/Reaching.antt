@@ -14,9 +14,9 @@ use Rattle.machine.specs.declared.operands.Spot.the-variants as spots
 use Rattle.machine.specs.declared.reaches.Reach.{Reach}
 use Rattle.machine.specs.declared.reaches.Reach.the-variants.{Inside, Refused}
 use Rattle.machine.specs.Footprints.{mmxNumber, integerNumber, numbersOf, mask, setOf}
-use Rattle.machine.specs.inner.Reaches.{nowhere, beside, reachOf, behind}
+use Rattle.machine.specs.inner.Reaches.{nowhere, integerAlone, beside, reachOf, behind}
 use Rattle.machine.specs.inner.Spots.{fileIn, otherOf, spotOf}
-use Rattle.machine.specs.inner.Ways.{wayOf, hasTwo}
+use Rattle.machine.specs.inner.Ways.{wayOf, hasOther}
 use Rattle.machine.specs.inner.Works.{Listed}
 use Rattle.machine.proofs.laws.meetings.Ranges.{count-bytes}
 use Rattle.machine.proofs.laws.ways.Numbering.{other}
@@ -41,7 +41,7 @@ set-bytes (suc size) a h =
 -- where the code finds an operand, with the mask of its address registers
 abbrev reachAt : ℕ → Spot → Reach
 reachAt registers (Mmx k) = Inside registers (beside k nowhere)
-reachAt registers (Integer k) = Inside registers (record { mmx = 0; integers = 2 ^ k; start = 0; length = 0 })
+reachAt registers (Integer k) = Inside registers (integerAlone k)
 reachAt registers (Bytes a size) = Inside registers (range a size)
 reachAt registers (spots.Refused n) = Refused n
 
@@ -67,7 +67,7 @@ module _ (s : State) (w : Operand) where
       by true integerFile = simp or-zero-r
       by false f = inside (liesInside (length (s .memory)) size start) refl
 
-  module _ (entry : ℕ) (l : Listed entry) (two : hasTwo (wayOf (entry / 2 ^ 24)) ≡ true) where
+  module _ (entry : ℕ) (l : Listed entry) (two : hasOther (wayOf (entry / 2 ^ 24)) ≡ true) where
     abbrev there : Location
     there = otherOf (entry / 2 ^ 24) w
 
@@ -76,10 +76,6 @@ module _ (s : State) (w : Operand) where
       pub reach-there : (r : Reach) → r ≡ reachAt m y → r ≡ reachOf there (placesOf s there)
       reach-there r h =
           let form = formOf (entry / 2 ^ 24) in
-          h ∙ rw (masked, ← e, found) (reached (fileIn (form .operands)) (memorySize form) (other entry l two .some))
+          h ∙ rw (masked, ← e, found) (reached (fileIn (form .operands)) (memorySize form) (other entry l two .any))
 
-      pub reach-integer : (k b : ℕ) → y ≡ Integer k → b ≡ 2 ^ k
-          → Inside m (record { mmx = 0; integers = b; start = 0; length = 0 }) ≡ reachOf there (placesOf s there)
-      reach-integer k b i f = reach-there (Inside m (record { mmx = 0; integers = b; start = 0; length = 0 })) (simp (i, f))
-
-pub ruleset reach-rules = (needs, spot-named, register-mmx, register-integer, reach-there, reach-integer)
+pub ruleset reach-rules = (needs, spot-named, register-mmx, register-integer, reach-there)

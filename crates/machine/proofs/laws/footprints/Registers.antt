@@ -6,7 +6,7 @@ use Rattle.codec.specs.declared.Operand.{Operand}
 use Rattle.manual.specs.Addresses.{baseOf, indexOf, addressOf, registersOf}
 use Rattle.machine.specs.declared.Places.{Places}
 use Rattle.machine.specs.Footprints.{mask}
-use Rattle.machine.specs.inner.Reaches.{beside, behind}
+use Rattle.machine.specs.inner.Reaches.{integerAlone, beside, behind}
 use Rattle.machine.proofs.laws.addresses.Addressing.{base-is, base-is-five, no-base, index-is, no-index}
 use Rattle.machine.proofs.laws.meetings.Masks.{mask-append}
 
@@ -42,4 +42,8 @@ pub made-beside : (register b : ℕ) (p : Places) → b ≡ 2 ^ register
     → record { mmx = bitOr b (p .mmx); integers = p .integers; start = p .start; length = p .length } ≡ beside register p
 made-beside register b p e = simp e
 
-pub ruleset mask-rules = (needs, one-bit, base-is, base-is-five, no-base, index-is, no-index, mask-named, mask-none, address-none, address-plain, address-sib, made-beside)
+-- an integer register
+pub made-integer : (register b : ℕ) → b ≡ 2 ^ register → record { mmx = 0; integers = b; start = 0; length = 0 } ≡ integerAlone register
+made-integer register b e = simp e
+
+pub ruleset mask-rules = (needs, one-bit, base-is, base-is-five, no-base, index-is, no-index, mask-named, mask-none, address-none, address-plain, address-sib, made-beside, made-integer)

@@ -1,5 +1,5 @@
 -- The tests before the footprint, in the order of a step's: the memory's length, the reader's, the control marks. Rules for their answers.
-use Rattle.basis.specs.Names.{_≡_, refl, List, ℕ, _-_, _≤_, _<_, length}
+use Rattle.basis.specs.Names.{_≡_, refl, List, ℕ, _-_, _/_, _^_, _≤_, _<_, length}
 use Rattle.basis.proofs.Names.{sym, ap, _∙_, needs, lt-ltb, le-ltb}
 use Rattle.reorder.specs.Result.{Result, refused, andThen, mapResult}
 use Rattle.reorder.specs.Plan.{Plan}
@@ -16,6 +16,7 @@ use Rattle.codec.proofs.OurTable.{read-long, read-on, read-stop}
 use Rattle.manual.specs.Refusals.{memoryTooLong}
 use Rattle.manual.specs.State.{State, longestMemory}
 use Rattle.manual.specs.Places.{Place, look}
+use Rattle.manual.specs.Kinds.{heeded}
 use Rattle.manual.specs.Effects.{Effect, unlessMarked, via}
 use Rattle.manual.specs.Instructions.{effectOf, footprint}
 use Rattle.manual.specs.Steps.{resultOf, instructionAt}
@@ -27,9 +28,9 @@ use Rattle.machine.specs.declared.Tracing.{Tracing}
 use Rattle.machine.specs.State.{stateOf}
 use Rattle.machine.specs.Footprints.{masked, maskedAt, paperOfFootprint}
 use Rattle.machine.specs.inner.Reaches.{unmarkedFootprint}
-use Rattle.machine.specs.inner.Works.{barredBy, effectIn}
+use Rattle.machine.specs.inner.Works.{barredBy, stoppingBy, effectIn}
 use Rattle.machine.proofs.laws.gathering.Fetching.{names-registers, is-listed, effect-found}
-use Rattle.machine.proofs.laws.gathering.Testing.{unbarred-by, barred-by}
+use Rattle.machine.proofs.laws.gathering.Testing.{unbarred-by, barred-by, stopped-by}
 
 -- past the memory's length
 module _ (code : List ℕ) (at : ℕ) (machine : Machine) (memory : List ℕ) where
@@ -57,20 +58,23 @@ module _ (code : List ℕ) (at : ℕ) (machine : Machine) (memory : List ℕ) wh
         abbrev answered : Result Footprint
         answered = unmarkedFootprint (effectIn (x .entry) (x .instruction)) here
 
-        traced-found : maskedAt code at here ≡ unlessMarked (machine .marks) answered
+        traced-found : maskedAt code at here ≡ unlessMarked (heeded (effectIn (x .entry) (x .instruction) .kind) (machine .marks)) answered
         unfolding footprint unmarkedFootprint
         traced-found =
             by-reading (good (x .instruction) (x .next - at)) (read-on code at x table ours e fits passed)
             ∙ past-marks (λ (o : Result (Plan Place Kind)). mapResult masked (footprintIn look (via (effectOf (x .instruction))) here o)) (λ n. refl)
-            (machine .marks) _
-            ∙ ap (λ (y : Effect). unlessMarked (machine .marks) (unmarkedFootprint y here)) (sym (effect-found table code at x ours e passed))
+            (heeded (effectOf (x .instruction) .kind) (machine .marks)) _
+            ∙ ap (λ (y : Effect). unlessMarked (heeded (y .kind) (machine .marks)) (unmarkedFootprint y here)) (sym (effect-found table code at x ours e passed))
 
-        -- the number of the marks, or 0
-        module _ (bar : ℕ) (found : bar ≡ barredBy (machine .marks)) where
-          pub traced-barred : (bar ≡ 0 → ⊥) → refused bar ≡ maskedAt code at here
-          traced-barred h = ap refused found ∙ sym (traced-found ∙ barred-by (machine .marks) _ (λ z. h (found ∙ z)))
+        -- the number of the marks that stop it, or 0
+        module _ (bar stop : ℕ) (found : bar ≡ barredBy (machine .marks)) (stopping : stop ≡ stoppingBy bar (x .entry / 2 ^ 24)) where
+          stops-it : stop ≡ barredBy (heeded (effectIn (x .entry) (x .instruction) .kind) (machine .marks))
+          stops-it = stopping ∙ ap (λ (k : ℕ). stoppingBy k (x .entry / 2 ^ 24)) found ∙ sym (stopped-by (x .entry / 2 ^ 24) (machine .marks))
 
-          pub traced-unbarred : (r : Tracing) → bar ≡ 0 → paperOfFootprint r ≡ answered → paperOfFootprint r ≡ maskedAt code at here
-          traced-unbarred r h p = p ∙ sym (traced-found ∙ unbarred-by (machine .marks) _ (sym found ∙ h))
+          pub traced-barred : (stop ≡ 0 → ⊥) → refused stop ≡ maskedAt code at here
+          traced-barred h = ap refused stops-it ∙ sym (traced-found ∙ barred-by _ _ (λ z. h (stops-it ∙ z)))
+
+          pub traced-unbarred : (r : Tracing) → stop ≡ 0 → paperOfFootprint r ≡ answered → paperOfFootprint r ≡ maskedAt code at here
+          traced-unbarred r h p = p ∙ sym (traced-found ∙ unbarred-by _ _ (sym stops-it ∙ h))
 
 pub ruleset position-rules = (needs, names-registers, is-listed, traced-long, traced-code-long, traced-unread, traced-barred, traced-unbarred)

@@ -1,7 +1,7 @@
 -- The step at a position, from what the code has found there: the reader's refusal, that of the control marks, or the instruction's work.
-use Rattle.basis.specs.Names.{_≡_, refl, List, ℕ, _+_, _≤_, length, drop}
+use Rattle.basis.specs.Names.{_≡_, refl, List, ℕ, _+_, _/_, _^_, _≤_, length, drop}
 use Rattle.basis.proofs.Names.{sym, ap, subst, _∙_, arith, needs, le-ltb}
-use Rattle.reorder.specs.Result.{caseOf}
+use Rattle.reorder.specs.Result.{Result, caseOf}
 use Rattle.codec.specs.Opcodes.{formAt}
 use Rattle.codec.specs.inner.Fields.{Registers}
 use Rattle.codec.specs.Table.{opcodeTable}
@@ -16,6 +16,7 @@ use Rattle.codec.proofs.OurTable.{found-ours}
 use Rattle.codec.proofs.Theorems.{found-registers}
 use Rattle.manual.specs.declared.Marks.{Marks}
 use Rattle.manual.specs.State.{State, longestMemory}
+use Rattle.manual.specs.Kinds.{heeded}
 use Rattle.manual.specs.Effects.{Effect, unlessMarked}
 use Rattle.manual.specs.inner.Unmarked.{directly}
 use Rattle.manual.specs.Instructions.{effectOf, execute}
@@ -25,10 +26,14 @@ use Rattle.manual.proofs.Turns.{instruction-here}
 use Rattle.manual.proofs.Direct.{marks-first}
 use Rattle.machine.specs.declared.gathering.Work.{Work}
 use Rattle.machine.specs.State.{stateOf}
-use Rattle.machine.specs.inner.Works.{machineOf, effectIn, Listed, performed, Does, Gathered, refusedWork}
+use Rattle.machine.specs.inner.Works.{machineOf, barredBy, stoppingBy, effectIn, Listed, performed, Does, Gathered, refusedWork}
 use Rattle.machine.proofs.laws.gathering.Listing.{entry-listed, effect-is}
 use Rattle.machine.proofs.laws.gathering.Soundness.{sound-refusal}
-use Rattle.machine.proofs.laws.gathering.Testing.{unbarred-by, barred-by}
+use Rattle.machine.proofs.laws.gathering.Testing.{unbarred-by, barred-by, stopped-by}
+
+-- an effect where no mark stops its kind
+abbrev heedfully : Effect → State → Result State
+heedfully e s = unlessMarked (heeded (e .kind) (s .marks)) (directly e s)
 
 module _ (table code : List ℕ) (at : ℕ) (x : Found) (ours : table ≡ opcodeTable) (e : x ≡ findWith table code at) where
   -- what is found is the defined reading, as far on as the position
@@ -65,17 +70,17 @@ module _ (table code : List ℕ) (at : ℕ) (x : Found) (ours : table ≡ opcode
 
     -- an instruction was found
     module _ (passed : x .refusal ≡ 0) where
-      step-found : stepAt code at s ≡ concluded at (x .next) s (unlessMarked (s .marks) (directly (effectIn (x .entry) (x .instruction)) s))
+      step-found : stepAt code at s ≡ concluded at (x .next) s (heedfully (effectIn (x .entry) (x .instruction)) s)
       unfolding execute
       step-found = by (readPart (drop at code)) refl (reads-known formAt 0 (drop at code))
         where
           by : (z : Decoded) → readPart (drop at code) ≡ z → Holds (Known formAt) Refusal z
-              → stepAt code at s ≡ concluded at (x .next) s (unlessMarked (s .marks) (directly (effectIn (x .entry) (x .instruction)) s))
+              → stepAt code at s ≡ concluded at (x .next) s (heedfully (effectIn (x .entry) (x .instruction)) s)
           by (good i n) r g =
               step-reads (good i n) r
               ∙ ap (concluded at (at + n) s) (marks-first s (effectOf i))
-              ∙ ap (λ (y : Effect). concluded at (at + n) s (unlessMarked (s .marks) (directly y s))) (sym (effect-is i (g .registers)))
-              ∙ ap (λ (y : Found). concluded at (y .next) s (unlessMarked (s .marks) (directly (effectIn (y .entry) (y .instruction)) s)))
+              ∙ ap (λ (y : Effect). concluded at (at + n) s (heedfully y s)) (sym (effect-is i (g .registers)))
+              ∙ ap (λ (y : Found). concluded at (y .next) s (heedfully (effectIn (y .entry) (y .instruction)) s))
               (sym (found-is (good i n) r))
           by (refused n) r g =
               let f : x .refusal ≡ n = ap (λ (y : Found). y .refusal) (found-is (refused n) r) in
@@ -101,26 +106,30 @@ module _ (table code : List ℕ) (at : ℕ) (x : Found) (ours : table ≡ opcode
             }
 
     -- an instruction was found
-    module _ (passed : x .refusal ≡ 0) where
-      pub gathered-barred : (bar ≡ 0 → ⊥) → work ≡ refusedWork bar → Gathered work registers integers bar code at m
+    module _ (passed : x .refusal ≡ 0) (stop : ℕ) (stopping : stop ≡ stoppingBy bar (x .entry / 2 ^ 24)) where
+      -- the number of the marks that stop it
+      stops-it : (marks : Marks) → bar ≡ barredBy marks → stop ≡ barredBy (heeded (effectIn (x .entry) (x .instruction) .kind) marks)
+      stops-it marks b = stopping ∙ ap (λ (k : ℕ). stoppingBy k (x .entry / 2 ^ 24)) b ∙ sym (stopped-by (x .entry / 2 ^ 24) marks)
+
+      pub gathered-barred : (stop ≡ 0 → ⊥) → work ≡ refusedWork stop → Gathered work registers integers bar code at m
       unfolding performed
       gathered-barred h w =
           subst (λ (y : Work). Gathered y registers integers bar code at m) (sym w)
           (record {
-            sound = sound-refusal bar h;
+            sound = sound-refusal stop h;
             steps = λ marks b.
-                ap (λ (k : ℕ). refusedWith k at (state marks)) b
-                ∙ sym (step-found (state marks) code-fits memory-fits passed ∙ ap (concluded at (x .next) (state marks)) (barred-by marks _ (λ z. h (b ∙ z))));
+                ap (λ (k : ℕ). refusedWith k at (state marks)) (stops-it marks b)
+                ∙ sym (step-found (state marks) code-fits memory-fits passed ∙ ap (concluded at (x .next) (state marks)) (barred-by _ _ (λ z. h (stops-it marks b ∙ z))));
           })
 
-      pub gathered-sorted : bar ≡ 0 → Does work registers integers m (effectIn (x .entry) (x .instruction)) (x .next)
+      pub gathered-sorted : stop ≡ 0 → Does work registers integers m (effectIn (x .entry) (x .instruction)) (x .next)
           → Gathered work registers integers bar code at m
       gathered-sorted h d =
           record {
             sound = d .sound;
             steps = λ marks b.
                 d .does marks at
-                ∙ sym (step-found (state marks) code-fits memory-fits passed ∙ ap (concluded at (x .next) (state marks)) (unbarred-by marks _ (sym b ∙ h)));
+                ∙ sym (step-found (state marks) code-fits memory-fits passed ∙ ap (concluded at (x .next) (state marks)) (unbarred-by _ _ (sym (stops-it marks b) ∙ h)));
           }
 
 pub ruleset fetching = (needs, names-registers, is-listed, gathered-unread, gathered-barred, gathered-sorted)

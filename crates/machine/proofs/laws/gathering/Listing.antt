@@ -1,8 +1,8 @@
 -- What is read has a number of the table: its form is present, as an absent one is refused, and each number keeps what `Listed` says. Rules for what
 -- the code looks up.
-use Rattle.basis.specs.Names.{_≡_, refl, Bool, true, false, not, _&&_, _||_, ℕ, _/_, _%_, _^_, eqb, ltb, getD}
+use Rattle.basis.specs.Names.{_≡_, refl, Bool, true, false, _&&_, Option, none, some, ℕ, _/_, _%_, _^_, eqb, ltb, getD}
 use Rattle.basis.proofs.Names.{sym, ap, ap₂, _∙_, false≢true, ltb-true, ltb-false, eqb-true}
-use Rattle.lanes.specs.Operations.{Operation, operationOf, described, MOVE}
+use Rattle.lanes.specs.Operations.{Operation}
 use Rattle.codec.specs.Forms.{Form, isAbsent, memorySize}
 use Rattle.codec.specs.Opcodes.{formAt, operationAt}
 use Rattle.codec.specs.inner.Fields.{Registers}
@@ -13,14 +13,23 @@ use Rattle.words.proofs.Laws.{and-both}
 use Rattle.codec.proofs.Entries.{agree, table-entry, form-is, operation-is}
 use Rattle.codec.proofs.Bytes.{form-beyond}
 use Rattle.manual.specs.Instructions.{effectBy, effectOf}
-use Rattle.machine.specs.inner.Works.{effectIn, isMove, isListed, Listed}
+use Rattle.machine.specs.inner.Works.{effectIn, owned, isListed, Listed}
+
+-- the operation that alone has a form, if there is one, is that of an entry
+abbrev owns : Option ℕ → ℕ → Bool
+owns none operation = true
+owns (some k) operation = eqb operation k
+
+only : (o : Option ℕ) (operation k : ℕ) → owns o operation ≡ true → o ≡ some k → operation ≡ k
+only none operation k h e = absurd (false≢true (cc))
+only (some j) operation k h e = let same : j ≡ k = cc in eqb-true operation j h ∙ same
 
 -- the numbers are tested by a computation
 abbrev passes : ℕ → Bool
 passes number =
     isListed (number / 2 ^ 24)
     && (eqb (number / 2 ^ 16 % 256) (memorySize (formOf (number / 2 ^ 24)))
-    && (not (isMove (formOf (number / 2 ^ 24))) || eqb (number % 256) (described MOVE .number)))
+    && owns (owned (number / 2 ^ 24)) (number % 256))
 
 all-pass : listed (λ k. passes (entryAt k)) 0 256 ≡ listed (λ k. true) 0 256
 unfolding formAt operationAt
@@ -34,7 +43,7 @@ number-listed number h p =
       listed = a;
       present = p;
       sized = eqb-true _ _ b;
-      moves = λ m. ap operationOf (eqb-true (number % 256) (described MOVE .number) (simp m at c));
+      owns = λ k e. only (owned (number / 2 ^ 24)) (number % 256) k c e;
     }
 
 -- a second byte whose form is there has a number that is listed

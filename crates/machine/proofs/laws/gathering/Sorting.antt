@@ -1,12 +1,12 @@
 -- The work that the code makes of an instruction does what its effect does: one rule for each way, whatever operand r/m names.
-use Rattle.basis.specs.Names.{_≡_, refl, Bool, true, false, not, List, ℕ, _/_, _%_, _^_, _≤_, length, getD}
-use Rattle.basis.proofs.Names.{sym, ap, _∙_, needs, le-leb, not-true}
-use Rattle.lanes.specs.Operations.{Operation, operationOf, operate, MOVE}
+use Rattle.basis.specs.Names.{_≡_, refl, Bool, true, false, not, some, List, ℕ, _/_, _%_, _^_, _≤_, _<_, length, getD}
+use Rattle.basis.proofs.Names.{sym, ap, _∙_, arith, needs, le-leb, not-true}
+use Rattle.lanes.specs.Operations.{Operation, operationOf, operate, operateThree, described, MOVE, PINSRW, PSHUFW, PEXTRW, PMOVMSKB, MASKMOVQ}
 use Rattle.words.specs.Number.{bytes}
 use Rattle.words.proofs.Laws.{loaded-bytewise, stored-bytewise}
 use Rattle.reorder.specs.Result.{Result, done, andThen}
-use Rattle.codec.specs.Forms.{File, rm/mem, Form, memorySize}
-use Rattle.codec.specs.inner.Entries.{hasDigits}
+use Rattle.codec.specs.Forms.{File, mmxFile, integerFile, rm/mem, Form, memorySize}
+use Rattle.codec.specs.inner.Entries.{isShift}
 use Rattle.codec.specs.inner.Fields.{Registers}
 use Rattle.codec.specs.Table.{formOf}
 use Rattle.codec.specs.inner.Entries.{shiftOf, operationIn}
@@ -18,22 +18,23 @@ use Rattle.manual.specs.declared.Marks.{Marks}
 use Rattle.manual.specs.State.{State}
 use Rattle.manual.specs.Kinds.{marked}
 use Rattle.manual.specs.Addresses.{address, addressOf}
-use Rattle.manual.specs.Locations.{Location, mmxRegister, memory, rmOf, liesInside}
+use Rattle.manual.specs.Locations.{Location, mmxRegister, integerRegister, memory, rmOf, atEdi, liesInside}
 use Rattle.manual.specs.inner.Unmarked.{directly}
 use Rattle.manual.specs.Instructions.{keptBy, effectBy}
 use Rattle.manual.specs.Steps.{concluded}
-use Rattle.manual.proofs.Direct.{valueAt, putAt, move-direct, both-direct}
+use Rattle.manual.proofs.Direct.{valueAt, putAt, move-direct, both-direct, three-direct}
 use Rattle.machine.specs.declared.gathering.Work.{Work}
 use Rattle.machine.specs.declared.operands.Spot.{Spot}
 use Rattle.machine.specs.declared.ways.Way.{Way}
-use Rattle.machine.specs.declared.ways.Way.the-variants.{Empties, Shifts, Stores, Loads, Computes}
+use Rattle.machine.specs.declared.ways.Way.the-variants.{Empties, Passes, Shifts, Extracts, Stores, Loads, Computes, Inserts, Shuffles, Masks}
 use Rattle.machine.specs.State.{stateOf}
 use Rattle.machine.specs.inner.Spots.{fileIn, otherOf, spotOf, Named}
-use Rattle.machine.specs.inner.Ways.{wayOf, hasTwo}
-use Rattle.machine.specs.inner.Works.{machineOf, effectIn, isMove, Listed, toOperate, toEmpty, workOf, putWork, takeWork, performed, Sound, Does}
-use Rattle.machine.proofs.laws.gathering.Soundness.{sound-operation, sound-empties, sound-put, sound-take}
+use Rattle.machine.specs.inner.Ways.{wayOf, hasOther}
+use Rattle.machine.specs.inner.Picks.{pickedOf, pickedWork, extractedOf, extractWork, maskWork}
+use Rattle.machine.specs.inner.Works.{machineOf, effectIn, owned, Listed, toOperate, toEmpty, toPass, workOf, putWork, takeWork, performed, Sound, Does}
+use Rattle.machine.proofs.laws.gathering.Soundness.{sound-operation, sound-empties, sound-passes, sound-integer, sound-put, sound-take, sound-picked, sound-mask}
 use Rattle.machine.proofs.laws.operands.Locating.{by-place, spot-named, register-mmx, register-integer}
-use Rattle.machine.proofs.laws.ways.Numbering.{Other, HasWay, empties, shifts-WD, shifts-Q, stores, loads, computes, goes, other, two-operands}
+use Rattle.machine.proofs.laws.ways.Numbering.{Other, Moves, HasWay, empties, passes-fence, passes-prefetch, shifts-WD, shifts-Q, extracts-word, extracts-bits, inserts, shuffles, masks, streams, stores, loads, computes, goes, other, two-operands}
 
 -- what a form's effect leaves, by its way
 module _ (s : State) (o : Operation) (i : Instruction) where
@@ -53,29 +54,65 @@ module _ (s : State) (o : Operation) (i : Instruction) where
     shifted-by form shifts-Q = refl
 
     -- a store, which moves, gives what the operand takes of the register's number
-    stored-by : (form : Form) → HasWay n Stores form → (isMove form ≡ true → o ≡ MOVE)
+    stored-by : (form : Form) → HasWay n Stores form → (Moves n → o ≡ MOVE)
         → leftBy form ≡ putAt s (there form) (keptBy (rm/mem (fileIn (form .operands)) (memorySize form)) (getD (s .mmx) (own .reg) 0))
     unfolding operate
-    stored-by form (stores file size x) m =
-        ap (λ (q : Operation). directly (effectBy form q i) s) (m refl) ∙ move-direct s (keptBy (rm/mem file size)) (rmOf file size own) (mmxRegister (own .reg))
+    stored-by form (streams moves x) m =
+        ap (λ (q : Operation). directly (effectBy form q i) s) (m moves) ∙ move-direct s (λ v. v) (rmOf mmxFile 8 own) (mmxRegister (own .reg))
+    stored-by form (stores file size moves x) m =
+        ap (λ (q : Operation). directly (effectBy form q i) s) (m moves) ∙ move-direct s (keptBy (rm/mem file size)) (rmOf file size own) (mmxRegister (own .reg))
 
     -- the others give the operation's, as a load moves
     abbrev computedAs : Operation → Form → Result State
     computedAs p form = andThen (valueAt s (there form)) (λ v. putAt s (mmxRegister (own .reg)) (operate p (getD (s .mmx) (own .reg) 0) v))
 
-    loaded-by : (form : Form) → HasWay n Loads form → (isMove form ≡ true → o ≡ MOVE) → leftBy form ≡ computedAs o form
+    loaded-by : (form : Form) → HasWay n Loads form → (Moves n → o ≡ MOVE) → leftBy form ≡ computedAs o form
     unfolding operate
-    loaded-by form (loads file size x) m =
-        ap (λ (q : Operation). directly (effectBy form q i) s) (m refl)
+    loaded-by form (loads file size moves x) m =
+        ap (λ (q : Operation). directly (effectBy form q i) s) (m moves)
         ∙ move-direct s (λ v. v) (mmxRegister (own .reg)) (rmOf file size own)
-        ∙ ap (λ (q : Operation). computedAs q form) (sym (m refl))
+        ∙ ap (λ (q : Operation). computedAs q form) (sym (m moves))
 
     computed-by : (form : Form) → HasWay n Computes form → leftBy form ≡ computedAs o form
     computed-by form (computes file size x) = both-direct s (operate o) (own .reg) (rmOf file size own)
 
-shift-digits : (n : ℕ) (form : Form) → HasWay n Shifts form → hasDigits form ≡ true
-shift-digits n form shifts-WD = refl
-shift-digits n form shifts-Q = refl
+    -- what picks a register's lanes, by the operation that alone has its form
+    abbrev pickedAs : Form → Result State
+    pickedAs form = andThen (valueAt s (there form)) (λ v. putAt s (mmxRegister (own .reg)) (pickedOf n (getD (s .mmx) (own .reg) 0) v (i .immediate)))
+
+    inserted-by : (form : Form) → HasWay n Inserts form → ((k : ℕ) → owned n ≡ some k → o ≡ operationOf k) → leftBy form ≡ pickedAs form
+    inserted-by form (inserts e x) only =
+        ap (λ (q : Operation). directly (effectBy form q i) s) (only (described PINSRW .number) (ap owned e))
+        ∙ both-direct s (λ old v. operateThree PINSRW old v (i .immediate)) (own .reg) (rmOf integerFile 2 own)
+        ∙ ap (λ (k : ℕ). andThen (valueAt s (there form)) (λ v. putAt s (mmxRegister (own .reg)) (pickedOf k (getD (s .mmx) (own .reg) 0) v (i .immediate)))) (sym e)
+
+    shuffled-by : (form : Form) → HasWay n Shuffles form → ((k : ℕ) → owned n ≡ some k → o ≡ operationOf k) → leftBy form ≡ pickedAs form
+    shuffled-by form (shuffles e x) only =
+        ap (λ (q : Operation). directly (effectBy form q i) s) (only (described PSHUFW .number) (ap owned e))
+        ∙ move-direct s (λ v. operate PSHUFW v (i .immediate)) (mmxRegister (own .reg)) (rmOf mmxFile 8 own)
+        ∙ ap (λ (k : ℕ). andThen (valueAt s (there form)) (λ v. putAt s (mmxRegister (own .reg)) (pickedOf k (getD (s .mmx) (own .reg) 0) v (i .immediate)))) (sym e)
+
+    extracted-by : (form : Form) → HasWay n Extracts form → ((k : ℕ) → owned n ≡ some k → o ≡ operationOf k)
+        → leftBy form ≡ putAt s (integerRegister (own .reg)) (extractedOf n (getD (s .mmx) (own .rm) 0) (i .immediate) % 2 ^ 32)
+    extracted-by form (extracts-word e) only =
+        ap (λ (q : Operation). directly (effectBy form q i) s) (only (described PEXTRW .number) (ap owned e))
+        ∙ ap (λ (k : ℕ). putAt s (integerRegister (own .reg)) (extractedOf k (getD (s .mmx) (own .rm) 0) (i .immediate) % 2 ^ 32)) (sym e)
+    extracted-by form (extracts-bits e) only =
+        ap (λ (q : Operation). directly (effectBy form q i) s) (only (described PMOVMSKB .number) (ap owned e))
+        ∙ ap (λ (k : ℕ). putAt s (integerRegister (own .reg)) (extractedOf k (getD (s .mmx) (own .rm) 0) (i .immediate) % 2 ^ 32)) (sym e)
+
+    abbrev bytes-at-edi : Location
+    bytes-at-edi = memory atEdi 8
+
+    masked-by : (form : Form) → HasWay n Masks form → ((k : ℕ) → owned n ≡ some k → o ≡ operationOf k)
+        → leftBy form ≡ andThen (valueAt s bytes-at-edi) (λ v. putAt s bytes-at-edi (operateThree MASKMOVQ v (getD (s .mmx) (own .reg) 0) (getD (s .mmx) (own .rm) 0)))
+    masked-by form (masks e x) only =
+        ap (λ (q : Operation). directly (effectBy form q i) s) (only (described MASKMOVQ .number) (ap owned e))
+        ∙ three-direct s (operateThree MASKMOVQ) atEdi (own .reg) (own .rm)
+
+shift-is : (n : ℕ) (form : Form) → HasWay n Shifts form → isShift form ≡ true
+shift-is n form shifts-WD = refl
+shift-is n form shifts-Q = refl
 
 -- works over lent registers and memory
 module _ (registers integers m : List ℕ) (next : ℕ) where
@@ -120,6 +157,31 @@ module _ (registers integers m : List ℕ) (next : ℕ) where
         inside true h marks at = simp (h, loaded-bytewise, le-leb size 8 few)
         inside false h marks at = simp h
 
+    -- lanes picked from the number that is there
+    abbrev Picks : ℕ → ℕ → ℕ → ℕ → Location → Type 0
+    Picks form number place immediate x =
+        Leaves (pickedWork form (getD registers place 0) immediate (takeWork registers integers m number place (spot x) next))
+        (λ s. andThen (valueAt s x) (λ v. putAt s (mmxRegister place) (pickedOf form (getD registers place 0) v immediate)))
+
+    picks : (file : File) (form number place immediate : ℕ) → Picks form number place immediate (rmOf file size w)
+    unfolding performed operate
+    picks file form number place immediate = by-place (λ f x. Picks form number place immediate x) file size w (λ marks at. refl) (λ marks at. refl) (λ f. inside room refl)
+      where
+        inside : (u : Bool) → room ≡ u → Picks form number place immediate (memory (addressOf w) size)
+        inside true h marks at = simp (h, loaded-bytewise, le-leb size 8 few)
+        inside false h marks at = simp h
+
+  -- eight bytes at EDI under a mask
+  masks-bytes : (source mask : ℕ) → Leaves (maskWork integers m source mask next)
+      (λ s. andThen (valueAt s (memory atEdi 8)) (λ v. putAt s (memory atEdi 8) (operateThree MASKMOVQ v source mask)))
+  unfolding performed
+  masks-bytes source mask = inside (liesInside (length m) 8 (address integers atEdi)) refl
+    where
+      inside : (u : Bool) → liesInside (length m) 8 (address integers atEdi) ≡ u → Leaves (maskWork integers m source mask next)
+          (λ s. andThen (valueAt s (memory atEdi 8)) (λ v. putAt s (memory atEdi 8) (operateThree MASKMOVQ v source mask)))
+      inside true h marks at = simp (h, stored-bytewise, loaded-bytewise)
+      inside false h marks at = simp h
+
 -- an instruction by the table's number for it
 module _ (registers integers m : List ℕ) (entry : ℕ) (i : Instruction) (next : ℕ) where
   abbrev formIn : ℕ
@@ -149,12 +211,29 @@ module _ (registers integers m : List ℕ) (entry : ℕ) (i : Instruction) (next
         by : (s : State) (f : Form) → HasWay formIn Empties f → directly (effectBy f named i) s ≡ done (marked Emms s)
         by s f empties = refl
 
+    pub does-pass : y ≡ Passes → work ≡ workOf toPass 0 0 0 next → Does work registers integers m (effectIn entry i) next
+    unfolding performed
+    does-pass e made =
+        rw made (of-work (workOf toPass 0 0 0 next) (λ s. done s) (sound-passes next) (λ s. by s form (goes entry l y Passes way e)) (λ marks at. refl))
+      where
+        by : (s : State) (f : Form) → HasWay formIn Passes f → directly (effectBy f named i) s ≡ done s
+        by s f passes-fence = refl
+        by s f passes-prefetch = refl
+
+    -- past the shifts the entry names the operation, and where one alone has the form that one
+    plain : 3 < formIn → named ≡ operationOf (entry % 256)
+    unfolding operationIn
+    plain h = simp (not-true (isShift form) (number-passes (λ f. not (isShift f)) 4 formIn h refl refl))
+
+    only : 3 < formIn → (k : ℕ) → owned formIn ≡ some k → named ≡ operationOf k
+    only h k e = plain h ∙ ap operationOf (l .owns k e)
+
     -- the shifts by an immediate
     pub does-shift : (number : ℕ) → y ≡ Shifts → operationOf number ≡ shiftOf (entry / 2 ^ 8 % 256) (w .reg)
         → work ≡ workOf toOperate number (w .rm) (i .immediate) next → Does work registers integers m (effectIn entry i) next
     unfolding performed operationIn
     does-shift number z e made =
-        let same : named ≡ operationOf number = simp (shift-digits formIn form (goes entry l y Shifts way z)) (sym e) in
+        let same : named ≡ operationOf number = simp (shift-is formIn form (goes entry l y Shifts way z)) (sym e) in
         rw made
         (of-work (workOf toOperate number (w .rm) (i .immediate) next)
         (λ s. putAt s (mmxRegister (w .rm)) (operate (operationOf number) (getD (s .mmx) (w .rm) 0) (i .immediate)))
@@ -164,7 +243,39 @@ module _ (registers integers m : List ℕ) (entry : ℕ) (i : Instruction) (next
         ∙ ap (λ (o : Operation). putAt s (mmxRegister (w .rm)) (operate o (getD (s .mmx) (w .rm) 0) (i .immediate))) same)
         (λ marks at. refl))
 
-    -- two operands
+    pub does-extract : (value : ℕ) → y ≡ Extracts → value ≡ getD registers (w .rm) 0 → work ≡ extractWork formIn value (i .immediate) (w .reg) next
+        → Does work registers integers m (effectIn entry i) next
+    unfolding performed
+    does-extract value e v made =
+        let way-is = goes entry l y Extracts way e in
+        rw (made, v)
+        (of-work (extractWork formIn (getD registers (w .rm) 0) (i .immediate) (w .reg) next)
+        (λ s. putAt s (integerRegister (w .reg)) (extractedOf formIn (getD (s .mmx) (w .rm) 0) (i .immediate) % 2 ^ 32))
+        (sound-integer (w .reg) (extractedOf formIn (getD registers (w .rm) 0) (i .immediate)) next (r .reg))
+        (λ s. extracted-by s named i formIn form way-is (only (past form way-is)))
+        (λ marks at. refl))
+      where
+        past : (f : Form) → HasWay formIn Extracts f → 3 < formIn
+        past f (extracts-word h) = omega arith
+        past f (extracts-bits h) = omega arith
+
+    pub does-mask : y ≡ Masks → work ≡ maskWork integers m (getD registers (w .reg) 0) (getD registers (w .rm) 0) next
+        → Does work registers integers m (effectIn entry i) next
+    does-mask e made =
+        let way-is = goes entry l y Masks way e in
+        let source = getD registers (w .reg) 0 in
+        let mask = getD registers (w .rm) 0 in
+        rw made
+        (of-work (maskWork integers m source mask next)
+        (λ s. andThen (valueAt s (memory atEdi 8)) (λ v. putAt s (memory atEdi 8) (operateThree MASKMOVQ v (getD (s .mmx) (w .reg) 0) (getD (s .mmx) (w .rm) 0))))
+        (sound-mask integers m source mask next)
+        (λ s. masked-by s named i formIn form way-is (only (past form way-is)))
+        (masks-bytes registers integers m next source mask))
+      where
+        past : (f : Form) → HasWay formIn Masks f → 3 < formIn
+        past f (masks h x) = omega arith
+
+    -- an operand that may be in memory
     abbrev here : Spot
     here = spotOf integers (length m) (otherOf formIn w)
 
@@ -177,16 +288,12 @@ module _ (registers integers m : List ℕ) (entry : ℕ) (i : Instruction) (next
     abbrev size : ℕ
     size = memorySize form
 
-    module _ (z : Way) (e : y ≡ z) (two : hasTwo z ≡ true) where
+    module _ (z : Way) (e : y ≡ z) (two : hasOther z ≡ true) where
       abbrev its : Other formIn file size
       its = other entry l (two-operands formIn y way z e two)
 
-      plain : named ≡ operationOf (entry % 256)
-      unfolding operationIn
-      plain = simp (not-true (hasDigits form) (number-passes (λ f. not (hasDigits f)) 16 formIn (its .two) refl refl))
-
-      moves : isMove form ≡ true → named ≡ MOVE
-      moves m = plain ∙ l .moves m
+      moves : Moves formIn → named ≡ MOVE
+      moves m = only (its .past) (described MOVE .number) m
 
       take : ((s : State) → directly (effectIn entry i) s ≡ computedAs s named i formIn named form) → work ≡ takeWork registers integers m (entry % 256) (w .reg) here next
           → Does work registers integers m (effectIn entry i) next
@@ -194,7 +301,7 @@ module _ (registers integers m : List ℕ) (entry : ℕ) (i : Instruction) (next
           rw made
           (of-work (takeWork registers integers m (entry % 256) (w .reg) here next) (λ s. computedAs s named i formIn (operationOf (entry % 256)) form)
           (sound-take registers integers m (entry % 256) (w .reg) here next (r .reg) here-named)
-          (λ s. after s ∙ ap (λ (o : Operation). computedAs s named i formIn o form) plain)
+          (λ s. after s ∙ ap (λ (o : Operation). computedAs s named i formIn o form) (plain (its .past)))
           (takes registers integers m next size w (its .most) file (entry % 256) (w .reg)))
 
     pub does-store : (x : Spot) → y ≡ Stores → x ≡ here → work ≡ putWork x (getD registers (w .reg) 0) next → Does work registers integers m (effectIn entry i) next
@@ -212,6 +319,28 @@ module _ (registers integers m : List ℕ) (entry : ℕ) (i : Instruction) (next
     pub does-compute : y ≡ Computes → work ≡ takeWork registers integers m (entry % 256) (w .reg) here next → Does work registers integers m (effectIn entry i) next
     does-compute e = take Computes e refl (λ s. computed-by s named i formIn form (goes entry l y Computes way e))
 
+    -- lanes picked by an immediate
+    pick : (z : Way) (e : y ≡ z) (two : hasOther z ≡ true) → ((s : State) → directly (effectIn entry i) s ≡ pickedAs s named i formIn form)
+        → work ≡ pickedWork formIn (getD registers (w .reg) 0) (i .immediate) (takeWork registers integers m (entry % 256) (w .reg) here next)
+        → Does work registers integers m (effectIn entry i) next
+    pick z e two after made =
+        let old = getD registers (w .reg) 0 in
+        rw made
+        (of-work (pickedWork formIn old (i .immediate) (takeWork registers integers m (entry % 256) (w .reg) here next)) (λ s. pickedAs s named i formIn form)
+        (sound-picked formIn old (i .immediate) registers integers m (entry % 256) (w .reg) here next (r .reg) here-named)
+        after
+        (picks registers integers m next size w (its z e two .most) file formIn (entry % 256) (w .reg) (i .immediate)))
+
+    pub does-insert : y ≡ Inserts → work ≡ pickedWork formIn (getD registers (w .reg) 0) (i .immediate) (takeWork registers integers m (entry % 256) (w .reg) here next)
+        → Does work registers integers m (effectIn entry i) next
+    does-insert e =
+        pick Inserts e refl (λ s. inserted-by s named i formIn form (goes entry l y Inserts way e) (only (its Inserts e refl .past)))
+
+    pub does-shuffle : y ≡ Shuffles → work ≡ pickedWork formIn (getD registers (w .reg) 0) (i .immediate) (takeWork registers integers m (entry % 256) (w .reg) here next)
+        → Does work registers integers m (effectIn entry i) next
+    does-shuffle e =
+        pick Shuffles e refl (λ s. shuffled-by s named i formIn form (goes entry l y Shuffles way e) (only (its Shuffles e refl .past)))
+
 -- what the code makes where the operand is
 module _ (x y : Spot) (next : ℕ) (work : Work) (e : x ≡ y) where
   pub made-put : (value : ℕ) → work ≡ putWork y value next → work ≡ putWork x value next
@@ -225,7 +354,7 @@ module _ (x y : Spot) (next : ℕ) (work : Work) (e : x ≡ y) where
         → v ≡ u → work ≡ takeWork registers integers m number place there next
     made-taken v u h g same = made-take (h ∙ ap (λ (z : ℕ). workOf toOperate number place z next) same ∙ g)
 
-pub ruleset sorting = (needs, two-operands, does-empties, does-shift, does-store, does-load, does-compute)
+pub ruleset sorting = (needs, two-operands, does-empties, does-pass, does-shift, does-extract, does-store, does-load, does-compute, does-insert, does-shuffle, does-mask)
 
 pub ruleset putting = (needs, made-put)
 

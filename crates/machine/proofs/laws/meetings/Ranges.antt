@@ -6,7 +6,7 @@ use Rattle.words.proofs.Laws.{and-both}
 use Rattle.reorder.specs.Result.{Result, done, refused, andThen, mapResult}
 use Rattle.reorder.specs.Plan.{Plan}
 use Rattle.reorder.specs.Footprint.{Footprint, footprintIn}
-use Rattle.codec.specs.Forms.{File, mmxFile, integerFile, Slot, reg, rm, rm/mem, Form}
+use Rattle.codec.specs.Forms.{File, mmxFile, integerFile, Slot, reg, rm, rm/mem, mem, edi, fixed, Form}
 use Rattle.codec.specs.Opcodes.{formAt, operationAt}
 use Rattle.codec.specs.declared.Instruction.{Instruction}
 use Rattle.codec.specs.declared.Kind.{Kind}
@@ -15,7 +15,9 @@ use Rattle.manual.specs.Refusals.{outsideMemory}
 use Rattle.manual.specs.State.{State}
 use Rattle.manual.specs.Places.{Place, integer, look}
 use Rattle.manual.specs.Addresses.{address, addressOf}
-use Rattle.manual.specs.Locations.{registerIn, locate, bytesFrom, liesInside, placesOf}
+use Rattle.manual.specs.declared.Marks.{Marks}
+use Rattle.manual.specs.Kinds.{heeded}
+use Rattle.manual.specs.Locations.{registerIn, rmOf, atEdi, locate, bytesFrom, liesInside, placesOf}
 use Rattle.manual.specs.Effects.{placesOfAll, addressRegistersOf, unlessMarked, planOn, via, footprintOf}
 use Rattle.manual.specs.Instructions.{sources, targets, effectBy, effectOf, footprint}
 use Rattle.manual.proofs.Marking.{by-marks}
@@ -74,6 +76,9 @@ atMost one [] = true
 atMost one (reg file ∷ xs) = atMost one xs
 atMost one (rm file ∷ xs) = atMost one xs
 atMost one (rm/mem file size ∷ xs) = one && atMost false xs
+atMost one (mem size ∷ xs) = one && atMost false xs
+atMost one (edi size ∷ xs) = one && atMost false xs
+atMost one (fixed k ∷ xs) = atMost one xs
 
 -- and so their bytes
 abbrev AtMost : Bool → List ℕ → Type 0
@@ -104,19 +109,29 @@ module _ (s : State) (i : Instruction) where
   none-is-range (done ps) e = subst Range (sym e) no-bytes
   none-is-range (refused n) e = tt
 
+  -- the operand of r/m before registers
+  other-before : (file : File) (size : ℕ) (rest : Result (List Place)) → Each (AtMost false) rest → Each Range (before (placesOf s (rmOf file size (i .operand))) rest)
+  other-before file size rest none =
+      let a = address (s .integers) (addressOf (i .operand)) in
+      let ranged = none-is-range rest none in
+      by-place (λ f x. Each Range (before (placesOf s x) rest)) file size (i .operand)
+      (register-before Range mmxFile (i .operand .rm) rest ranged) (register-before Range integerFile (i .operand .rm) rest ranged)
+      (λ f. bytes-before (liesInside (length (s .memory)) size a) size a rest none)
+
   at-most : (one : Bool) (xs : List Slot) → atMost one xs ≡ true → Each (AtMost one) (places xs)
   at-most true [] e = no-bytes
   at-most false [] e = refl
   at-most one (reg file ∷ xs) e = register-before (AtMost one) file (i .operand .reg) (places xs) (at-most one xs e)
   at-most one (rm file ∷ xs) e = register-before (AtMost one) file (i .operand .rm) (places xs) (at-most one xs e)
+  at-most one (fixed k ∷ xs) e = register-before (AtMost one) mmxFile k (places xs) (at-most one xs e)
   at-most false (rm/mem file size ∷ xs) e = absurd (false≢true e)
-  at-most true (rm/mem file size ∷ xs) e =
-      let none = at-most false xs e in
-      let rest = none-is-range (places xs) none in
-      let a = address (s .integers) (addressOf (i .operand)) in
-      by-place (λ f x. Each Range (before (placesOf s x) (places xs))) file size (i .operand)
-      (register-before Range mmxFile (i .operand .rm) (places xs) rest) (register-before Range integerFile (i .operand .rm) (places xs) rest)
-      (λ f. bytes-before (liesInside (length (s .memory)) size a) size a (places xs) none)
+  at-most false (mem size ∷ xs) e = absurd (false≢true e)
+  at-most false (edi size ∷ xs) e = absurd (false≢true e)
+  at-most true (rm/mem file size ∷ xs) e = other-before file size (places xs) (at-most false xs e)
+  at-most true (mem size ∷ xs) e = other-before mmxFile size (places xs) (at-most false xs e)
+  at-most true (edi size ∷ xs) e =
+      let a = address (s .integers) atEdi in
+      bytes-before (liesInside (length (s .memory)) size a) size a (places xs) (at-most false xs e)
 
 -- a footprint whose reads and writes are each one range of bytes
 pub record OneRange (f : Footprint Place Kind) : Type 0 where
@@ -132,14 +147,14 @@ abbrev oneEach : Form → Bool
 oneEach form = atMost true (sources (form .operands)) && atMost true (targets (form .operands))
 
 module _ (s : State) (i : Instruction) where
-  unmarked : (vs : List Place) (o : Result (Plan Place Kind)) → RangedFootprint (footprintIn look vs s o)
-      → RangedFootprint (footprintIn look vs s (unlessMarked (s .marks) o))
-  unmarked vs o h = by-marks (λ a b. RangedFootprint (footprintIn look vs s a)) (λ n. tt) (s .marks) o o h
+  unmarked : (marks : Marks) (vs : List Place) (o : Result (Plan Place Kind)) → RangedFootprint (footprintIn look vs s o)
+      → RangedFootprint (footprintIn look vs s (unlessMarked marks o))
+  unmarked marks vs o h = by-marks (λ a b. RangedFootprint (footprintIn look vs s a)) (λ n. tt) marks o o h
 
   ranged-form : (form : Form) (o : Operation) → oneEach form ≡ true → RangedFootprint (footprintOf (effectBy form o i) s)
   ranged-form form o e =
       let (a, b) = and-both (atMost true (sources (form .operands))) _ e in
-      unmarked (via (effectBy form o i)) _
+      unmarked (heeded (form .kind) (s .marks)) (via (effectBy form o i)) _
       (by (places s i (sources (form .operands))) (places s i (targets (form .operands))) (at-most s i true (sources (form .operands)) a) (at-most s i true (targets (form .operands)) b))
     where
       by : (o′ p : Result (List Place)) → Each Range o′ → Each Range p

@@ -1,6 +1,6 @@
 -- Where the code finds the operand that r/m names: each law by cases on what it may be. Rules for the functions that locate it and go by its place.
-use Rattle.basis.specs.Names.{_≡_, Bool, true, false, cond, List, ℕ, _+_, _/_, _%_, _^_, _≤_, _<_, eqb, leb}
-use Rattle.basis.proofs.Names.{sym, subst, arith, needs, eq-eqb, ne-eqb}
+use Rattle.basis.specs.Names.{_≡_, Bool, true, false, cond, List, ℕ, _+_, _/_, _%_, _^_, _<_, eqb, leb}
+use Rattle.basis.proofs.Names.{sym, ap, subst, _∙_, arith, needs, eq-eqb, ne-eqb}
 use Rattle.codec.specs.Forms.{File, mmxFile, integerFile, memorySize}
 use Rattle.codec.specs.inner.Fields.{Registers}
 use Rattle.codec.specs.Table.{formOf}
@@ -11,7 +11,7 @@ use Rattle.manual.specs.Locations.{Location, mmxRegister, integerRegister, memo
 use Rattle.machine.specs.declared.operands.Spot.{Spot}
 use Rattle.machine.specs.declared.operands.Spot.the-variants.{Mmx, Integer, Bytes, Refused}
 use Rattle.machine.specs.inner.Spots.{fileIn, otherOf, spotOf, Named}
-use Rattle.machine.specs.inner.Ways.{wayOf, hasTwo}
+use Rattle.machine.specs.inner.Ways.{isInteger, wayOf, hasOther}
 use Rattle.machine.specs.inner.Works.{Listed}
 use Rattle.machine.proofs.laws.ways.Numbering.{other}
 
@@ -47,17 +47,21 @@ module _ (integers : List ℕ) (room : ℕ) where
     pub spot-named : (x : Spot) → x ≡ here → Registers w → Named x
     spot-named x e r = subst Named (sym e) (named (fileIn (formOf form .operands)) (memorySize (formOf form)) w (r .rm))
 
-    module _ (l : Listed entry) (two : hasTwo (wayOf form) ≡ true) where
+    module _ (l : Listed entry) (two : hasOther (wayOf form) ≡ true) where
       module _ (register : w .mode ≡ 3) where
         in-register : (file : File) → fileIn (formOf form .operands) ≡ file → spotOf integers room (registerIn file (w .rm)) ≡ here
         unfolding rmOf
         in-register file e = simp (eq-eqb (w .mode) 3 register, e)
 
-        pub spot-mmx : 17 < form → Mmx (w .rm) ≡ here
-        spot-mmx h = in-register mmxFile (other entry l two .past h)
+        module _ (t : Bool) (test : t ≡ isInteger form) where
+          by-test : fileIn (formOf form .operands) ≡ cond t integerFile mmxFile
+          by-test = other entry l two .named ∙ ap (λ (u : Bool). cond u integerFile mmxFile) (sym test)
 
-        pub spot-integer : form ≤ 17 → Integer (w .rm) ≡ here
-        spot-integer h = in-register integerFile (other entry l two .low h)
+          pub spot-mmx : t ≡ false → Mmx (w .rm) ≡ here
+          spot-mmx e = in-register mmxFile (simp e at by-test)
+
+          pub spot-integer : t ≡ true → Integer (w .rm) ≡ here
+          spot-integer e = in-register integerFile (simp e at by-test)
 
       module _ (elsewhere : w .mode ≡ 3 → ⊥) (a : ℕ) (there : a ≡ address integers (addressOf w))
           (t : Bool) (test : t ≡ leb (a + entry / 2 ^ 16 % 256) room) where

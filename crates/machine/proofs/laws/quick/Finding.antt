@@ -10,7 +10,7 @@ use Rattle.codec.specs.Reads.{instructionOf, immediateReader, sibReader}
 use Rattle.codec.specs.Finding.{found}
 use Rattle.codec.specs.declared.Found.{Found}
 use Rattle.codec.specs.declared.Operand.{Operand}
-use Rattle.codec.proofs.FormNumbers.{allowed-past, immediate-past, immediate-before, immediate-shift}
+use Rattle.codec.proofs.FormNumbers.{allowed-past, allowed-in-memory, immediate-past, immediate-before, immediate-there}
 use Rattle.codec.proofs.Steps.{form-bare, form-on, modrm-on, sib-register, immediate-on, number-1}
 use Rattle.machine.specs.declared.pointers.Pointer.{Pointer}
 use Rattle.machine.specs.inner.Pointers.{Points}
@@ -53,25 +53,25 @@ module _ (entry second : ℕ) (code : List ℕ) (at : ℕ) where
           after-modrm (foundAs entry second (operandOf modrm 0 0) v (at + 1 + k)) t
           (sib-register code (at + 1) form escape second entry (foundAs entry second (operandOf modrm 0 0) v (at + 1 + k)) modrm (operandOf modrm 0 0) register byte refl e)
 
-      pub after-registers : 3 < n → foundAs entry second (operandOf modrm 0 0) 0 (at + 1) ≡ afterOpcode entry second code at
+      pub after-registers : 15 < n → foundAs entry second (operandOf modrm 0 0) 0 (at + 1) ≡ afterOpcode entry second code at
       after-registers h =
           ap (foundAs entry second (operandOf modrm 0 0) 0) (sym (add-zero (at + 1)))
           ∙ after-register 0 0 (allowed-past n _ _ _ h)
-          (immediate-on code (at + 1) form escape second entry (foundAs entry second (operandOf modrm 0 0) 0 (at + 1 + 0)) (operandOf modrm 0 0) 0 (immediate-past n h) 0 (omega arith) refl refl)
+          (immediate-on code (at + 1) form escape second entry (foundAs entry second (operandOf modrm 0 0) 0 (at + 1 + 0)) (operandOf modrm 0 0) 0 (immediate-past n (omega arith)) 0 (omega arith) refl refl)
 
       pub after-shift : (v : ℕ) → n ≤ 3 → true ≡ allows form (upper modrm) (middle modrm) (lower modrm) → at + 1 < length code → v ≡ getD code (at + 1) 0
           → foundAs entry second (operandOf modrm 0 0) v (at + 1 + 1) ≡ afterOpcode entry second code at
       after-shift v h t l e =
           after-register v 1 t
-          (immediate-on code (at + 1) form escape second entry (foundAs entry second (operandOf modrm 0 0) v (at + 1 + 1)) (operandOf modrm 0 0) 1 (immediate-shift n h more) v
+          (immediate-on code (at + 1) form escape second entry (foundAs entry second (operandOf modrm 0 0) v (at + 1 + 1)) (operandOf modrm 0 0) 1 (immediate-there n (omega arith) more) v
           (omega arith) (number-1 code (at + 1) 1 v refl (omega (arith, e)) (omega arith)) refl)
 
-    pub after-memory : (integers : List ℕ) (p : Pointer) (from byte : ℕ) → from ≡ at + 1 → byte ≡ modrm → (t : Points p integers code from byte) → 3 < n
+    pub after-memory : (integers : List ℕ) (p : Pointer) (from byte : ℕ) → from ≡ at + 1 → byte ≡ modrm → (t : Points p integers code from byte) → byte < 192 → 15 ≤ n
         → foundAs entry second (operandOf byte (t .sib) (t .displacement)) 0 (p .next) ≡ afterOpcode entry second code at
-    after-memory integers p from byte f e t h =
+    after-memory integers p from byte f e t b h =
         let w = operandOf byte (t .sib) (t .displacement) in
-        after-modrm (foundAs entry second w 0 (p .next)) (allowed-past n _ _ _ h)
-        (immediate-on code (p .next) form escape second entry (foundAs entry second w 0 (p .next)) w 0 (immediate-past n h) 0 (omega arith) refl
+        after-modrm (foundAs entry second w 0 (p .next)) (allowed-in-memory n _ _ _ h (λ z. omega arith))
+        (immediate-on code (p .next) form escape second entry (foundAs entry second w 0 (p .next)) w 0 (immediate-past n (omega arith)) 0 (omega arith) refl
         (ap (foundAs entry second w 0) (sym (add-zero (p .next))))
         ∙ t .read form escape second entry
         ∙ ap₂ (λ (k b : ℕ). found entry (reads (sibReader form escape second b) k (drop k code))) f e)

@@ -15,6 +15,7 @@ use Rattle.machine.specs.inner.Pointers.{Unless}
 use Rattle.machine.specs.inner.Quick.{Opened, Quick, afterOpcode, QuickAfter, QuickAnywhere}
 use Rattle.machine.specs.inner.Works.{toRefuse, Gathered}
 use Rattle.machine.proofs.laws.gathering.Fetching.{is-listed, gathered-sorted}
+use Rattle.machine.proofs.laws.gathering.Testing.{none-stops}
 use Rattle.machine.proofs.laws.pointers.Pointing.{follows}
 use Rattle.machine.proofs.laws.quick.Operands.{unanswered}
 
@@ -86,7 +87,7 @@ module _ (quick code : List ℕ) (at : ℕ) (registers integers m : List ℕ) (b
   pub gathered-quick : length code ≤ longestCode → length m ≤ longestMemory → Gathered work registers integers bar code at m
   gathered-quick code-fits memory-fits =
       let ours = o .ours unbarred in
-      gathered-sorted quick code at x ours refl registers integers m bar code-fits memory-fits work (q .passed) unbarred
+      gathered-sorted quick code at x ours refl registers integers m bar code-fits memory-fits work (q .passed) _ refl (none-stops bar (x .entry / 2 ^ 24) unbarred)
       (q .does (is-listed quick code at x ours refl (q .passed)))
 
 pub ruleset quickening = (needs, gathered-quick)

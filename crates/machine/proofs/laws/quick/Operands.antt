@@ -1,19 +1,21 @@
 -- The works with two operands: an MMX register and memory by the form, and what such a work does. Rules for the functions that make them.
-use Rattle.basis.specs.Names.{_≡_, refl, _⊎_, Bool, true, false, _||_, List, ℕ, _+_, _/_, _%_, _^_, _≤_, eqb, leb, length, getD}
-use Rattle.basis.proofs.Names.{sym, ap, subst, _∙_, inl, inr, false≢true, or-true, arith, needs, eq-eqb, ne-eqb, eqb-true}
+use Rattle.basis.specs.Names.{_≡_, refl, _⊎_, Bool, true, false, _||_, List, ℕ, _+_, _/_, _%_, _^_, _≤_, _<_, eqb, leb, length, getD}
+use Rattle.basis.proofs.Names.{sym, ap, subst, _∙_, inl, inr, false≢true, or-true, arith, needs, eq-eqb, ne-eqb, eqb-true, eqb-false}
 use Rattle.words.specs.Buffer.{loaded}
 use Rattle.codec.specs.Forms.{memorySize}
 use Rattle.codec.specs.Table.{formOf}
 use Rattle.codec.specs.inner.Fields.{Registers}
 use Rattle.codec.specs.declared.Instruction.{Instruction}
+use Rattle.codec.proofs.Bytes.{among}
 use Rattle.machine.specs.declared.gathering.Work.{Work}
+use Rattle.machine.specs.declared.ways.Way.the-variants.{Stores}
 use Rattle.machine.specs.inner.Pointers.{Unless}
 use Rattle.machine.specs.inner.Quick.{Within, workAt, AtAddress}
 use Rattle.machine.specs.inner.Spots.{otherOf, spotOf}
 use Rattle.machine.specs.inner.Ways.{isStore, wayOf}
 use Rattle.machine.specs.inner.Works.{effectIn, numbers, isListed, Listed, toOperate, toStore, toEmpty, toRefuse, workOf, refusedWork, Does}
 use Rattle.machine.proofs.laws.gathering.Sorting.{does-store, does-load, does-compute}
-use Rattle.machine.proofs.laws.ways.Numbering.{among, way-stores, way-loads, way-computes}
+use Rattle.machine.proofs.laws.ways.Numbering.{way-streams, way-stores, way-loads, way-computes}
 use Rattle.machine.proofs.laws.pointers.Pointing.{follows}
 
 -- no answer
@@ -49,6 +51,8 @@ quadwords : (n : ℕ) → isListed n ≡ true → 19 ≤ n → (n ≡ 20 → ⊥
 quadwords n h =
     among (λ k. 19 ≤ k → (k ≡ 20 → ⊥) → memorySize (formOf k) ≡ 8) n numbers h
     (λ g e. absurd (omega arith)) (λ g e. absurd (omega arith)) (λ g e. absurd (omega arith)) (λ g e. absurd (omega arith))
+    (λ g e. absurd (omega arith)) (λ g e. absurd (omega arith)) (λ g e. absurd (omega arith)) (λ g e. absurd (omega arith))
+    (λ g e. absurd (omega arith)) (λ g e. absurd (omega arith)) (λ g e. absurd (omega arith)) (λ g e. absurd (omega arith))
     (λ g e. absurd (omega arith)) (λ g e. absurd (omega arith)) (λ g e. absurd (omega arith))
     (λ g e. refl) (λ g e. absurd (e refl)) (λ g e. refl)
 
@@ -67,7 +71,7 @@ module _ (A : Type 0) (registers m : List ℕ) (entry place address next : ℕ) 
   abbrev Addressed : Type 0
   Addressed = AtAddress work registers m entry place address next
 
-  module _ (size : ℕ) (two : 16 ≤ n) (sized : Listed entry → memorySize (formOf n) ≡ size) where
+  module _ (size : ℕ) (two : 15 ≤ n) (sized : Listed entry → memorySize (formOf n) ≡ size) where
     same : (l : Listed entry) → size ≡ entry / 2 ^ 16 % 256
     same l = sym (l .sized ∙ sized l)
 
@@ -93,10 +97,17 @@ module _ (A : Type 0) (registers m : List ℕ) (entry place address next : ℕ) 
   pub loads-quadword : 19 ≤ n → (n ≡ 20 → ⊥) → Unless A (Loaded 8) → Unless A Addressed
   loads-quadword h e =
       follows
-      (loads-of 8 (omega arith) (λ l. quadwords n (l .listed) h e) (simp (ne-eqb n 16 (λ z. omega arith), ne-eqb n 18 (λ z. omega arith))))
+      (loads-of 8 (omega arith) (λ l. quadwords n (l .listed) h e) (simp (ne-eqb n 15 (λ z. omega arith), ne-eqb n 16 (λ z. omega arith), ne-eqb n 18 (λ z. omega arith))))
 
-  pub stores-quadword : n ≡ 18 → Unless A (Stored 8) → Unless A Addressed
-  stores-quadword e = follows (stores-of 8 (omega arith) (λ l. ap (λ (k : ℕ). memorySize (formOf k)) e) (ap isStore e))
+  pub stores-quadword : 15 ≤ n → n < 19 → (n ≡ 16 → ⊥) → (n ≡ 17 → ⊥) → Unless A (Stored 8) → Unless A Addressed
+  stores-quadword p q a b = by (eqb n 15) refl
+    where
+      of : (k : ℕ) → n ≡ k → memorySize (formOf k) ≡ 8 → isStore k ≡ true → Unless A (Stored 8) → Unless A Addressed
+      of k e sized store = follows (stores-of 8 p (λ l. ap (λ (j : ℕ). memorySize (formOf j)) e ∙ sized) (ap isStore e ∙ store))
+
+      by : (t : Bool) → eqb n 15 ≡ t → Unless A (Stored 8) → Unless A Addressed
+      by true e = of 15 (eqb-true n 15 e) refl refl
+      by false e = of 18 (omega (arith, eqb-false n 15 e, a, b)) refl refl
 
   pub stores-doubleword : n ≡ 16 → Unless A (Stored 4) → Unless A Addressed
   stores-doubleword e = follows (stores-of 4 (omega arith) (λ l. ap (λ (k : ℕ). memorySize (formOf k)) e) (ap isStore e))
@@ -106,20 +117,27 @@ module _ (A : Type 0) (registers m : List ℕ) (entry place address next : ℕ) 
 
 -- the work of two operands does what the instruction does
 module _ (registers integers m : List ℕ) (entry : ℕ) (i : Instruction) (next : ℕ) (r : Registers (i .operand)) (l : Listed entry)
-    (two : 16 ≤ entry / 2 ^ 24) (work : Work)
+    (two : 15 ≤ entry / 2 ^ 24) (work : Work)
     (made : work ≡ workAt registers integers m entry (i .operand .reg) (spotOf integers (length m) (otherOf (entry / 2 ^ 24) (i .operand))) next) where
   abbrev k : ℕ
   k = entry / 2 ^ 24
 
   pub does-two : Does work registers integers m (effectIn entry i) next
-  does-two = by (isStore k) (eqb k 17 || eqb k 19) refl refl
+  does-two = by (eqb k 15) (eqb k 16 || eqb k 18) (eqb k 17 || eqb k 19) refl refl refl
     where
-      by : (s t : Bool) → isStore k ≡ s → (eqb k 17 || eqb k 19) ≡ t → Does work registers integers m (effectIn entry i) next
-      by true t e f =
-          does-store registers integers m entry i next r l (wayOf k) refl work _ (sym (way-stores k (either k 16 18 e))) refl (simp e at made)
-      by false true e f = does-load registers integers m entry i next r l (wayOf k) refl work (sym (way-loads k (either k 17 19 f))) (simp e at made)
-      by false false e f =
-          does-compute registers integers m entry i next r l (wayOf k) refl work (sym (way-computes k two (neither k 16 18 e) (neither k 17 19 f))) (simp e at made)
+      store : Stores ≡ wayOf k → isStore k ≡ true → Does work registers integers m (effectIn entry i) next
+      store y e = does-store registers integers m entry i next r l (wayOf k) refl work _ (sym y) refl (simp e at made)
+
+      by : (d s t : Bool) → eqb k 15 ≡ d → (eqb k 16 || eqb k 18) ≡ s → (eqb k 17 || eqb k 19) ≡ t → Does work registers integers m (effectIn entry i) next
+      by true s t g e f = store (way-streams k (eqb-true k 15 g)) (simp g)
+      by false true t g e f = store (way-stores k (either k 16 18 e)) (simp (g, e))
+      by false false true g e f =
+          let none : isStore k ≡ false = simp (g, e) in
+          does-load registers integers m entry i next r l (wayOf k) refl work (sym (way-loads k (either k 17 19 f))) (simp none at made)
+      by false false false g e f =
+          let none : isStore k ≡ false = simp (g, e) in
+          does-compute registers integers m entry i next r l (wayOf k) refl work
+          (sym (way-computes k two (eqb-false k 15 g) (neither k 16 18 e) (neither k 17 19 f))) (simp none at made)
 
 pub ruleset making = (needs, unanswered, answered-within, loads-value, answered-alone)
 

@@ -3,12 +3,13 @@
 use Rattle.basis.specs.Names.{_≡_, refl, Bool, true, false, List, ℕ, _+_, _/_, _%_, _^_, _≤_, _<_, length, getD}
 use Rattle.basis.proofs.Names.{sym, ap, subst, _∙_, arith, needs, ne-eqb}
 use Rattle.lanes.specs.Operations.{operationOf, described, MOVE}
-use Rattle.codec.specs.Forms.{allows}
+use Rattle.codec.specs.Forms.{isAmong, allows}
 use Rattle.codec.specs.Operands.{upper, middle, lower, operandOf, noOperand}
 use Rattle.codec.specs.Table.{formOf}
 use Rattle.codec.specs.inner.Entries.{shiftOf}
 use Rattle.codec.specs.declared.Found.{Found}
 use Rattle.codec.specs.declared.Operand.{Operand}
+use Rattle.codec.proofs.FormNumbers.{allowed-digit}
 use Rattle.codec.proofs.Given.{no-registers, registers-of}
 use Rattle.machine.specs.declared.gathering.Work.{Work}
 use Rattle.machine.specs.declared.operands.Spot.{Spot}
@@ -17,7 +18,7 @@ use Rattle.machine.specs.declared.pointers.Pointer.{Pointer}
 use Rattle.machine.specs.inner.Pointers.{Unless, Points}
 use Rattle.machine.specs.inner.Quick.{Quick, afterOpcode, QuickAfter, QuickAnywhere, QuickAnyhow, workAt, AtAddress}
 use Rattle.machine.specs.inner.Spots.{otherOf, spotOf}
-use Rattle.machine.specs.inner.Ways.{isStore, wayOf}
+use Rattle.machine.specs.inner.Ways.{isInteger, isStore, wayOf}
 use Rattle.machine.specs.inner.Works.{Listed, toOperate, toInteger, toEmpty, workOf, putWork, takeWork}
 use Rattle.machine.proofs.laws.gathering.Sorting.{does-empties, does-shift}
 use Rattle.machine.proofs.laws.operands.Locating.{spot-mmx, spot-integer, spot-inside}
@@ -70,7 +71,7 @@ module _ (entry modrm : ℕ) (code : List ℕ) (at : ℕ) (here : at < length co
                 record {
                   passed = refl;
                   present = λ z. omega arith;
-                  does = λ l. does-two registers integers m entry _ (at + 1) (registers-of modrm 0 0) l two work (made m l);
+                  does = λ l. does-two registers integers m entry _ (at + 1) (registers-of modrm 0 0) l (omega arith) work (made m l);
                 });
           }
         where
@@ -88,17 +89,19 @@ module _ (entry modrm : ℕ) (code : List ℕ) (at : ℕ) (here : at < length co
       put-there m x e f made = simp f (made ∙ ap (λ (y : Spot). putWork y (getD registers (middle modrm) 0) (at + 1)) e)
 
       mmx-there : (m : List ℕ) → Listed entry → 17 < form → Mmx (lower modrm) ≡ Here (length m)
-      mmx-there m l h = spot-mmx integers (length m) entry w l (two-from form (omega arith)) mode-is h
+      mmx-there m l h =
+          spot-mmx integers (length m) entry w l (two-from form (omega arith)) mode-is (isInteger form) refl
+          (simp (ne-eqb form 4 (λ z. omega arith), ne-eqb form 16 (λ z. omega arith), ne-eqb form 17 (λ z. omega arith)))
 
-      integer-there : (m : List ℕ) → Listed entry → 16 ≤ form → form ≤ 17 → Integer (lower modrm) ≡ Here (length m)
-      integer-there m l two h = spot-integer integers (length m) entry w l (two-from form two) mode-is h
+      integer-there : (m : List ℕ) → Listed entry → 15 ≤ form → isInteger form ≡ true → Integer (lower modrm) ≡ Here (length m)
+      integer-there m l two h = spot-integer integers (length m) entry w l (two-from form two) mode-is (isInteger form) refl h
 
       pub takes-mmx : (v : ℕ) → 0x13000000 ≤ entry → v ≡ getD registers (lower modrm) 0 → work ≡ workOf toOperate (entry % 256) (middle modrm) v (at + 1)
           → Unless A (QuickAnywhere work registers integers entry code at)
       takes-mmx v h e made =
           of-registers (omega arith)
           (λ m l.
-          take-there m (Mmx (lower modrm)) (mmx-there m l (omega arith)) (simp (ne-eqb form 16 (λ z. omega arith), ne-eqb form 18 (λ z. omega arith)))
+          take-there m (Mmx (lower modrm)) (mmx-there m l (omega arith)) (simp (ne-eqb form 15 (λ z. omega arith), ne-eqb form 16 (λ z. omega arith), ne-eqb form 18 (λ z. omega arith)))
           (made ∙ ap (λ (n : ℕ). workOf toOperate (entry % 256) (middle modrm) n (at + 1)) e))
 
       pub takes-integer : (v : ℕ) → form ≡ 17 → v ≡ getD integers (lower modrm) 0 → work ≡ workOf toOperate (entry % 256) (middle modrm) v (at + 1)
@@ -106,7 +109,7 @@ module _ (entry modrm : ℕ) (code : List ℕ) (at : ℕ) (here : at < length co
       takes-integer v h e made =
           of-registers (omega arith)
           (λ m l.
-          take-there m (Integer (lower modrm)) (integer-there m l (omega arith) (omega arith)) (ap isStore h)
+          take-there m (Integer (lower modrm)) (integer-there m l (omega arith) (ap isInteger h)) (ap isStore h)
           (made ∙ ap (λ (n : ℕ). workOf toOperate (entry % 256) (middle modrm) n (at + 1)) e))
 
       pub puts-mmx : (v : ℕ) → form ≡ 18 → v ≡ getD registers (middle modrm) 0 → work ≡ workOf toOperate (described MOVE .number) (lower modrm) v (at + 1)
@@ -122,14 +125,13 @@ module _ (entry modrm : ℕ) (code : List ℕ) (at : ℕ) (here : at < length co
       puts-integer v h e made =
           of-registers (omega arith)
           (λ m l.
-          put-there m (Integer (lower modrm)) (integer-there m l (omega arith) (omega arith)) (ap isStore h)
+          put-there m (Integer (lower modrm)) (integer-there m l (omega arith) (ap isInteger h)) (ap isStore h)
           (made ∙ ap (λ (n : ℕ). workOf toInteger 0 (lower modrm) n (at + 1)) e))
 
     -- a shift by an immediate
-    pub shifts-immediate : (number v : ℕ) (t : Bool) → 2 ≤ form → form ≤ 3 → t ≡ allows (formOf form) 3 (middle modrm) 0 → t ≡ true → at + 1 < length code
+    pub shifts-immediate : (number v : ℕ) (t : Bool) → 2 ≤ form → form ≤ 3 → t ≡ isAmong (middle modrm) (formOf form .digits) → t ≡ true → at + 1 < length code
         → v ≡ getD code (at + 1) 0 → operationOf number ≡ shiftOf (entry / 2 ^ 8 % 256) (middle modrm) → work ≡ workOf toOperate number (lower modrm) v (at + 2)
         → Unless A (QuickAnyhow work entry code at)
-    unfolding allows
     shifts-immediate number v t low high test allowed more e o made =
         record {
           holds = λ h.
@@ -140,12 +142,12 @@ module _ (entry modrm : ℕ) (code : List ℕ) (at : ℕ) (here : at < length co
                 present = λ z. omega arith;
                 does = λ l.
                     does-shift registers integers m entry _ (at + 2) (registers-of modrm 0 0) l (wayOf form) refl work number
-                    (sym (way-shifts form (omega arith) (λ z. omega arith))) o made;
+                    (sym (way-shifts form (omega arith) (omega arith) (omega arith))) o made;
               });
         }
       where
         allows-it : true ≡ allows (formOf form) (upper (getD code at 0)) (middle (getD code at 0)) (lower (getD code at 0))
-        allows-it = rw (← named, mode-is) (sym allowed ∙ test)
+        allows-it = rw (← named) (sym allowed ∙ allowed-digit form (upper modrm) (middle modrm) (lower modrm) low high t mode-is test)
 
         found-here : (second : ℕ) → foundAs entry second w v (at + 2) ≡ afterOpcode entry second code at
         found-here second =
@@ -165,7 +167,7 @@ module _ (entry modrm : ℕ) (code : List ℕ) (at : ℕ) (here : at < length co
         present = λ z. omega arith;
         does = λ l.
             does-empties registers integers m entry _ at no-registers l
-            (wayOf form) refl work (sym (way-empties form e)) made;
+            (wayOf form) refl work (sym (way-empties form (omega arith) (omega arith))) made;
       }))
 
   -- a register and memory
@@ -179,7 +181,7 @@ module _ (entry modrm : ℕ) (code : List ℕ) (at : ℕ) (here : at < length co
         quick = λ second.
             let w = operandOf modrm (t .sib) (t .displacement) in
             does-found entry code at work registers integers m second (foundAs entry second w 0 (p .next))
-            (after-memory entry second code at (omega (arith, a .two)) here integers p (at + 1) modrm refl named t (omega (arith, a .two)))
+            (after-memory entry second code at (omega (arith, a .two)) here integers p (at + 1) modrm refl named t memory (omega (arith, a .two)))
             (record {
               passed = refl;
               present = λ z. omega (arith, a .two);

@@ -70,7 +70,7 @@ module _ (code : List ℕ) (at rest budget : ℕ) (R : Answer State) where
       (here : at < length code) (within : rest ≤ budget) (unspent : rest ≡ 0 → ⊥) (code-fits : length code ≤ longestCode)
       (m₀ : List ℕ) (kept : length m ≡ length m₀) (memory-fits : length m₀ ≤ longestMemory)
       (moved : Moved) (registers′ integers′ m′ : List ℕ) (bar : ℕ) (barred : bar ≡ barredBy marks)
-      (advanced : Advanced moved registers integers bar code at m registers′ integers′ m′) where
+      (valid : Bool) (tag : valid ≡ marks .valid) (advanced : Advanced moved registers integers bar valid code at m registers′ integers′ m′) where
     abbrev s : State
     s = stateOf (machineOf registers integers marks) m
 
@@ -92,7 +92,7 @@ module _ (code : List ℕ) (at rest budget : ℕ) (R : Answer State) where
         one = omega (arith, unspent)
 
     completes : moved .refusal ≡ 0 → completed (moved .next) t ≡ stepAt code at s
-    completes e = simp (eq-eqb (moved .refusal) 0 e) at (advanced .ends marks barred)
+    completes e = simp (eq-eqb (moved .refusal) 0 e) at (advanced .ends marks barred tag)
 
     pub run-within : moved .refusal ≡ 0 → moved .next ≤ length code
     run-within e =
@@ -110,7 +110,7 @@ module _ (code : List ℕ) (at rest budget : ℕ) (R : Answer State) where
         → paperOfRun (record { end = Refused (moved .refusal); at = moved .next; count = count; machine = machineOf registers′ integers′ marks }) m′ ≡ R
     run-refused e =
         let refuses : refusedWith (moved .refusal) (moved .next) (stateOf (machineOf registers′ integers′ marks) m′) ≡ stepAt code at s =
-        simp (ne-eqb (moved .refusal) 0 e) at (advanced .ends marks barred) in
+        simp (ne-eqb (moved .refusal) 0 e) at (advanced .ends marks barred tag) in
         ap (onward after count) refuses ∙ turned
 
 -- the tag mark bars nothing

@@ -4,9 +4,9 @@ use Rattle.basis.proofs.Names.{arith, needs, eq-eqb, ne-eqb}
 use Rattle.lanes.specs.Operations.{operationOf, operate}
 use Rattle.words.specs.Buffer.{stored}
 use Rattle.machine.specs.declared.gathering.Work.{Work}
-use Rattle.machine.specs.inner.Works.{toOperate, toStore, toInteger, toEmpty, performed, Gathered, Advanced}
+use Rattle.machine.specs.inner.Works.{toOperate, toStore, toInteger, toEmpty, toPass, performed, Gathered, Advanced}
 
-module _ (registers integers : List ℕ) (bar : ℕ) (code : List ℕ) (at : ℕ) (m : List ℕ) (work : Work) (g : Gathered work registers integers bar code at m) where
+module _ (registers integers : List ℕ) (bar : ℕ) (valid : Bool) (code : List ℕ) (at : ℕ) (m : List ℕ) (work : Work) (g : Gathered work registers integers bar code at m) where
   -- the registers that it names are there
   pub register-there : work .what ≡ toOperate → work .place < 8
   register-there e = g .sound .operates e
@@ -19,17 +19,17 @@ module _ (registers integers : List ℕ) (bar : ℕ) (code : List ℕ) (at : ℕ
 
   -- the step has ended so, and left these registers and this memory
   abbrev Ends : ℕ → ℕ → Bool → List ℕ → List ℕ → List ℕ → Type 0
-  Ends refusal next valid = Advanced (record { refusal = refusal; next = next; valid = valid }) registers integers bar code at m
+  Ends refusal next tag = Advanced (record { refusal = refusal; next = next; valid = tag }) registers integers bar valid code at m
 
   pub ended-operate : (v : ℕ) → work .what ≡ toOperate → v ≡ operate (operationOf (work .number)) (getD registers (work .place) 0) (work .value)
       → Ends 0 (work .next) true (set registers (work .place) v) integers m
   unfolding performed
-  ended-operate v e h = record { ends = λ marks b. simp (eq-eqb (work .what) toOperate e, ← h) at (g .steps marks b) }
+  ended-operate v e h = record { ends = λ marks b t. simp (eq-eqb (work .what) toOperate e, ← h) at (g .steps marks b) }
 
   pub ended-store : (m′ : List ℕ) → work .what ≡ toStore → m′ ≡ stored m (work .place) (work .number) (work .value)
       → Ends 0 (work .next) true registers integers m′
   unfolding performed
-  ended-store m′ e h = record { ends = λ marks b. simp (e, ← h) at (g .steps marks b) }
+  ended-store m′ e h = record { ends = λ marks b t. simp (e, ← h) at (g .steps marks b) }
 
   pub ended-quadword : (m′ : List ℕ) → work .what ≡ toStore → work .number ≡ 8 → m′ ≡ stored m (work .place) 8 (work .value)
       → Ends 0 (work .next) true registers integers m′
@@ -38,20 +38,25 @@ module _ (registers integers : List ℕ) (bar : ℕ) (code : List ℕ) (at : ℕ
   pub ended-integer : (integers′ : List ℕ) → work .what ≡ toInteger → integers′ ≡ set integers (work .place) (work .value % 2 ^ 32)
       → Ends 0 (work .next) true registers integers′ m
   unfolding performed
-  ended-integer integers′ e h = record { ends = λ marks b. simp (e, ← h) at (g .steps marks b) }
+  ended-integer integers′ e h = record { ends = λ marks b t. simp (e, ← h) at (g .steps marks b) }
 
   pub ended-empty : work .what ≡ toEmpty → Ends 0 (work .next) false registers integers m
   unfolding performed
-  ended-empty e = record { ends = λ marks b. simp e at (g .steps marks b) }
+  ended-empty e = record { ends = λ marks b t. simp e at (g .steps marks b) }
+
+  -- the tag mark is as it was
+  pub ended-passed : work .what ≡ toPass → Ends 0 (work .next) valid registers integers m
+  unfolding performed
+  ended-passed e = record { ends = λ marks b t. rw t (simp e at (g .steps marks b)) }
 
   pub ended-refused : (work .what ≡ toOperate → ⊥) → (work .what ≡ toStore → ⊥) → (work .what ≡ toInteger → ⊥) → (work .what ≡ toEmpty → ⊥)
-      → Ends (work .number) at true registers integers m
+      → (work .what ≡ toPass → ⊥) → Ends (work .number) at true registers integers m
   unfolding performed
-  ended-refused o s i e =
+  ended-refused o s i e p =
       record {
-        ends = λ marks b.
-            simp (ne-eqb (work .number) 0 (g .sound .refuses o s i e))
-            (simp (ne-eqb (work .what) toOperate o, ne-eqb (work .what) toStore s, ne-eqb (work .what) toInteger i, ne-eqb (work .what) toEmpty e) at (g .steps marks b));
+        ends = λ marks b t.
+            simp (ne-eqb (work .number) 0 (g .sound .refuses o s i e p))
+            (simp (ne-eqb (work .what) toOperate o, ne-eqb (work .what) toStore s, ne-eqb (work .what) toInteger i, ne-eqb (work .what) toEmpty e, ne-eqb (work .what) toPass p) at (g .steps marks b));
       }
 
 pub ruleset operating = (needs, register-there, register-offset, ended-operate)
@@ -60,4 +65,4 @@ pub ruleset storing = (needs, ended-quadword, ended-store)
 
 pub ruleset putting = (needs, integer-there, ended-integer)
 
-pub ruleset ending = (needs, ended-empty, ended-refused)
+pub ruleset ending = (needs, ended-empty, ended-passed, ended-refused)

@@ -7,5 +7,5 @@ pub located-spec : {M : Type 1} → statement M
 located-spec =
     tie.close
     (tie.spec
-    (λ c κs. search locating) (λ c. search locating) (λ c. search locating) (λ c. search locating) (λ c κs. search locating) (λ c. search locating) (λ c. search locating)
-    (λ c. search locating) (λ c. search locating))
+    (λ c κs. search locating) (λ c. search locating) (λ c. search locating) (λ c. search locating) (λ c κs. search locating) (λ c. search locating)
+    (λ c. search locating) (λ c κs. search locating) (λ c. search locating) (λ c. search locating))

@@ -7,4 +7,5 @@ pub way-of-spec : {M : Type 1} → statement M
 way-of-spec =
     tie.close
     (tie.spec
-    (λ c. search way-rules) (λ c. search way-rules) (λ c. search way-rules) (λ c. search way-rules) (λ c. search way-rules))
+    (λ c κs. search way-rules) (λ c. search way-rules) (λ c. search way-rules) (λ c. search way-rules) (λ c. search way-rules)
+    (λ c. search way-rules))

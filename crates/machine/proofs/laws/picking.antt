@@ -1,0 +1,2 @@
+-- The rules for the works that pick lanes.
+pub mod Making
