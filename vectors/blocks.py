@@ -2,7 +2,7 @@
 import pagefile
 from edges import EDGES
 from emulator import CODE, Emulator, instruction_at
-from opcodes import EMMS, MOVD_STORE, SECOND_BYTES, SHIFTS, WITH_OPERAND, shift
+from opcodes import EMMS, MODRMS, MOVD_STORE, PEXTRW, PMOVMSKB, PREFETCH, SECOND_BYTES, SECOND_BYTES_004, SHIFTS, WITH_IMMEDIATE, shift
 from pagefile import Page
 from rules import LONGEST_CODE, operand_refusal
 
@@ -10,6 +10,7 @@ WILD = [1, 8, 0x7FFFFFFF, 0x80000000, 0x40000000, 0xFFFF8000, 0xFFFFFFF8, 0xFFFF
 SIZES = [8, 9, 15, 16, 17, 31, 64, 100, 256, 300]
 COUNTS = [1, 2, 3, 5, 8, 12, 20, 60]
 RANDOM_BLOCKS, LONG_BLOCKS = 24, 3
+ESI = 6
 
 
 def operand(dice, modrm, integers, target, sib=None):
@@ -45,18 +46,22 @@ def some_state(dice, length):
     return Page(b'', some_memory(dice, length), tuple(quadword(dice) for _ in range(8)), integers, dice.choice((0, pagefile.VALID)))
 
 
-def some_instruction(dice, integers, length):
-    """Any instruction; a memory operand mostly lies in the memory."""
-    second = dice.choice(SECOND_BYTES)
+def some_instruction(dice, integers, length, seconds):
+    """Any instruction of these second bytes; a memory operand mostly lies in the memory, a prefetch's anywhere."""
+    second = dice.choice(seconds)
     if second == EMMS:
         return bytes([0x0F, EMMS])
-    if second not in WITH_OPERAND:
+    if second in (0x71, 0x72, 0x73):
         name = dice.choice([name for name in SHIFTS if SHIFTS[name][0] == second])
         return shift(name, dice.roll(8), dice.roll(70) if dice.roll(4) else dice.roll(256))
-    modrm = dice.roll(256)
+    modrm = dice.choice(MODRMS[second])
     if second == MOVD_STORE and dice.roll(4):
         modrm &= 0x3F  # an integer register that points nowhere is of little use
-    return bytes([0x0F, second, modrm]) + operand(dice, modrm, integers, dice.roll(max(1, length - 7)))
+    if second in (PEXTRW, PMOVMSKB) and dice.roll(4):
+        modrm = 0xC0 | ESI << 3 | modrm & 7
+    target = dice.roll(2 ** 32 if second == PREFETCH else max(1, length - 7))
+    immediate = dice.some_bytes(second in WITH_IMMEDIATE)
+    return bytes([0x0F, second, modrm]) + operand(dice, modrm, integers, target) + immediate
 
 
 class Block:
@@ -77,28 +82,32 @@ class Block:
         self.count += 1
         return True
 
-    def add_any(self, dice, room=LONGEST_CODE):
-        """Adds some instruction of no more bytes than there is room for."""
+    def add_any(self, dice, room=LONGEST_CODE, seconds=SECOND_BYTES_004):
+        """Adds some instruction of these second bytes, of no more bytes than there is room for."""
         while True:
-            code = some_instruction(dice, self.emulator.integers(), self.emulator.length)
+            code = some_instruction(dice, self.emulator.integers(), self.emulator.length, seconds)
             if len(code) <= room and room - len(code) != 1 and self.add(code):
                 return
 
 
-def some_block(dice, length, count):
+def some_block(dice, length, count, seconds=SECOND_BYTES_004):
     block = Block(some_state(dice, length))
     while block.count < count:
-        block.add_any(dice)
+        block.add_any(dice, seconds=seconds)
     return block
 
 
-def files(dice):
+def blocks(dice, seconds):
     for number in range(RANDOM_BLOCKS):
-        block = some_block(dice, dice.choice(SIZES) if dice.roll(6) else dice.roll(8), COUNTS[number % len(COUNTS)])
-        yield f'blocks/{number:02}', pagefile.write(block.page)
-    for number in range(RANDOM_BLOCKS, RANDOM_BLOCKS + LONG_BLOCKS):
+        yield some_block(dice, dice.choice(SIZES) if dice.roll(6) else dice.roll(8), COUNTS[number % len(COUNTS)], seconds)
+    for number in range(LONG_BLOCKS):
         block = Block(some_state(dice, 128))
-        total = LONGEST_CODE - number + RANDOM_BLOCKS
-        while len(block.page.code) < total:
-            block.add_any(dice, total - len(block.page.code))
+        while len(block.page.code) < LONGEST_CODE - number:
+            block.add_any(dice, LONGEST_CODE - number - len(block.page.code), seconds)
+        yield block
+
+
+def files(dice, later_dice):
+    """Blocks of 004's instructions alone, and then of all."""
+    for number, block in enumerate((*blocks(dice, SECOND_BYTES_004), *blocks(later_dice, SECOND_BYTES))):
         yield f'blocks/{number:02}', pagefile.write(block.page)

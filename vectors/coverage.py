@@ -1,17 +1,22 @@
 """What the pages try, counted as they are played; and whether they would tell lanes that are turned round."""
-from collections import Counter
+from collections import Counter, defaultdict
 
 import edges
 import illustrations
 from emulator import Emulator, instruction_at
-from opcodes import PACKED, SECOND_BYTE, registers
+from opcodes import MODRMS, PACKED, SECOND_BYTE, SECOND_BYTES, WITH_IMMEDIATE, registers
 from pagefile import Page
+
+# How many pairs of second byte and ModRM byte there are, EMMS counted as one: of 004's, and of 000's.
+PAIRS = 12353 + 3041
+assert PAIRS == 1 + sum(map(len, MODRMS.values()))
 
 
 class Coverage:
     def __init__(self):
         self.folders, self.answers, self.seconds = Counter(), Counter(), Counter()
         self.modrms, self.sibs, self.steps = set(), set(), 0
+        self.immediates = defaultdict(set)
         self.told_apart = 0
 
     def step(self, instruction):
@@ -20,6 +25,8 @@ class Coverage:
         self.modrms.add(bytes(instruction.bytes[1:3]))
         if len(instruction.bytes) > 3 and instruction.bytes[2] < 0xC0 and instruction.bytes[2] & 7 == 4:
             self.sibs.add((instruction.bytes[2] >> 6, instruction.bytes[3]))
+        if instruction.bytes[1] in WITH_IMMEDIATE:
+            self.immediates[instruction.bytes[1]].add(instruction.bytes[-1])
 
     def page(self, name, text):
         lines = text.split('\n')
@@ -31,8 +38,10 @@ class Coverage:
     def report(self):
         yield f'{sum(self.folders.values())} pages: ' + ', '.join(f'{count} {folder}' for folder, count in self.folders.items())
         yield 'answers, ' + ', '.join(f'{answer}: {count}' for answer, count in sorted(self.answers.items(), key=in_order))
-        yield (f'{self.steps} completed instructions: {len(self.seconds)} of 52 second bytes, each at least {min(self.seconds.values())} times; '
-               f'{len(self.modrms)} of 12353 pairs of second byte and ModRM byte; {len(self.sibs)} of 768 pairs of mod and SIB byte')
+        yield (f'{self.steps} completed instructions: {len(self.seconds)} of {len(SECOND_BYTES)} second bytes, '
+               f'each at least {min(self.seconds.values())} times; {len(self.modrms)} of {PAIRS} pairs of second byte and ModRM byte; '
+               f'{len(self.sibs)} of 768 pairs of mod and SIB byte')
+        yield ', '.join(f'{len(immediates)} immediates of {second:02X}' for second, immediates in sorted(self.immediates.items()))
         yield f'{self.told_apart} pages leave sixteen registers that all differ'
 
 

@@ -1,15 +1,18 @@
 """One instruction at a time on the emulator Unicorn, with names, lengths and operands by the disassembler capstone."""
-from capstone import CS_ARCH_X86, CS_MODE_32, CS_OP_MEM, Cs
+from capstone import CS_ARCH_X86, CS_MODE_32, CS_OP_IMM, CS_OP_MEM, Cs
 from unicorn import UC_ARCH_X86, UC_MODE_32, Uc
 from unicorn import x86_const as registers
 
 from pagefile import VALID
 
-# 004's 47 headings. Which bytes they have is capstone's knowledge.
+# 004's 47 headings and the 19 instructions of 000's headings, four of which are prefetches. Which bytes they have is capstone's knowledge.
 HEADINGS = set('''
     EMMS MOVD MOVQ PACKSSDW PACKSSWB PACKUSWB PADDB PADDD PADDSB PADDSW PADDUSB PADDUSW PADDW PAND PANDN PCMPEQB PCMPEQD PCMPEQW
     PCMPGTB PCMPGTD PCMPGTW PMADDWD PMULHW PMULLW POR PSLLD PSLLQ PSLLW PSRAD PSRAW PSRLD PSRLQ PSRLW PSUBB PSUBD PSUBSB PSUBSW
-    PSUBUSB PSUBUSW PSUBW PUNPCKHBW PUNPCKHDQ PUNPCKHWD PUNPCKLBW PUNPCKLDQ PUNPCKLWD PXOR'''.lower().split())
+    PSUBUSB PSUBUSW PSUBW PUNPCKHBW PUNPCKHDQ PUNPCKHWD PUNPCKLBW PUNPCKLDQ PUNPCKLWD PXOR
+    MASKMOVQ MOVNTQ PAVGB PAVGW PEXTRW PINSRW PMAXSW PMAXUB PMINSW PMINUB PMOVMSKB PMULHUW PREFETCHNTA PREFETCHT0 PREFETCHT1 PREFETCHT2
+    PSADBW PSHUFW SFENCE'''.lower().split())
+assert len(HEADINGS) == 47 + 19
 
 INTEGERS = 'eax ecx edx ebx esp ebp esi edi'.split()
 INTEGER_NUMBERS = [getattr(registers, 'UC_X86_REG_' + name.upper()) for name in INTEGERS]
@@ -26,7 +29,7 @@ disassembler.detail = True
 
 
 def instruction_at(code):
-    """The instruction that these bytes start with, or None where they start with none of the 47."""
+    """The instruction that these bytes start with, or None where they start with none of the manuals'."""
     if code[:1] != b'\x0F':
         return None
     found = next(disassembler.disasm(bytes(code[:LONGEST_INSTRUCTION]), 0, 1), None)
@@ -35,6 +38,10 @@ def instruction_at(code):
 
 def memory_operand(instruction):
     return next((operand.mem for operand in instruction.operands if operand.type == CS_OP_MEM), None)
+
+
+def immediate_size(instruction):
+    return sum(operand.type == CS_OP_IMM for operand in instruction.operands)
 
 
 class Emulator:
@@ -78,7 +85,7 @@ class Emulator:
 
     def address(self, instruction):
         """The address of an instruction's memory operand, by a LEA EAX with the same operand bytes."""
-        lea = bytes([0x8D, instruction.bytes[2] & 0xC7]) + instruction.bytes[3:]
+        lea = bytes([0x8D, instruction.bytes[2] & 0xC7]) + instruction.bytes[3:instruction.size - immediate_size(instruction)]
         before = self.integers()
         self.uc.mem_write(LEA, lea)
         self.uc.ctl_remove_cache(LEA, LEA + LONGEST_INSTRUCTION)

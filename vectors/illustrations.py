@@ -1,6 +1,7 @@
-"""The illustrations of document 004. Its figures are lost; these are the numbers that its lists and its one table have, in their places.
+"""The illustrations of document 004, and the one of 000. Their figures are lost; these are the numbers that their lists and 004's one table have,
+in their places.
 
-The lists go from bits 63 down to bit 0: those of the packs name the bits, PCMPEQB's table has 63 at the left, and PUNPCKHWD's words call the
+004's lists go from bits 63 down to bit 0: those of the packs name the bits, PCMPEQB's table has 63 at the left, and PUNPCKHWD's words call the
 first two products of PMULHW's list the high half. Where only single lanes are printed, with no place, they stand lowest with zeros above."""
 import pagefile
 import rules
@@ -62,10 +63,13 @@ PUNPCKLBW  81_92_A3_B4_C5_D6_E7_F8  00_00_00_00_00_00_00_00  00C5_00D6_00E7_00F8
 PUNPCKLDQ  8192A3B4_C5D6E7F8        00000000_00000000        00000000C5D6E7F8
 '''
 
+# 000's, from bits 63 down too. Which operand is the destination is not said; the mean is the same either way.
+MEAN = 'PAVGB      FF_FF_01_0F_00_70_07_9A  FF_00_FF_10_01_44_F7_A8  FF_80_80_10_01_5A_7F_A1'
+
 
 def rows():
-    """Name, destination, source and result, in the manual's order, which is that of the names."""
-    for line in sorted((WHOLE + SINGLE + WORDS).split('\n')):
+    """Name, destination, source and result, each manual's in its order, which is that of the names."""
+    for line in (*sorted((WHOLE + SINGLE + WORDS).split('\n')), MEAN):
         if line:
             name, *numbers = line.split()
             yield name, *(int(number, 16) for number in numbers)

@@ -1,8 +1,8 @@
 """The opcode bytes, to write instructions with. A slip here cannot make a wrong text: what is read is capstone's to say."""
-from emulator import instruction_at
+from emulator import immediate_size, instruction_at
 
-# Second byte, name, and the bytes of a lane of the operands.
-PACKED = [
+# Second byte, name, and the bytes of a lane of the operands: 004's packed operations, and then 000's.
+PACKED_004 = [
     (0x60, 'PUNPCKLBW', 1), (0x61, 'PUNPCKLWD', 2), (0x62, 'PUNPCKLDQ', 4),
     (0x63, 'PACKSSWB', 2), (0x67, 'PACKUSWB', 2), (0x6B, 'PACKSSDW', 4),
     (0x64, 'PCMPGTB', 1), (0x65, 'PCMPGTW', 2), (0x66, 'PCMPGTD', 4),
@@ -16,6 +16,11 @@ PACKED = [
     (0xDB, 'PAND', 1), (0xDF, 'PANDN', 1), (0xEB, 'POR', 1), (0xEF, 'PXOR', 1),
     (0xF8, 'PSUBB', 1), (0xF9, 'PSUBW', 2), (0xFA, 'PSUBD', 4), (0xFC, 'PADDB', 1), (0xFD, 'PADDW', 2), (0xFE, 'PADDD', 4),
 ]
+PACKED_000 = [
+    (0xE0, 'PAVGB', 1), (0xE3, 'PAVGW', 2), (0xEE, 'PMAXSW', 2), (0xDE, 'PMAXUB', 1), (0xEA, 'PMINSW', 2), (0xDA, 'PMINUB', 1),
+    (0xE4, 'PMULHUW', 2), (0xF6, 'PSADBW', 1),
+]
+PACKED = PACKED_004 + PACKED_000
 SECOND_BYTE = {name: second for second, name, _ in PACKED}
 MOVES = (MOVD_LOAD, MOVD_STORE, MOVQ_LOAD, MOVQ_STORE) = (0x6E, 0x7E, 0x6F, 0x7F)
 EMMS = 0x77
@@ -27,9 +32,29 @@ SHIFTS = {
     'PSRLQ': (0x73, 2), 'PSLLQ': (0x73, 6),
 }
 
-WITH_OPERAND = [second for second, _, _ in PACKED] + list(MOVES)
-SECOND_BYTES = WITH_OPERAND + [0x71, 0x72, 0x73, EMMS]
-assert len(set(SECOND_BYTES)) == 52
+# The others of 000. PREFETCH's digits are those of its four instructions.
+OTHERS = (MASKMOVQ, MOVNTQ, PEXTRW, PINSRW, PMOVMSKB, PREFETCH, PSHUFW, SFENCE) = (0xF7, 0xE7, 0xC5, 0xC4, 0xD7, 0x18, 0x70, 0xAE)
+PREFETCHES = ('PREFETCHNTA', 'PREFETCHT0', 'PREFETCHT1', 'PREFETCHT2')
+OF_SFENCE = bytes([0x0F, SFENCE, 0xF8])
+
+WITH_OPERAND = [second for second, _, _ in PACKED_004] + list(MOVES)
+SECOND_BYTES_004 = WITH_OPERAND + [0x71, 0x72, 0x73, EMMS]
+SECOND_BYTES_000 = [second for second, _, _ in PACKED_000] + list(OTHERS)
+SECOND_BYTES = SECOND_BYTES_004 + SECOND_BYTES_000
+assert len(SECOND_BYTES_004) == 52 and len(set(SECOND_BYTES)) == 68
+
+
+def first_forms(second):
+    """A second byte with each ModRM byte that it has, as capstone knows them; any bytes follow."""
+    read = {modrm: instruction_at(bytes([0x0F, second, modrm]) + bytes(12)) for modrm in range(256)}
+    return {modrm: found for modrm, found in read.items() if found}
+
+
+# The ModRM bytes of each second byte, and the second bytes with an immediate byte at the end.
+FORMS = {second: first_forms(second) for second in SECOND_BYTES if second != EMMS}
+MODRMS = {second: list(forms) for second, forms in FORMS.items()}
+WITH_IMMEDIATE = {second for second, forms in FORMS.items() if any(map(immediate_size, forms.values()))}
+assert WITH_IMMEDIATE == {0x71, 0x72, 0x73, PEXTRW, PINSRW, PSHUFW}
 
 
 def registers(second, reg, rm):
@@ -51,3 +76,5 @@ for _second, _name, _ in PACKED:
     assert instruction_at(registers(_second, 0, 1)).mnemonic == _name.lower()
 for _name in SHIFTS:
     assert instruction_at(shift(_name, 0, 1)).mnemonic == _name.lower()
+for _digit, _name in enumerate(PREFETCHES):
+    assert instruction_at(at_address(PREFETCH, _digit, 0)).mnemonic == _name.lower()

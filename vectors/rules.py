@@ -1,15 +1,22 @@
-"""What is printed of a page file. The emulator knows what an instruction does; what stands here is what no emulator knows: 01's
-refusal numbers with their order, its run, and the layout of its text."""
+"""What is printed of a page file. The emulator knows what an instruction does; what stands here is what no emulator knows: 01's and 02's
+refusal numbers with their order, 01's run, and the layout of its text."""
 import pagefile
 from emulator import INTEGERS, Emulator, instruction_at, memory_operand
 
 LONGEST_MEMORY, LONGEST_CODE, BUDGET = 32768, 4096, 4096
 PREFIXES = bytes.fromhex('26 2E 36 3E 64 65 66 67 F0 F2 F3')
-OF_FOUR_BYTES = ('movd', 'punpcklbw', 'punpcklwd', 'punpckldq')
+SIZES = {'movd': 4, 'punpcklbw': 4, 'punpcklwd': 4, 'punpckldq': 4, 'pinsrw': 2}  # the bytes of a memory operand where they are not eight
+SILENT = ('prefetchnta', 'prefetcht0', 'prefetcht1', 'prefetcht2', 'sfence')
+EDI = INTEGERS.index('edi')
 
 # With one of these behind it, what can be completed to an instruction is one: EMMS; a register form, a listed digit of 71 to 73,
-# or any SIB byte, displacement and immediate.
-COMPLETIONS = (b'\x77', b'\xD0' * 12)
+# or any SIB byte, displacement and immediate; a memory form; SFENCE.
+COMPLETIONS = (b'\x77', b'\xD0' * 12, bytes(12), b'\xF8')
+
+
+def is_start(code):
+    """Whether an instruction starts with these bytes."""
+    return any(instruction_at(code + more) for more in COMPLETIONS)
 
 
 def reading_refusal(rest):
@@ -18,22 +25,27 @@ def reading_refusal(rest):
         return 3
     if rest[0] in PREFIXES:
         return 4
-    if any(instruction_at(rest + more) for more in COMPLETIONS):
+    if is_start(rest):
         return 3
-    return 6 if rest[0] == 0x0F and rest[1] in (0x71, 0x72, 0x73) else 5
+    return 6 if is_start(rest[:2]) else 5
 
 
-def mark_refusal(marks):
+def mark_refusal(marks, instruction):
     """7 to 9."""
+    if instruction.mnemonic in SILENT:
+        return None
     return 7 if marks & pagefile.EM else 8 if marks & pagefile.TS else 9 if marks & pagefile.PENDING else None
 
 
 def operand_refusal(emulator, instruction):
     """10."""
-    if memory_operand(instruction) is None:
+    if instruction.mnemonic == 'maskmovq':
+        address = emulator.integers()[EDI]
+    elif memory_operand(instruction) is None or instruction.mnemonic in SILENT:
         return None
-    size = 4 if instruction.mnemonic in OF_FOUR_BYTES else 8
-    return 10 if emulator.address(instruction) + size > emulator.length else None
+    else:
+        address = emulator.address(instruction)
+    return 10 if address + SIZES.get(instruction.mnemonic, 8) > emulator.length else None
 
 
 def run(page, watch=None):
@@ -45,7 +57,10 @@ def run(page, watch=None):
             return 'spent', count, at, emulator
         rest = page.code[at:]
         instruction = instruction_at(rest)
-        refusal = reading_refusal(rest) if instruction is None else mark_refusal(page.marks) or operand_refusal(emulator, instruction)
+        if instruction is None:
+            refusal = reading_refusal(rest)
+        else:
+            refusal = mark_refusal(page.marks, instruction) or operand_refusal(emulator, instruction)
         if refusal:
             return f'refused {refusal}', count, at, emulator
         at = emulator.step(at, instruction)

@@ -30,8 +30,14 @@ const REGISTERS: u8 = 0xc0;
 // Where the SIB byte stands.
 const SIB_AT: usize = 3;
 
-// A second byte with the usual operands.
+// A second byte with the usual operands; one with an immediate byte behind them; and one that is SFENCE's with this digit and rm 0 alone.
 const PADDB: u8 = 0xfc;
+
+const PSHUFW: u8 = 0x70;
+
+const OF_SFENCE: u8 = 0xae;
+
+const FENCE_DIGIT: u8 = 7;
 
 // What was tried so far.
 struct Tally {
@@ -157,21 +163,21 @@ fn print_reading(name: &[u8], code: &[u8]) {
     }
 }
 
-// The refusal of writing PADDB of MM0 and a register, or 0.
-fn print_writing(name: &[u8], register: u8, buffer: &mut [u8]) {
+// The refusal of writing an instruction between registers, or 0.
+fn print_writing(name: &[u8], second: u8, reg: u8, rm: u8, immediate: u32, buffer: &mut [u8]) {
     let instruction = Instruction {
         first: ESCAPE,
-        second: PADDB,
+        second: second,
         operand: Operand {
             mode: REGISTER,
-            reg: 0,
-            rm: register,
+            reg: reg,
+            rm: rm,
             scale: 0,
             index: 0,
             base: 0,
             displacement: 0,
         },
-        immediate: 0,
+        immediate: immediate,
     };
     match codec::write(instruction, buffer) {
         Writing::Wrote(_) => print(name, 0),
@@ -205,6 +211,30 @@ fn print_shifts() {
     print_reading(b"0F 71 D0 is", &[ESCAPE, 0x71, 0xd0]);
 }
 
+// Forms of registers or of memory that manual 000 does not list, before what would follow them; and listed ones that are cut short.
+fn print_forms() {
+    print_reading(b"0F C5 00 is", &[ESCAPE, 0xc5, 0x00]);
+    print_reading(b"0F C5 C0 is", &[ESCAPE, 0xc5, 0xc0]);
+    print_reading(b"0F D7 00 is", &[ESCAPE, 0xd7, 0x00]);
+    print_reading(b"0F E7 C0 is", &[ESCAPE, 0xe7, 0xc0]);
+    print_reading(b"0F F7 00 is", &[ESCAPE, 0xf7, 0x00]);
+}
+
+fn print_prefetches() {
+    print_reading(b"0F 18 C0 is", &[ESCAPE, 0x18, 0xc0]);
+    print_reading(b"0F 18 20 is", &[ESCAPE, 0x18, 0x20]);
+    print_reading(b"0F 18 04 is", &[ESCAPE, 0x18, 0x04]);
+}
+
+fn print_fences() {
+    print_reading(b"0F AE is", &[ESCAPE, OF_SFENCE]);
+    print_reading(b"0F AE E8 is", &[ESCAPE, OF_SFENCE, 0xe8]);
+    print_reading(b"0F AE F0 is", &[ESCAPE, OF_SFENCE, 0xf0]);
+    print_reading(b"0F AE F9 is", &[ESCAPE, OF_SFENCE, 0xf9]);
+    print_reading(b"0F AE 38 is", &[ESCAPE, OF_SFENCE, 0x38]);
+    print_reading(b"0F AE 3C is", &[ESCAPE, OF_SFENCE, 0x3c]);
+}
+
 fn print_opcodes() {
     print_reading(b"0F 0B is", &[ESCAPE, 0x0b]);
     print_reading(b"90 is", &[0x90]);
@@ -218,8 +248,30 @@ fn print_lengths() {
 
 fn print_writings() {
     let mut buffer = [FILL; ROOM];
-    print_writing(b"register 8 is", 8, &mut buffer);
-    print_writing(b"a buffer of 2 bytes is", 7, &mut buffer[0..2]);
+    print_writing(b"register 8 is", PADDB, 0, 8, 0, &mut buffer);
+    print_writing(b"a buffer of 2 bytes is", PADDB, 0, 7, 0, &mut buffer[0..2]);
+}
+
+fn print_immediates() {
+    let mut buffer = [FILL; ROOM];
+    print_writing(b"PADDB with an immediate is", PADDB, 0, 7, 1, &mut buffer);
+    print_writing(b"PSHUFW with 255 is", PSHUFW, 0, 7, 255, &mut buffer);
+    print_writing(b"PSHUFW with 256 is", PSHUFW, 0, 7, 256, &mut buffer);
+    print_writing(b"PSHUFW in 3 bytes is", PSHUFW, 0, 7, 0, &mut buffer[0..3]);
+}
+
+fn print_written_fences() {
+    let mut buffer = [FILL; ROOM];
+    print_writing(b"SFENCE is", OF_SFENCE, FENCE_DIGIT, 0, 0, &mut buffer);
+    print_writing(
+        b"SFENCE with rm 1 is",
+        OF_SFENCE,
+        FENCE_DIGIT,
+        1,
+        0,
+        &mut buffer,
+    );
+    print_writing(b"SFENCE with digit 5 is", OF_SFENCE, 5, 0, 0, &mut buffer);
 }
 
 fn main() {
@@ -229,7 +281,12 @@ fn main() {
     print(b"bytes", tally.bytes);
     print_prefixes();
     print_shifts();
+    print_forms();
+    print_prefetches();
+    print_fences();
     print_opcodes();
     print_lengths();
     print_writings();
+    print_immediates();
+    print_written_fences();
 }

@@ -9,9 +9,9 @@ use crate::put::put_small;
 // The first byte of every opcode, and the second bytes.
 const ESCAPE: u8 = 0x0f;
 
-const SECONDS: u64 = 52;
+const SECONDS: u64 = 68;
 
-const SECOND_BYTES: [u8; 52] = [
+const SECOND_BYTES: [u8; 68] = [
     0x60,
     0x61,
     0x62,
@@ -64,6 +64,22 @@ const SECOND_BYTES: [u8; 52] = [
     0xfc,
     0xfd,
     0xfe,
+    0xf7,
+    0xe7,
+    0xe0,
+    0xe3,
+    0xc5,
+    0xc4,
+    0xee,
+    0xde,
+    0xea,
+    0xda,
+    0xd7,
+    0xe4,
+    0x18,
+    0xf6,
+    0x70,
+    0xae,
 ];
 
 // A ModRM byte is this times its mode and more, and its rm is what is left over of this.

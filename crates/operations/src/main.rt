@@ -1,19 +1,35 @@
 // Performs each packed operation on numbers of a fixed generator, and prints its name and a number that all results went into, a line for each
-// operation. With three bytes on standard input, an operation's number and a count of rounds (low byte first), it performs that operation alone.
+// operation; then the same of the functions beside `lanes::operate`. With three bytes on standard input, a line's number and a count of rounds (low
+// byte first), it performs that line's alone.
 ghost use Rattle.basis.specs.Names.{_+_, _<_, _≤_};
 use libc::STDIN_FILENO;
 use libc::STDOUT_FILENO;
 
-// How many numbers are performed: those of the 45 operations, and one that names none.
-const OPERATIONS: u8 = 46;
+// How many lines there are: those of the 58 operations, of a number that names none, and of the five functions.
+const LINES: u8 = 64;
 
-// The operations' names in the order of their numbers, and KEEP for the number that names none; each has ten places.
-const NAMES: [u8; 460] = *b"\
+// The lines of the number that names none and of the functions.
+const KEEP: u8 = 58;
+
+const EXTRACT: u8 = 59;
+
+const INSERT: u8 = 60;
+
+const SHUFFLE: u8 = 61;
+
+const TOP_BITS: u8 = 62;
+
+const BLEND: u8 = 63;
+
+// The operations' names in the order of their numbers, KEEP for the number that names none, and the functions' names; each has ten places.
+const NAMES: [u8; 640] = *b"\
     PUNPCKLBW PUNPCKLWD PUNPCKLDQ PACKSSWB  PACKUSWB  PACKSSDW  PCMPGTB   PCMPGTW   PCMPGTD   PUNPCKHBW \
     PUNPCKHWD PUNPCKHDQ MOVE      PCMPEQB   PCMPEQW   PCMPEQD   PSRLW     PSRLD     PSRLQ     PSRAW     \
     PSRAD     PSLLW     PSLLD     PSLLQ     PMULLW    PMULHW    PMADDWD   PSUBUSB   PSUBUSW   PADDUSB   \
     PADDUSW   PSUBSB    PSUBSW    PADDSB    PADDSW    PAND      PANDN     POR       PXOR      PSUBB     \
-    PSUBW     PSUBD     PADDB     PADDW     PADDD     KEEP      ";
+    PSUBW     PSUBD     PADDB     PADDW     PADDD     MASKMOVQ  PAVGB     PAVGW     PEXTRW    PINSRW    \
+    PMAXSW    PMAXUB    PMINSW    PMINUB    PMOVMSKB  PMULHUW   PSADBW    PSHUFW    KEEP      extract   \
+    insert    shuffle   top_bits  blend     ";
 
 const PLACES: usize = 10;
 
@@ -51,49 +67,62 @@ fn source_of(x: u64, destination: u64, i: u64) -> u64 {
     destination ^ (x & ONE_BYTE)
 }
 
-// The results of an operation in so many rounds, mixed into one number.
-fn mixed(operation: u8, rounds: u64) -> u64 {
+// What the operation or the function of a line leaves. An operation takes two numbers; MASKMOVQ and PINSRW, without a third, keep the destination.
+fn result_of(line: u8, destination: u64, source: u64, third: u64) -> u64 {
+    match line {
+        EXTRACT => lanes::extract(destination, source),
+        INSERT => lanes::insert(destination, source, third),
+        SHUFFLE => lanes::shuffle(destination, source),
+        TOP_BITS => lanes::top_bits(destination),
+        BLEND => lanes::blend(destination, source, third),
+        _ => lanes::operate(line, destination, source),
+    }
+}
+
+// The results of a line in so many rounds, mixed into one number. The third number of a round is the generator's next one.
+fn mixed(line: u8, rounds: u64) -> u64 {
     let mut destination: u64 = 0x0123_4567_89ab_cdef;
     let mut source: u64 = 0x8000_7fff_ff80_017f;
     let mut total: u64 = 1;
     let mut i: u64 = 0;
     while i < rounds {
-        let result = lanes::operate(operation, destination, source_of(source, destination, i));
+        let third = next(source);
+        let result = result_of(line, destination, source_of(source, destination, i), third);
         total = std::num::wrapping_add_u64(next(total), result);
         destination = next(destination);
-        source = next(source);
+        source = third;
         i += 1;
     }
     total
 }
 
-// Where an operation's name starts, so that all its places are there: all that name none share one.
-fn name_start(operation: u8) -> usize
-    ensures { λ r. ⌜ r + 10 ≤ 460 ⌝ }
+// Where a line's name starts, so that all its places are there: numbers past the last line name no operation.
+fn name_start(line: u8) -> usize
+    ensures { λ r. ⌜ r + 10 ≤ 640 ⌝ }
 {
-    if operation < OPERATIONS {
-        return PLACES * operation as usize;
+    if line < LINES {
+        return PLACES * line as usize;
     }
-    PLACES * (OPERATIONS - 1) as usize
+    PLACES * KEEP as usize
 }
 
-fn print_name(operation: u8) {
-    let start = name_start(operation);
+fn print_name(line: u8) {
+    let start = name_start(line);
     let end = start + PLACES;
     io::write_all(STDOUT_FILENO, &NAMES[start..end]);
 }
 
-fn print(operation: u8, rounds: u64) {
-    print_name(operation);
-    io::print_hex(STDOUT_FILENO, mixed(operation, rounds), DIGITS);
+fn print(line: u8, rounds: u64) {
+    print_name(line);
+    io::print_hex(STDOUT_FILENO, mixed(line, rounds), DIGITS);
     io::write_all(STDOUT_FILENO, b"\n");
 }
 
 fn print_all() {
-    let mut operation: u8 = 0;
-    while operation < OPERATIONS {
-        print(operation, ROUNDS);
-        operation += 1;
+    let mut line: u8 = 0;
+    while line < LINES {
+        print(line, ROUNDS);
+        line += 1;
     }
 }
 

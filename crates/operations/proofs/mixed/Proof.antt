@@ -5,10 +5,10 @@ use Rattle.operations.proofs.mixed.Statement.{statement}
 use Rattle.operations.proofs.mixed.Tie as tie
 
 abbrev Inv-loop : tie.InvT-loop
-Inv-loop operation rounds destination₀ source₀ total₀ i₀ destination source total i = i ≤ rounds
+Inv-loop line rounds destination₀ source₀ total₀ i₀ destination source total i = i ≤ rounds
 
 abbrev μ-loop : tie.MeasureT-loop
-μ-loop operation rounds destination₀ source₀ total₀ i₀ destination source total i = rounds - i
+μ-loop line rounds destination₀ source₀ total₀ i₀ destination source total i = rounds - i
 
 pub mixed-spec : {M : Type 1} → statement M
 mixed-spec =
