@@ -12,7 +12,7 @@ use Rattle.codec.specs.Forms.{absent, isAmong}
 use Rattle.codec.specs.Contents.{Line, lines}
 use Rattle.codec.specs.Opcodes.{formAt, operationAt}
 use Rattle.codec.specs.declared.Instruction.{Instruction}
-use Rattle.codec.proofs.Bytes.{found-has}
+use Rattle.codec.proofs.Bytes.{found-has, among}
 use Rattle.codec.specs.declared.Kind.{Kind}
 use Rattle.codec.specs.declared.Kind.the-variants.{Ordinary, Emms, Silent}
 use Rattle.manual.specs.declared.Marks.{Marks}
@@ -103,17 +103,12 @@ plan-kind e s pl =
     placed (done from) (refused n) h = absurd (false≢true (cc))
     placed (refused n) b h = absurd (false≢true (cc))
 
--- 18 and AE, the prefetches and SFENCE
-abbrev pub isSilent : ℕ → Bool
-isSilent second = isAmong second (0x18 ∷ 0xae ∷ [])
+-- 18 and AE, the second bytes of the prefetches and SFENCE
+abbrev pub silentBytes : List ℕ
+silentBytes = 0x18 ∷ 0xae ∷ []
 
-silent-byte : (P : ℕ → Type 0) (second : ℕ) → isSilent second ≡ true → P 0x18 → P 0xae → P second
-silent-byte P second h prefetch sfence = by (eqb second 0x18) (eqb second 0xae) refl refl h
-  where
-    by : (a b : Bool) → eqb second 0x18 ≡ a → eqb second 0xae ≡ b → (a || (b || false)) ≡ true → P second
-    by true b e f h = subst P (sym (eqb-true second 0x18 e)) prefetch
-    by false true e f h = subst P (sym (eqb-true second 0xae f)) sfence
-    by false false e f h = absurd (false≢true h)
+abbrev pub isSilent : ℕ → Bool
+isSilent second = isAmong second silentBytes
 
 -- the kind of a second byte
 abbrev pub kindAt : ℕ → Kind
@@ -136,7 +131,7 @@ byte-kind second = by (eqb second 0x77) (isSilent second) refl refl
 
     by : (a b : Bool) → eqb second 0x77 ≡ a → isSilent second ≡ b → formAt second .kind ≡ cond a Emms (cond b Silent Ordinary)
     by true b e f = ap (λ (k : ℕ). formAt k .kind) (eqb-true second 0x77 e)
-    by false true e f = silent-byte (λ k. formAt k .kind ≡ Silent) second f refl refl
+    by false true e f = among (λ k. formAt k .kind ≡ Silent) second silentBytes f refl refl
     by false false e f =
         found-has (λ x. x .form) absent (λ form. form .kind ≡ Ordinary) (λ x. eqb second (x .second))
         (λ x. isOrdinary (x .form .kind) || (eqb (x .second) 0x77 || isSilent (x .second))) refl other lines refl
@@ -190,10 +185,10 @@ pub silent-passes : (i : Instruction) (s : State) → isSilent (i .second) ≡ t
     → (execute i s ≡ done s) × (footprint i s ≡ done (record { reads = []; writes = []; kind = Silent }))
 unfolding execute footprint effectOf formAt
 silent-passes i s h =
-    silent-byte
+    among
     (λ second. let e = effectBy (formAt second) (operationAt second (i .operand .reg)) i in
     (perform e s ≡ done s) × (footprintOf e s ≡ done (record { reads = []; writes = []; kind = Silent })))
-    (i .second) h (refl, refl) (refl, refl)
+    (i .second) silentBytes h (refl, refl) (refl, refl)
 
 -- an outcome and a footprint go together: both there, or both refused by one number
 abbrev pub Together : Outcome → Result (Footprint Place Kind) → Type 0
