@@ -3,6 +3,7 @@ mod addresses;
 mod footprints;
 mod gathering;
 mod meetings;
+mod misses;
 mod operands;
 mod picking;
 mod pointers;

@@ -12,3 +12,5 @@ pub(crate) const NOT_AVAILABLE: u8 = 8;
 pub(crate) const IS_PENDING: u8 = 9;
 
 pub(crate) const OUTSIDE_MEMORY: u8 = 10;
+
+pub(crate) const OUTSIDE_BY_STACK: u8 = 14;

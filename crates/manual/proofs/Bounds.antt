@@ -4,7 +4,7 @@ use Rattle.basis.specs.Names.{_≡_, refl, Bool, true, false, cond, List, ℕ, 
 use Rattle.basis.proofs.Names.{sym, ap, subst, _∙_, false≢true, arith, length-drop}
 use Rattle.reorder.specs.Result.{Result, done, refused, caseOf}
 use Rattle.reorder.specs.Run.{Answer, finished, spent, stopped, runFrom, run}
-use Rattle.codec.specs.Refusals.{codeTooLong}
+use Rattle.codec.specs.Refusals.{codeTooLong, notAllowed}
 use Rattle.codec.specs.Reads.{longestCode, readPart}
 use Rattle.codec.specs.Reasons as codec
 use Rattle.codec.specs.Answers.{Decoded}
@@ -14,7 +14,7 @@ use Rattle.manual.specs.Refusals.{memoryTooLong}
 use Rattle.manual.specs.State.{State, Frozen, frozen, longestMemory, isTooLong}
 use Rattle.manual.specs.Instructions.{execute}
 use Rattle.manual.specs.Steps.{Outcome, concluded, completed, refusedWith, resultOf, stepAt}
-use Rattle.manual.specs.Reasons.{Reason, one, reading, seven, eight, nine, ten}
+use Rattle.manual.specs.Reasons.{Reason, one, reading, seven, eight, nine, ten, fourteen}
 use Rattle.manual.specs.Runs.{read, runOf}
 use Rattle.manual.proofs.Turns.{onward, turn, instruction-here}
 use Rattle.manual.proofs.Refusals.{refused-step, step-frozen}
@@ -24,24 +24,25 @@ use Rattle.manual.proofs.Exactly.{step-exactly}
 abbrev pub greatestRefusal : ℕ
 greatestRefusal = 99
 
--- and so has a step's
-part-small : (s : List ℕ) (n : ℕ) → codec.Reason s n → n ≤ greatestRefusal
+-- reading's is 6 at most
+part-small : (s : List ℕ) (n : ℕ) → codec.Reason s n → n ≤ notAllowed
 part-small s n (codec.three x) = omega arith
 part-small s n (codec.four x) = omega arith
 part-small s n (codec.five x) = omega arith
 part-small s n (codec.six x) = omega arith
 
-reading-small : (code : List ℕ) (at n : ℕ) → codec.ReasonAt code at n → n ≤ greatestRefusal
+pub reading-small : (code : List ℕ) (at n : ℕ) → codec.ReasonAt code at n → n ≤ notAllowed
 reading-small code at n (codec.two h) = omega arith
 reading-small code at n (codec.reading h r) = part-small (drop at code) n r
 
 reason-small : (code : List ℕ) (at : ℕ) (s : State) (n : ℕ) → Reason code at s n → n ≤ greatestRefusal
 reason-small code at s n (one h) = omega arith
-reason-small code at s n (reading h r) = reading-small code at n r
+reason-small code at s n (reading h r) = omega (arith, reading-small code at n r)
 reason-small code at s n (seven i size h em) = omega arith
 reason-small code at s n (eight i size h em ts) = omega arith
 reason-small code at s n (nine i size h em ts pending) = omega arith
-reason-small code at s n (ten i size h em ts pending x either o) = omega arith
+reason-small code at s n (ten i size h x touches o based) = omega arith
+reason-small code at s n (fourteen i size h x touches o based) = omega arith
 
 module _ (code : List ℕ) (code-fits : ltb longestCode (length code) ≡ false) where
   -- a completed step leaves a position of the code

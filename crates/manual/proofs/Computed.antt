@@ -20,16 +20,17 @@ use Rattle.manual.specs.Runs.{read, runOf}
 use Rattle.manual.specs.Footprints.{footprintAt, footprintInRun, Meets}
 use Rattle.manual.proofs.Meeting.{apart}
 use Rattle.manual.proofs.Plates.{start, plates, extensionPlates}
-use Rattle.manual.proofs.Edges.{edges, extensionEdges}
+use Rattle.manual.proofs.Edges.{edges, extensionEdges, stackEdges}
 use Rattle.manual.proofs.FootprintTable.{here, barred, footprints, whereBarred, inRuns}
 use Rattle.manual.proofs.Example as example
 
 pub record Computed : Type 0 where
-  -- document 01's plates and its edges, and those of manual 000
+  -- document 01's plates and its edges, those of manual 000, and the edges of Req 04
   pub plates : T (all plates)
   pub edges : T (all edges)
   pub extension-plates : T (all extensionPlates)
   pub extension-edges : T (all extensionEdges)
+  pub stack-edges : T (all stackEdges)
   -- the customer's example: PADDB MM0, MM1
   pub customer : runOf (0x0f ∷ 0xfc ∷ 0xc1 ∷ []) 4096 (start 0xff 2 false) ≡ finished 3 1 (start 1 2 true)
   -- the table of footprints, of single steps, with no control mark and with all, and in runs
@@ -51,6 +52,7 @@ computed =
       edges = tt;
       extension-plates = tt;
       extension-edges = tt;
+      stack-edges = tt;
       customer = refl;
       footprints = refl;
       where-barred = refl;

@@ -7,12 +7,11 @@ use Rattle.words.proofs.Laws.{length-gets}
 use Rattle.reorder.specs.Result.{Result, done, refused, andThen, mapResult}
 use Rattle.reorder.specs.Plan.{looks, puts, perform}
 use Rattle.codec.specs.declared.Kind.the-variants.{Ordinary}
-use Rattle.manual.specs.Refusals.{outsideMemory}
 use Rattle.manual.specs.State.{State, withMemory}
 use Rattle.manual.specs.Places.{Place, mmx, integer, byte, look, put}
 use Rattle.manual.specs.Kinds.{marked, heeded}
 use Rattle.manual.specs.Addresses.{Address, address}
-use Rattle.manual.specs.Locations.{Location, mmxRegister, integerRegister, memory, bytesFrom, liesInside, placesOf}
+use Rattle.manual.specs.Locations.{Location, mmxRegister, integerRegister, memory, bytesFrom, liesInside, missOf, placesOf}
 use Rattle.manual.specs.Effects.{Effect, placeCount, valueIn, contentsOf, unlessMarked, planOn, placed, perform as performs}
 use Rattle.manual.specs.inner.Unmarked.{directly}
 use Rattle.manual.proofs.Marking.{past-marks}
@@ -30,14 +29,14 @@ module _ (s : State) where
   abbrev pub valueAt : Location → Result ℕ
   valueAt (mmxRegister r) = done (getD (s .mmx) r 0)
   valueAt (integerRegister r) = done (getD (s .integers) r 0)
-  valueAt (memory a size) = cond (inside a size) (done (number (gets size (s .memory) (address (s .integers) a)))) (refused outsideMemory)
+  valueAt (memory a size) = cond (inside a size) (done (number (gets size (s .memory) (address (s .integers) a)))) (refused (missOf a))
 
   -- the state that a number leaves in an operand, with the tag mark valid
   abbrev pub putAt : Location → ℕ → Result State
   putAt (mmxRegister r) value = done (marked Ordinary (put s (mmx r) value))
   putAt (integerRegister r) value = done (marked Ordinary (put s (integer r) value))
   putAt (memory a size) value =
-      cond (inside a size) (done (marked Ordinary (withMemory s (sets (s .memory) (address (s .integers) a) (bytes size value))))) (refused outsideMemory)
+      cond (inside a size) (done (marked Ordinary (withMemory s (sets (s .memory) (address (s .integers) a) (bytes size value))))) (refused (missOf a))
 
   -- the bytes of an operand in memory, looked at
   looks-bytes : (size a : ℕ) → looks look s (bytesFrom a size) ≡ gets size (s .memory) a
@@ -61,7 +60,7 @@ module _ (s : State) where
   taken (memory a size) = by (inside a size) (address (s .integers) a)
     where
       by : (t : Bool) (p : ℕ)
-          → Taken (memory a size) (cond t (done (number (gets size (s .memory) p))) (refused outsideMemory)) (cond t (done (bytesFrom p size)) (refused outsideMemory))
+          → Taken (memory a size) (cond t (done (number (gets size (s .memory) p))) (refused (missOf a))) (cond t (done (bytesFrom p size)) (refused (missOf a)))
       by true p = ap (λ (l : List Place). number (take size (looks look s l))) (append-nil (bytesFrom p size)) ∙ take-bytes size p
       by false p = refl
 
@@ -82,7 +81,7 @@ module _ (s : State) where
   given (memory a size) v = by (inside s a size) (address (s .integers) a)
     where
       by : (t : Bool) (p : ℕ)
-          → Given s (memory a size) v (cond t (done (marked Ordinary (withMemory s (sets (s .memory) p (bytes size v))))) (refused outsideMemory)) (cond t (done (bytesFrom p size)) (refused outsideMemory))
+          → Given s (memory a size) v (cond t (done (marked Ordinary (withMemory s (sets (s .memory) p (bytes size v))))) (refused (missOf a))) (cond t (done (bytesFrom p size)) (refused (missOf a)))
       by true p =
           ap (λ (u : State). done (marked Ordinary u)) (sym (put-bytes size v s p))
           ∙ ap₂ (λ (ps : List Place) (vs : List ℕ). done (marked Ordinary (puts put s ps vs))) (sym (append-nil (bytesFrom p size))) (sym (append-nil (bytes size v)))
@@ -127,11 +126,11 @@ module _ (s : State) where
   unfolding opened
   three-direct f a j k = by (inside s a 8) (address (s .integers) a)
     where
-      by : (t : Bool) (p : ℕ) → let there = cond t (done (bytesFrom p 8)) (refused outsideMemory) in
+      by : (t : Bool) (p : ℕ) → let there = cond t (done (bytesFrom p 8)) (refused (missOf a)) in
           opened (three f (memory a 8) (mmxRegister j) (mmxRegister k)) (andThen there (λ ps. mapResult (λ qs. ps ++ qs) (done (mmx j ∷ mmx k ∷ [])))) (one there)
-          ≡ andThen (cond t (done (number (gets 8 (s .memory) p))) (refused outsideMemory))
+          ≡ andThen (cond t (done (number (gets 8 (s .memory) p))) (refused (missOf a)))
           (λ v.
-          cond t (done (marked Ordinary (withMemory s (sets (s .memory) p (bytes 8 (f v (getD (s .mmx) j 0) (getD (s .mmx) k 0))))))) (refused outsideMemory))
+          cond t (done (marked Ordinary (withMemory s (sets (s .memory) p (bytes 8 (f v (getD (s .mmx) j 0) (getD (s .mmx) k 0))))))) (refused (missOf a)))
       by true p =
           ap (λ (u : State). done (marked Ordinary u))
           (put-bytes 8 (f (number (gets 8 (s .memory) p)) (getD (s .mmx) j 0) (getD (s .mmx) k 0)) s p)

@@ -77,6 +77,10 @@ completes = doneWith 1 (λ t. t .marks .valid)
 abbrev refuses : ℕ → Answer State → Bool
 refuses number = refusedAfter number 0 unchanged
 
+-- a MOVQ from an operand, by its bytes from the ModRM byte on, and a MOVQ to it are both refused
+abbrev refusesBoth : ℕ → List ℕ → Bool
+refusesBoth number operand = refuses number (run (0x0f ∷ 0x6f ∷ operand)) && refuses number (run (0x0f ∷ 0x7f ∷ operand))
+
 -- a prefetch of FFFFFFFF, by its ModRM byte
 abbrev far : ℕ → List ℕ
 far modrm = 0x0f ∷ 0x18 ∷ modrm ∷ replicate 4 0xff
@@ -202,4 +206,44 @@ extensionEdges =
     -- after PXOR MM0, MM0 a prefetch and SFENCE keep the tags valid, and after EMMS empty
     ∷ doneWith 3 (mm0 0) (run (0x0f ∷ 0xef ∷ 0xc0 ∷ 0x0f ∷ 0x18 ∷ 0x00 ∷ 0x0f ∷ 0xae ∷ 0xf8 ∷ []))
     ∷ doneWith 4 tagsEmpty (run (0x0f ∷ 0xef ∷ 0xc0 ∷ 0x0f ∷ 0x77 ∷ 0x0f ∷ 0x18 ∷ 0x00 ∷ 0x0f ∷ 0xae ∷ 0xf8 ∷ []))
+    ∷ []
+
+-- the edges of Req 04: operands that miss the memory, by a base register of the stack and by others (ESP and EBP are 4)
+abbrev pub stackEdges : List Bool
+stackEdges =
+    -- [EBP + 0] is 14, [2] is 10, [EAX + EBP] is 10, [ESP] is 14, [0 + EBP * 1] is 10, [ESP + EBP] is 14
+    refusesBoth 14 (0x45 ∷ 0 ∷ [])
+    ∷ refusesBoth 10 (0x05 ∷ 2 ∷ 0 ∷ 0 ∷ 0 ∷ [])
+    ∷ refusesBoth 10 (0x04 ∷ 0x28 ∷ [])
+    ∷ refusesBoth 14 (0x04 ∷ 0x24 ∷ [])
+    ∷ refusesBoth 10 (0x04 ∷ 0x2d ∷ 0 ∷ 0 ∷ 0 ∷ 0 ∷ [])
+    ∷ refusesBoth 14 (0x04 ∷ 0x2c ∷ [])
+    -- base 101 without an index at mod 00 is 10
+    ∷ refusesBoth 10 (0x04 ∷ 0x25 ∷ 1 ∷ 0 ∷ 0 ∷ 0 ∷ [])
+    -- rm 101, base 101 and base 100 with a displacement byte and with one of 32 bits are 14
+    ∷ refusesBoth 14 (0x45 ∷ 0xfb ∷ [])
+    ∷ refusesBoth 14 (0x85 ∷ 1 ∷ 0 ∷ 0 ∷ 0 ∷ [])
+    ∷ refusesBoth 14 (0x44 ∷ 0x05 ∷ 1 ∷ [])
+    ∷ refusesBoth 14 (0x84 ∷ 0x05 ∷ 1 ∷ 0 ∷ 0 ∷ 0 ∷ [])
+    ∷ refusesBoth 14 (0x44 ∷ 0x24 ∷ 1 ∷ [])
+    ∷ refusesBoth 14 (0x84 ∷ 0x24 ∷ 1 ∷ 0 ∷ 0 ∷ 0 ∷ [])
+    -- an index of EBP with a displacement is 10
+    ∷ refusesBoth 10 (0x44 ∷ 0x28 ∷ 1 ∷ [])
+    ∷ refusesBoth 10 (0x84 ∷ 0xa8 ∷ 1 ∷ 0 ∷ 0 ∷ 0 ∷ [])
+    -- PUNPCKLBW MM0, [EBP] takes four bytes; at [EBP + 1] it is 14
+    ∷ completes (run (0x0f ∷ 0x60 ∷ 0x45 ∷ 0 ∷ []))
+    ∷ refuses 14 (run (0x0f ∷ 0x60 ∷ 0x45 ∷ 1 ∷ []))
+    -- PADDB MM0, [ESP], PINSRW MM0, [EBP + 4], 1, PSHUFW MM0, [ESP], 0 and MOVNTQ [ESP], MM0
+    ∷ refuses 14 (run (0x0f ∷ 0xfc ∷ 0x04 ∷ 0x24 ∷ []))
+    ∷ refuses 14 (run (0x0f ∷ 0xc4 ∷ 0x45 ∷ 4 ∷ 1 ∷ []))
+    ∷ refuses 14 (run (0x0f ∷ 0x70 ∷ 0x04 ∷ 0x24 ∷ 0 ∷ []))
+    ∷ refuses 14 (run (0x0f ∷ 0xe7 ∷ 0x04 ∷ 0x24 ∷ []))
+    -- MASKMOVQ MM5, MM4 at EDI = FFFF is 10, whatever registers its ModRM byte names
+    ∷ refusedAfter 10 1 (memory 0x1716151413121110) (run (0x0f ∷ 0xc5 ∷ 0xf8 ∷ 0 ∷ 0x0f ∷ 0xf7 ∷ 0xec ∷ []))
+    -- MOVD MM0, ESP and MOVD EBP, MM0 have no memory operand; PREFETCHNTA [ESP + 7F] and [EBP + 7F] complete
+    ∷ doneWith 1 (mm0 4) (run (0x0f ∷ 0x6e ∷ 0xc4 ∷ []))
+    ∷ completes (run (0x0f ∷ 0x7e ∷ 0xc5 ∷ []))
+    ∷ doneWith 2 unchanged (run (0x0f ∷ 0x18 ∷ 0x44 ∷ 0x24 ∷ 0x7f ∷ 0x0f ∷ 0x18 ∷ 0x45 ∷ 0x7f ∷ []))
+    -- the control marks come before 14
+    ∷ refuses 9 (runOf (0x0f ∷ 0x6f ∷ 0x45 ∷ 0 ∷ []) 1 (start 0 0 false false true))
     ∷ []

@@ -79,8 +79,11 @@ footprints =
     -- MOVQ MM1, [EAX + EAX], and MM1, [0]
     ∷ uses (0x0f ∷ 0x6f ∷ 0x0c ∷ 0x00 ∷ []) (integer 0 ∷ integer 0 ∷ bytesFrom 16 8) (mmx 1 ∷ [])
     ∷ uses (0x0f ∷ 0x6f ∷ 0x0d ∷ 0 ∷ 0 ∷ 0 ∷ 0 ∷ []) (bytesFrom 0 8) (mmx 1 ∷ [])
-    -- the step's refusal: MOVQ MM1, [EAX + 17], and at the code's end
+    -- the step's refusal: MOVQ MM1, [EAX + 17], from [EAX + EBP + 17] and from [EBP + 25], MOVQ [ESP + 25], MM1, and at the code's end
     ∷ (0x0f ∷ 0x6f ∷ 0x48 ∷ 17 ∷ [], refused 10)
+    ∷ (0x0f ∷ 0x6f ∷ 0x4c ∷ 0x28 ∷ 17 ∷ [], refused 10)
+    ∷ (0x0f ∷ 0x6f ∷ 0x4d ∷ 25 ∷ [], refused 14)
+    ∷ (0x0f ∷ 0x7f ∷ 0x4c ∷ 0x24 ∷ 25 ∷ [], refused 14)
     ∷ ([], refused 3)
     ∷ []
 

@@ -9,7 +9,7 @@ use Rattle.manual.specs.State.{State, frozen}
 use Rattle.manual.specs.Places.{Place, mmx, integer, byte, look, put}
 use Rattle.manual.specs.Kinds.{marked, heeded, KindsMeet}
 use Rattle.manual.specs.Addresses.{Address, registerPart, address, registersOf, addressRegisters}
-use Rattle.manual.specs.Locations.{Location, mmxRegister, integerRegister, memory, tested, placesOf, registersBehind}
+use Rattle.manual.specs.Locations.{Location, mmxRegister, integerRegister, memory, missOf, tested, placesOf, registersBehind}
 use Rattle.manual.specs.Effects.{placesOfAll, registersBehindAll, addressRegistersOf, unlessMarked, planOn, plan, via}
 use Rattle.manual.proofs.Lists.{set-same, set-alike}
 use Rattle.manual.proofs.Marking.{controlled}
@@ -130,7 +130,7 @@ module _ (s s′ : State) (same : frozen s ≡ frozen s′) where
   places-local : (x : Location) → Agree (registersBehind x) → placesOf s x ≡ placesOf s′ x
   places-local (mmxRegister k) h = refl
   places-local (integerRegister k) h = refl
-  places-local (memory a size) h = λ j. tested (same j .memory) size (address-local a h j)
+  places-local (memory a size) h = λ j. tested (missOf a) (same j .memory) size (address-local a h j)
 
   all-local : (xs : List Location) → Agree (registersBehindAll xs) → placesOfAll s xs ≡ placesOfAll s′ xs
   all-local [] h = refl

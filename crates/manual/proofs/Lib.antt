@@ -7,8 +7,10 @@ pub mod Laws
 pub mod Locality
 pub mod Turns
 pub mod Refusals
+pub mod OneAddress
 pub mod Exactly
 pub mod Bounds
+pub mod StackBases
 pub mod Demand3
 pub mod Endings
 pub mod Uses

@@ -180,7 +180,7 @@ emms-leaves i s e =
     ap (λ (second : ℕ). perform (effectBy (formAt second) (operationAt second (i .operand .reg)) i) s) e
     ∙ past-marks (performed look put marked s) (λ n. refl) (s .marks) (done (planOn (bare Emms) [] []))
 
--- prefetches and SFENCE touch nothing, not even tags, ignore the control marks, never give 10, and have an empty footprint
+-- prefetches and SFENCE touch nothing, not even tags, ignore the control marks, never give 10 or 14, and have an empty footprint
 pub silent-passes : (i : Instruction) (s : State) → isSilent (i .second) ≡ true
     → (execute i s ≡ done s) × (footprint i s ≡ done (record { reads = []; writes = []; kind = Silent }))
 unfolding execute footprint effectOf formAt

@@ -1,5 +1,5 @@
 -- The address of an operand in memory: base plus index times scale plus displacement, in 32 bits.
-use Rattle.basis.specs.Names.{cond, _&&_, Option, none, some, List, [], _∷_, _++_, ℕ, _+_, _*_, _-_, _^_, _%_, eqb, leb, getD}
+use Rattle.basis.specs.Names.{Bool, false, cond, _&&_, _||_, Option, none, some, List, [], _∷_, _++_, ℕ, _+_, _*_, _-_, _^_, _%_, eqb, leb, getD}
 use Rattle.codec.specs.Operands.{hasSib}
 use Rattle.codec.specs.declared.Operand.{Operand}
 
@@ -39,6 +39,11 @@ addressOf w =
       scale = 0;
       displacement = displacementOf (w .mode) (w .displacement);
     })
+
+-- whether there is a base register, and it is one of the stack's: ESP, which is 4, or EBP, which is 5
+abbrev pub isStackBase : Option ℕ → Bool
+isStackBase none = false
+isStackBase (some k) = eqb k 4 || eqb k 5
 
 -- what a register adds to the sum, if there is one
 abbrev pub registerPart : List ℕ → Option ℕ → ℕ

@@ -69,10 +69,10 @@ effectBy form operation i =
 unfoldable pub effectOf : Instruction → Effect
 effectOf i = effectBy (formAt (i .second)) (operationAt (i .second) (i .operand .reg)) i
 
--- one instruction in a state: the state that it leaves, or 7 to 10
+-- one instruction in a state: the state that it leaves, or 7 to 10, or 14
 unfoldable pub execute : Instruction → State → Result State
 execute i s = perform (effectOf i) s
 
--- its footprint in a state, or 7 to 10
+-- its footprint in a state, or 7 to 10, or 14
 unfoldable pub footprint : Instruction → State → Result (Footprint Place Kind)
 footprint i s = footprintOf (effectOf i) s

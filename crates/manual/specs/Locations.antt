@@ -4,10 +4,10 @@ use Rattle.reorder.specs.Result.{Result, done, refused}
 use Rattle.codec.specs.Forms.{File, mmxFile, integerFile, Slot, reg, rm, rm/mem, mem, edi, fixed}
 use Rattle.codec.specs.declared.Operand.{Operand}
 use Rattle.codec.specs.declared.Instruction.{Instruction}
-use Rattle.manual.specs.Refusals.{outsideMemory}
+use Rattle.manual.specs.Refusals.{outsideMemory, outsideByStack}
 use Rattle.manual.specs.State.{State}
 use Rattle.manual.specs.Places.{Place, mmx, integer, byte}
-use Rattle.manual.specs.Addresses.{Address, addressOf, address, addressRegisters}
+use Rattle.manual.specs.Addresses.{Address, addressOf, isStackBase, address, addressRegisters}
 
 -- a register, or so many bytes at an address
 pub data Location : Type 0 where
@@ -45,15 +45,19 @@ bytesFrom a (suc size) = byte a ∷ bytesFrom (a + 1) size
 abbrev pub liesInside : ℕ → ℕ → ℕ → Bool
 liesInside room size a = leb (a + size) room
 
--- its places, or 10
-abbrev pub tested : ℕ → ℕ → ℕ → Result (List Place)
-tested room size a = cond (liesInside room size a) (done (bytesFrom a size)) (refused outsideMemory)
+-- the refusal of an operand at an address that misses the memory: 14 where its base register is one of the stack's, else 10
+abbrev pub missOf : Address → ℕ
+missOf a = cond (isStackBase (a .base)) outsideByStack outsideMemory
+
+-- its places, or the refusal of a miss
+abbrev pub tested : ℕ → ℕ → ℕ → ℕ → Result (List Place)
+tested miss room size a = cond (liesInside room size a) (done (bytesFrom a size)) (refused miss)
 
 -- the places of an operand in a state
 abbrev pub placesOf : State → Location → Result (List Place)
 placesOf s (mmxRegister k) = done (mmx k ∷ [])
 placesOf s (integerRegister k) = done (integer k ∷ [])
-placesOf s (memory a size) = tested (length (s .memory)) size (address (s .integers) a)
+placesOf s (memory a size) = tested (missOf a) (length (s .memory)) size (address (s .integers) a)
 
 -- the integer registers that decide where it is
 abbrev pub registersBehind : Location → List ℕ

@@ -1,14 +1,14 @@
 -- When each refusal of a step is due, in the customer's words: 1, then 2 to 6 by the reading, then 7, 8, 9 where the control marks stop the instruction,
--- then 10.
+-- then 10 or 14.
 use Rattle.basis.specs.Names.{_≡_, _⊎_, Bool, true, false, List, List·Memᴰ as In, ℕ, _+_, _<_, length}
 use Rattle.codec.specs.Answers.{good}
 use Rattle.codec.specs.Reads.{readAt}
 use Rattle.codec.specs.Reasons.{ReasonAt}
 use Rattle.codec.specs.declared.Instruction.{Instruction}
-use Rattle.manual.specs.Refusals.{memoryTooLong, invalidOpcode, notAvailable, isPending, outsideMemory}
+use Rattle.manual.specs.Refusals.{memoryTooLong, invalidOpcode, notAvailable, isPending, outsideMemory, outsideByStack}
 use Rattle.manual.specs.State.{State, isTooLong}
 use Rattle.manual.specs.Kinds.{stops}
-use Rattle.manual.specs.Addresses.{Address, address}
+use Rattle.manual.specs.Addresses.{Address, isStackBase, address}
 use Rattle.manual.specs.Locations.{Location, memory}
 use Rattle.manual.specs.Instructions.{effectOf}
 
@@ -20,6 +20,17 @@ pub record Stands (code : List ℕ) (at : ℕ) (s : State) (i : Instruction) (si
 -- a control mark stops the instruction
 abbrev pub stopsIt : Instruction → Bool → Bool
 stopsIt i mark = stops (effectOf i .kind) mark
+
+-- the instruction at a position, which no control mark stops: none of 1 to 9 is due
+pub record Passes (code : List ℕ) (at : ℕ) (s : State) (i : Instruction) (size : ℕ) : Type 0 where
+  pub stands : Stands code at s i size
+  pub em : stopsIt i (s .marks .em) ≡ false
+  pub ts : stopsIt i (s .marks .ts) ≡ false
+  pub pending : stopsIt i (s .marks .pending) ≡ false
+
+-- the instruction takes or gives an operand
+abbrev pub Touches : Instruction → Location → Type 0
+Touches i x = In x (effectOf i .takes) ⊎ In x (effectOf i .gives)
 
 -- a byte of an operand in memory is outside the memory
 pub record Outside (s : State) (x : Location) : Type 0 where
@@ -34,5 +45,5 @@ pub data Reason (code : List ℕ) (at : ℕ) (s : State) : ℕ → Type 0 where
   seven : (i : Instruction) (size : ℕ) → Stands code at s i size → stopsIt i (s .marks .em) ≡ true → Reason code at s invalidOpcode
   eight : (i : Instruction) (size : ℕ) → Stands code at s i size → stopsIt i (s .marks .em) ≡ false → stopsIt i (s .marks .ts) ≡ true → Reason code at s notAvailable
   nine : (i : Instruction) (size : ℕ) → Stands code at s i size → stopsIt i (s .marks .em) ≡ false → stopsIt i (s .marks .ts) ≡ false → stopsIt i (s .marks .pending) ≡ true → Reason code at s isPending
-  ten : (i : Instruction) (size : ℕ) → Stands code at s i size → stopsIt i (s .marks .em) ≡ false → stopsIt i (s .marks .ts) ≡ false → stopsIt i (s .marks .pending) ≡ false
-      → (x : Location) → In x (effectOf i .takes) ⊎ In x (effectOf i .gives) → Outside s x → Reason code at s outsideMemory
+  ten : (i : Instruction) (size : ℕ) → Passes code at s i size → (x : Location) → Touches i x → (o : Outside s x) → isStackBase (o .at .base) ≡ false → Reason code at s outsideMemory
+  fourteen : (i : Instruction) (size : ℕ) → Passes code at s i size → (x : Location) → Touches i x → (o : Outside s x) → isStackBase (o .at .base) ≡ true → Reason code at s outsideByStack

@@ -1,4 +1,4 @@
--- The refusal numbers of steps, runs and footprints, from document 01's table of them (2 to 6 are the reader's).
+-- The refusal numbers of steps, runs and footprints, from document 01's table of them and document 02's Req 04 (2 to 6 are the reader's).
 use Rattle.basis.specs.Names.{ℕ}
 
 -- the memory is longer than 32,768 bytes
@@ -20,3 +20,7 @@ isPending = 9
 -- a byte of the memory operand is outside the memory
 abbrev pub outsideMemory : ℕ
 outsideMemory = 10
+
+-- the same, where the operand's base register is ESP or EBP
+abbrev pub outsideByStack : ℕ
+outsideByStack = 14

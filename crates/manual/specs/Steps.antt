@@ -31,7 +31,7 @@ abbrev pub concluded : ℕ → ℕ → State → Result State → Outcome
 concluded at next s (done t) = completed next t
 concluded at next s (refused n) = refusedWith n at s
 
--- 1 to 6 where there is no instruction, then 7 to 10 by the instruction
+-- 1 to 6 where there is no instruction, then 7 to 10, or 14, by the instruction
 unfoldable pub stepAt : List ℕ → ℕ → State → Outcome
 stepAt code at s =
     caseOf (instructionAt code at s) (λ n. refusedWith n at s) (λ read. concluded at (at + read .size) s (execute (read .instruction) s))

@@ -11,11 +11,12 @@ pub use Rattle.printout.proofs.Allowed.{buffer-one, report-one, refusal-one}
 pub use Rattle.player.proofs.Allowed.{play-one}
 pub use Rattle.player.proofs.Whole.{whole}
 -- "Bad input is refused by the numbers in document 01": 2 to 6 of reading, 11 and 12 of writing, 1 to 10 of a step, 13 of a file, each given exactly when
--- document 01 says; and whichever function is asked, the number is the same.
+-- document 01 says, and 14 of a step, when document 02's Req 04 says; and whichever function is asked, the number is the same.
 pub use Rattle.codec.proofs.Exactly.{reading-exactly, twelve-exactly}
 pub use Rattle.codec.proofs.Sixes.{six-in-words}
 pub use Rattle.codec.proofs.Theorems.{eleven-exactly}
 pub use Rattle.manual.proofs.Exactly.{step-exactly}
+pub use Rattle.manual.proofs.StackBases.{fourteen-in-words}
 pub use Rattle.machine.proofs.Agreeing.{reading-as-step, footprint-as-step, run-as-step}
 pub use Rattle.pagefile.proofs.Meaning.{thirteen-exactly}
 -- "A refused instruction changes no register, mark or memory byte; a refused run keeps what earlier instructions did."

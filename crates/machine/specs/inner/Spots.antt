@@ -3,9 +3,8 @@ use Rattle.basis.specs.Names.{_≡_, cond, List, [], _∷_, ℕ, _<_}
 use Rattle.codec.specs.Forms.{Use, File, mmxFile, Slot, reg, rm, rm/mem, mem, edi, fixed, memorySize}
 use Rattle.codec.specs.Table.{formOf}
 use Rattle.codec.specs.declared.Operand.{Operand}
-use Rattle.manual.specs.Refusals.{outsideMemory}
 use Rattle.manual.specs.Addresses.{address}
-use Rattle.manual.specs.Locations.{Location, mmxRegister, integerRegister, memory, rmOf, liesInside}
+use Rattle.manual.specs.Locations.{Location, mmxRegister, integerRegister, memory, rmOf, liesInside, missOf}
 use Rattle.machine.specs.declared.operands.Spot.{Spot}
 use Rattle.machine.specs.declared.operands.Spot.the-variants.{Mmx, Integer, Bytes, Refused}
 
@@ -27,7 +26,7 @@ otherOf number w = rmOf (fileIn (formOf number .operands)) (memorySize (formOf n
 abbrev pub spotOf : List ℕ → ℕ → Location → Spot
 spotOf integers room (mmxRegister k) = Mmx k
 spotOf integers room (integerRegister k) = Integer k
-spotOf integers room (memory a size) = cond (liesInside room size (address integers a)) (Bytes (address integers a) size) (Refused outsideMemory)
+spotOf integers room (memory a size) = cond (liesInside room size (address integers a)) (Bytes (address integers a) size) (Refused (missOf a))
 
 -- the register that it names is there, and a refusal has a number
 abbrev pub Named : Spot → Type 0

@@ -11,13 +11,12 @@ use Rattle.codec.specs.Opcodes.{formAt, operationAt}
 use Rattle.codec.specs.declared.Instruction.{Instruction}
 use Rattle.codec.specs.declared.Kind.{Kind}
 use Rattle.codec.proofs.Bytes.{form-passes}
-use Rattle.manual.specs.Refusals.{outsideMemory}
 use Rattle.manual.specs.State.{State}
 use Rattle.manual.specs.Places.{Place, integer, look}
 use Rattle.manual.specs.Addresses.{address, addressOf}
 use Rattle.manual.specs.declared.Marks.{Marks}
 use Rattle.manual.specs.Kinds.{heeded}
-use Rattle.manual.specs.Locations.{registerIn, rmOf, atEdi, locate, bytesFrom, liesInside, placesOf}
+use Rattle.manual.specs.Locations.{registerIn, rmOf, atEdi, locate, bytesFrom, liesInside, missOf, placesOf}
 use Rattle.manual.specs.Effects.{placesOfAll, addressRegistersOf, unlessMarked, planOn, via, footprintOf}
 use Rattle.manual.specs.Instructions.{sources, targets, effectBy, effectOf, footprint}
 use Rattle.manual.proofs.Marking.{by-marks}
@@ -99,11 +98,11 @@ module _ (s : State) (i : Instruction) where
   register-before Q integerFile k (done qs) h = h
   register-before Q integerFile k (refused n) h = tt
 
-  bytes-before : (t : Bool) (size a : ℕ) (rest : Result (List Place)) → Each (AtMost false) rest
-      → Each Range (before (cond t (done (bytesFrom a size)) (refused outsideMemory)) rest)
-  bytes-before true size a (done qs) h = subst Range (sym (nothing-after (bytesFrom a size) qs h)) (range-bytes size a)
-  bytes-before true size a (refused n) h = tt
-  bytes-before false size a rest h = tt
+  bytes-before : (t : Bool) (size a miss : ℕ) (rest : Result (List Place)) → Each (AtMost false) rest
+      → Each Range (before (cond t (done (bytesFrom a size)) (refused miss)) rest)
+  bytes-before true size a miss (done qs) h = subst Range (sym (nothing-after (bytesFrom a size) qs h)) (range-bytes size a)
+  bytes-before true size a miss (refused n) h = tt
+  bytes-before false size a miss rest h = tt
 
   none-is-range : (o : Result (List Place)) → Each (AtMost false) o → Each Range o
   none-is-range (done ps) e = subst Range (sym e) no-bytes
@@ -116,7 +115,7 @@ module _ (s : State) (i : Instruction) where
       let ranged = none-is-range rest none in
       by-place (λ f x. Each Range (before (placesOf s x) rest)) file size (i .operand)
       (register-before Range mmxFile (i .operand .rm) rest ranged) (register-before Range integerFile (i .operand .rm) rest ranged)
-      (λ f. bytes-before (liesInside (length (s .memory)) size a) size a rest none)
+      (λ f. bytes-before (liesInside (length (s .memory)) size a) size a (missOf (addressOf (i .operand))) rest none)
 
   at-most : (one : Bool) (xs : List Slot) → atMost one xs ≡ true → Each (AtMost one) (places xs)
   at-most true [] e = no-bytes
@@ -131,7 +130,7 @@ module _ (s : State) (i : Instruction) where
   at-most true (mem size ∷ xs) e = other-before mmxFile size (places xs) (at-most false xs e)
   at-most true (edi size ∷ xs) e =
       let a = address (s .integers) atEdi in
-      bytes-before (liesInside (length (s .memory)) size a) size a (places xs) (at-most false xs e)
+      bytes-before (liesInside (length (s .memory)) size a) size a (missOf atEdi) (places xs) (at-most false xs e)
 
 -- a footprint whose reads and writes are each one range of bytes
 pub record OneRange (f : Footprint Place Kind) : Type 0 where

@@ -1,18 +1,18 @@
 -- Where the code finds the operand that r/m names: each law by cases on what it may be. Rules for the functions that locate it and go by its place.
 use Rattle.basis.specs.Names.{_≡_, Bool, true, false, cond, List, ℕ, _+_, _/_, _%_, _^_, _<_, eqb, leb}
-use Rattle.basis.proofs.Names.{sym, ap, subst, _∙_, arith, needs, eq-eqb, ne-eqb}
+use Rattle.basis.proofs.Names.{sym, ap, subst, _∙_, needs, eq-eqb, ne-eqb}
 use Rattle.codec.specs.Forms.{File, mmxFile, integerFile, memorySize}
 use Rattle.codec.specs.inner.Fields.{Registers}
 use Rattle.codec.specs.Table.{formOf}
 use Rattle.codec.specs.declared.Operand.{Operand}
-use Rattle.manual.specs.Refusals.{outsideMemory}
 use Rattle.manual.specs.Addresses.{address, addressOf}
-use Rattle.manual.specs.Locations.{Location, mmxRegister, integerRegister, memory, registerIn, rmOf, liesInside}
+use Rattle.manual.specs.Locations.{Location, mmxRegister, integerRegister, memory, registerIn, rmOf, liesInside, missOf}
 use Rattle.machine.specs.declared.operands.Spot.{Spot}
 use Rattle.machine.specs.declared.operands.Spot.the-variants.{Mmx, Integer, Bytes, Refused}
 use Rattle.machine.specs.inner.Spots.{fileIn, otherOf, spotOf, Named}
 use Rattle.machine.specs.inner.Ways.{isInteger, wayOf, hasOther}
 use Rattle.machine.specs.inner.Works.{Listed}
+use Rattle.machine.proofs.laws.misses.Missing.{miss-numbered}
 use Rattle.machine.proofs.laws.ways.Numbering.{other}
 
 -- what holds of a register of either file, and of so many bytes in memory, holds of the operand that r/m names
@@ -33,9 +33,9 @@ module _ (integers : List ℕ) (room : ℕ) where
       by-place (λ f x. Named (spotOf integers room x)) file size w r r
       (λ f. inside (liesInside room size (address integers (addressOf w))) (address integers (addressOf w)))
     where
-      inside : (u : Bool) (a : ℕ) → Named (cond u (Bytes a size) (Refused outsideMemory))
+      inside : (u : Bool) (a : ℕ) → Named (cond u (Bytes a size) (Refused (missOf (addressOf w))))
       inside true a = tt
-      inside false a = λ e. omega arith
+      inside false a = miss-numbered (addressOf w)
 
   module _ (entry : ℕ) (w : Operand) where
     abbrev form : ℕ
@@ -65,15 +65,15 @@ module _ (integers : List ℕ) (room : ℕ) where
 
       module _ (elsewhere : w .mode ≡ 3 → ⊥) (a : ℕ) (there : a ≡ address integers (addressOf w))
           (t : Bool) (test : t ≡ leb (a + entry / 2 ^ 16 % 256) room) where
-        tested : cond t (Bytes a (entry / 2 ^ 16 % 256)) (Refused outsideMemory) ≡ here
+        tested : cond t (Bytes a (entry / 2 ^ 16 % 256)) (Refused (missOf (addressOf w))) ≡ here
         unfolding rmOf
         tested = simp (ne-eqb (w .mode) 3 elsewhere, ← l .sized, ← there, ← test)
 
         pub spot-inside : t ≡ true → Bytes a (entry / 2 ^ 16 % 256) ≡ here
         spot-inside e = simp e at tested
 
-        pub spot-outside : t ≡ false → Refused outsideMemory ≡ here
-        spot-outside e = simp e at tested
+        pub spot-outside : (miss : ℕ) → t ≡ false → miss ≡ missOf (addressOf w) → Refused miss ≡ here
+        spot-outside miss e missed = ap Refused missed ∙ simp e at tested
 
 -- an answer that goes by the place of the operand
 pub register-mmx : (x : Spot) (k : ℕ) → Named x → x ≡ Mmx k → k < 8

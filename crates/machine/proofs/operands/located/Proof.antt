@@ -8,4 +8,4 @@ located-spec =
     tie.close
     (tie.spec
     (λ c κs. search locating) (λ c. search locating) (λ c. search locating) (λ c. search locating) (λ c κs. search locating) (λ c. search locating)
-    (λ c. search locating) (λ c κs. search locating) (λ c. search locating) (λ c. search locating))
+    (λ c κs. search locating) (λ c. search locating) (λ c κs. search locating) (λ c. search locating) (λ c. search locating))

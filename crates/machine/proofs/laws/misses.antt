@@ -1,0 +1,2 @@
+-- The rules for the refusal of a miss.
+pub mod Missing
