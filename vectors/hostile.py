@@ -11,7 +11,7 @@ SECOND_BYTES = bytes.fromhex('''
     60 61 62 63 67 6B 64 65 66 68 69 6A 6E 7E 6F 7F 71 72 73 74 75 76 77 D1 D2 D3 E1 E2 F1 F2 F3
     D5 E5 F5 D8 D9 DC DD E8 E9 EC ED DB DF EB EF F8 F9 FA FC FD FE
     F7 E7 E0 E3 C5 C4 EE DE EA DA D7 E4 18 F6 70 AE''')
-NAMES = ['done'] + [f'refused {number}' for number in range(1, 14)] + ['spent', 'none of these']
+NAMES = ['done'] + [f'refused {number}' for number in range(1, 15)] + ['spent', 'none of these']
 
 
 def random_field(dice, tag, count):

@@ -8,6 +8,7 @@ PREFIXES = bytes.fromhex('26 2E 36 3E 64 65 66 67 F0 F2 F3')
 SIZES = {'movd': 4, 'punpcklbw': 4, 'punpcklwd': 4, 'punpckldq': 4, 'pinsrw': 2}  # the bytes of a memory operand where they are not eight
 SILENT = ('prefetchnta', 'prefetcht0', 'prefetcht1', 'prefetcht2', 'sfence')
 EDI = INTEGERS.index('edi')
+STACK = ('esp', 'ebp')  # the base registers of an operand whose miss is 14
 
 # With one of these behind it, what can be completed to an instruction is one: EMMS; a register form, a listed digit of 71 to 73,
 # or any SIB byte, displacement and immediate; a memory form; SFENCE.
@@ -38,14 +39,17 @@ def mark_refusal(marks, instruction):
 
 
 def operand_refusal(emulator, instruction):
-    """10."""
+    """10 or 14. Which register is the base is capstone's knowledge."""
+    operand = memory_operand(instruction)
     if instruction.mnemonic == 'maskmovq':
-        address = emulator.integers()[EDI]
-    elif memory_operand(instruction) is None or instruction.mnemonic in SILENT:
+        address, base = emulator.integers()[EDI], 'edi'
+    elif operand is None or instruction.mnemonic in SILENT:
         return None
     else:
-        address = emulator.address(instruction)
-    return 10 if address + SIZES.get(instruction.mnemonic, 8) > emulator.length else None
+        address, base = emulator.address(instruction), operand.base and instruction.reg_name(operand.base)
+    if address + SIZES.get(instruction.mnemonic, 8) <= emulator.length:
+        return None
+    return 14 if base in STACK else 10
 
 
 def run(page, watch=None):

@@ -51,6 +51,14 @@ fn store_footprints() {
     footprint_of(b"MOVNTQ [-8], mm0: ", b"\x0f\xe7\x40\xf8");
 }
 
+fn stack_footprints() {
+    footprint_of(b"MOVQ mm0, [ebp]: ", b"\x0f\x6f\x45\x00");
+    footprint_of(b"MOVQ mm0, [ebp - 5]: ", b"\x0f\x6f\x45\xfb");
+    footprint_of(b"MOVQ [esp - 5], mm0: ", b"\x0f\x7f\x44\x24\xfb");
+    footprint_of(b"MOVQ mm0, [eax + ebp - 5]: ", b"\x0f\x6f\x44\x28\xfb");
+    footprint_of(b"PREFETCHT0 [esp - 5]: ", b"\x0f\x18\x4c\x24\xfb");
+}
+
 fn silent_footprints() {
     footprint_of(b"PREFETCHT0 [eax + ecx * 2 + 4]: ", b"\x0f\x18\x4c\x48\x04");
     footprint_of(b"PREFETCHT1 [-8]: ", b"\x0f\x18\x50\xf8");
@@ -64,5 +72,6 @@ pub(crate) fn all() {
     footprints();
     pick_footprints();
     store_footprints();
+    stack_footprints();
     silent_footprints();
 }

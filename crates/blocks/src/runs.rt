@@ -1,4 +1,4 @@
-// Blocks through `run`: the customer's example, the edges of document 01, and the instructions of manual 000.
+// Blocks through `run`: the customer's example, the edges of document 01, the instructions of manual 000, and operands by ESP and EBP.
 use crate::machines::FIRST;
 use crate::machines::START;
 use crate::machines::machine_with;
@@ -109,6 +109,54 @@ fn addresses() {
     );
 }
 
+// Operands that miss the memory, by a base register of the stack and by others; ESP and EBP are 4.
+fn stack_misses() {
+    edge(b"MOVQ mm0, [ebp]: ", b"\x0f\x6f\x45\x00", START, BUDGET);
+    edge(
+        b"MOVQ mm0, [1], no base: ",
+        b"\x0f\x6f\x05\x01\x00\x00\x00",
+        START,
+        BUDGET,
+    );
+    edge(
+        b"MOVQ mm0, [eax + ebp]: ",
+        b"\x0f\x6f\x04\x28",
+        START,
+        BUDGET,
+    );
+    edge(b"MOVQ mm0, [esp]: ", b"\x0f\x6f\x04\x24", START, BUDGET);
+    edge(
+        b"MOVQ mm0, [0 + ebp * 1], no base: ",
+        b"\x0f\x6f\x04\x2d\x00\x00\x00\x00",
+        START,
+        BUDGET,
+    );
+    edge(
+        b"MOVQ mm0, [esp + ebp]: ",
+        b"\x0f\x6f\x04\x2c",
+        START,
+        BUDGET,
+    );
+}
+
+fn stack_others() {
+    edge(b"MOVQ [ebp], mm0: ", b"\x0f\x7f\x45\x00", START, BUDGET);
+    edge(b"MOVQ [esp], mm0: ", b"\x0f\x7f\x04\x24", START, BUDGET);
+    edge(b"MOVQ [ebp - 4], mm0: ", b"\x0f\x7f\x45\xfc", START, BUDGET);
+    edge(
+        b"PREFETCHNTA [ebp + 127]: ",
+        b"\x0f\x18\x45\x7f",
+        START,
+        BUDGET,
+    );
+    barred(
+        b"MOVQ mm0, [ebp] with TS: ",
+        b"\x0f\x6f\x45\x00",
+        false,
+        true,
+    );
+}
+
 fn picks() {
     edge(b"PINSRW mm0, ecx, 1: ", b"\x0f\xc4\xc1\x01", START, BUDGET);
     edge(b"PINSRW mm0, [6], 4: ", b"\x0f\xc4\x00\x04", 6, BUDGET);
@@ -212,6 +260,8 @@ pub(crate) fn all() {
     examples();
     operands();
     addresses();
+    stack_misses();
+    stack_others();
     picks();
     stores();
     silences();

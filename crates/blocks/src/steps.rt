@@ -36,6 +36,7 @@ fn steps() {
         0,
     );
     step_at(b"MASKMOVQ mm0, mm1 at 16 in a step: ", b"\x0f\xf7\xc1", 0);
+    step_at(b"MOVQ [esp], mm0 in a step: ", b"\x0f\x7f\x04\x24", 0);
 }
 
 fn stopped_steps() {

@@ -42,7 +42,7 @@ fn is_untouched(text: &[u8], from: usize) -> bool {
 
 // The answer that a file gets.
 fn answer_to(file: &[u8]) -> usize
-    ensures { λ r. ⌜ r < 16 ⌝ }
+    ensures { λ r. ⌜ r < 17 ⌝ }
 {
     let mut text = [FILL; printout::LONGEST_REPORT];
     let written = player::play(file, &mut text);
