@@ -8,7 +8,7 @@ pub use lib.Dec.{T}
 pub use lib.IntN.{natAbs, negℤ}
 pub use lib.ListN.{List·getD-eq-default, drop-of-length-le, length-append, length-drop, length-map, length-replicate, length-set, length-take, take-append-drop}
 pub use lib.Pow.{field, high, low, mod-mod-pow, mod-pow-add, ones-lt, ones-split, ones-sub-lt, pow-add, pow-lt, pow-mono, pow-pos, shl-exact, shl-shr, shr-lt, shr-shr}
-pub use lib.Seq.{drop-append-le, drop-append-seam, drop-at, drop-cons, drop-drop, drop-length, getD-drop, getD-set-other, length-sets, length-take-le, set-comm, sets-eq, take-add, take-all, take-append-le, take-append-seam, take-at, take-length, take-suc, take-suc-set}
+pub use lib.Seq.{drop-append-le, drop-append-seam, drop-at, drop-cons, drop-drop, drop-length, getD-drop, getD-set-other, length-sets, length-take-le, set-comm, sets-eq, take-add, take-all, take-append-le, take-append-seam, take-at, take-length, take-set-le, take-suc, take-suc-set}
 pub use lib.Signed.{mag, nonNeg}
 pub use mathlib.Core.Bool.{and-false, and-true, false≢true, or-false, or-true}
 pub use mathlib.Core.List.{List·Memᴰ·append-cases, List·Memᴰ·eq-of-singleton, List·Memᴰ·head, List·Memᴰ·not-nil, List·Memᴰ·tail, Memᴰ·append-left, Memᴰ·append-right, Memᴰ·map, append-assoc, append-nil}

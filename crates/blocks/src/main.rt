@@ -1,5 +1,6 @@
-// Blocks through `run`: the customer's example, the edges of documents 01 and 02; single steps, footprints and meetings; and then the block on standard
-// input.
+// Blocks through `run`: the customer's example, the edges of documents 01 and 02; single steps; blocks and steps over a floor; footprints and
+// meetings; and then the block on standard input.
+mod floors;
 mod footprints;
 mod machines;
 mod meetings;
@@ -20,6 +21,7 @@ const MEMORY: usize = 256;
 fn main() {
     runs::all();
     steps::all();
+    floors::all();
     footprints::all();
     meetings::all();
     let mut space = io::buffer();

@@ -3,26 +3,31 @@ use crate::machines::FIRST;
 use crate::machines::START;
 use crate::machines::machine_with;
 use crate::texts::decimal;
-use crate::texts::hexadecimal;
 use crate::texts::show_end;
-use crate::texts::show_tags;
+use crate::texts::show_left;
 use crate::texts::text;
 use machine::Machine;
 
-// The budget of the page program.
+// The budget and the floor of the page program.
 pub(crate) const BUDGET: u32 = 4096;
+
+pub(crate) const FLOOR: usize = 0;
 
 // One byte more than a code and a memory may have.
 const TOO_LONG_CODE: usize = codec::refusals::LONGEST_CODE + 1;
 
-const TOO_LONG_MEMORY: usize = machine::refusals::LONGEST_MEMORY + 1;
+pub(crate) const TOO_LONG_MEMORY: usize = machine::refusals::LONGEST_MEMORY + 1;
 
-// The bytes of a quadword.
-const QUADWORD: usize = 8;
-
-// Runs a block, and shows the answer, MM0, the tag mark and the first eight bytes of the memory as a number.
-pub(crate) fn play(title: &[u8], machine: Machine, code: &[u8], memory: &mut [u8], budget: u32) {
-    let ran = machine.run(code, memory, budget);
+// Runs a block over a floor, and shows the answer and what is left.
+pub(crate) fn play_over(
+    title: &[u8],
+    machine: Machine,
+    code: &[u8],
+    memory: &mut [u8],
+    floor: usize,
+    budget: u32,
+) {
+    let ran = machine.run(code, memory, floor, budget);
     let end = ran.end;
     let left = ran.machine;
     text(title);
@@ -30,12 +35,11 @@ pub(crate) fn play(title: &[u8], machine: Machine, code: &[u8], memory: &mut [u8
     decimal(ran.count as u64);
     text(b" at ");
     decimal(ran.at as u64);
-    text(b", mm0 ");
-    hexadecimal(left.mmx[0]);
-    show_tags(left.marks.valid);
-    text(b", memory ");
-    hexadecimal(words::load(memory, 0, QUADWORD));
-    text(b"\n");
+    show_left(left, memory);
+}
+
+pub(crate) fn play(title: &[u8], machine: Machine, code: &[u8], memory: &mut [u8], budget: u32) {
+    play_over(title, machine, code, memory, FLOOR, budget);
 }
 
 // A block in a memory of eight bytes.

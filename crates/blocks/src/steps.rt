@@ -3,6 +3,7 @@ use crate::machines::FIRST;
 use crate::machines::START;
 use crate::machines::machine_with;
 use crate::machines::stopped_machine;
+use crate::runs::FLOOR;
 use crate::texts::show_step;
 use crate::texts::show_tags;
 use crate::texts::text;
@@ -10,7 +11,7 @@ use crate::texts::text;
 // One step at a position.
 fn step_at(title: &[u8], code: &[u8], at: usize) {
     let mut memory = [1u8, 2, 3, 4, 5, 6, 7, 8];
-    let stepped = machine_with(FIRST, START, false, false).step(code, at, &mut memory);
+    let stepped = machine_with(FIRST, START, false, false).step(code, at, &mut memory, FLOOR);
     let answer = stepped.answer;
     show_step(title, answer, stepped.at);
     text(b"\n");
@@ -19,7 +20,7 @@ fn step_at(title: &[u8], code: &[u8], at: usize) {
 // One step with every control mark, and the tag mark that it leaves.
 fn stopped_step(title: &[u8], code: &[u8], valid: bool) {
     let mut memory = [1u8, 2, 3, 4, 5, 6, 7, 8];
-    let stepped = stopped_machine(valid).step(code, 0, &mut memory);
+    let stepped = stopped_machine(valid).step(code, 0, &mut memory, FLOOR);
     let answer = stepped.answer;
     let left = stepped.machine;
     show_step(title, answer, stepped.at);

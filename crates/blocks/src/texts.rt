@@ -2,11 +2,15 @@
 use libc::STDOUT_FILENO;
 use machine::End;
 use machine::Footprint;
+use machine::Machine;
 use machine::Places;
 use machine::Taken;
 use machine::Tracing;
 
 const DIGITS: usize = 16;
+
+// The bytes of a quadword.
+const QUADWORD: usize = 8;
 
 pub(crate) fn text(bytes: &[u8]) {
     io::write_all(STDOUT_FILENO, bytes);
@@ -39,6 +43,24 @@ pub(crate) fn show_tags(valid: bool) {
     } else {
         text(b" empty");
     }
+}
+
+// The first eight bytes of a memory as a number, or all that it has.
+fn first_bytes(memory: &[u8]) -> u64 {
+    if memory.len() < QUADWORD {
+        return words::load(memory, 0, memory.len());
+    }
+    words::load(memory, 0, QUADWORD)
+}
+
+// What a run or a step leaves: MM0, the tag mark and the first bytes of the memory.
+pub(crate) fn show_left(left: Machine, memory: &[u8]) {
+    text(b", mm0 ");
+    hexadecimal(left.mmx[0]);
+    show_tags(left.marks.valid);
+    text(b", memory ");
+    hexadecimal(first_bytes(memory));
+    text(b"\n");
 }
 
 // What a step came to, and the position that it hands back.

@@ -21,8 +21,8 @@ use Rattle.machine.proofs.Machine.footprint.Kinds as footprint-kinds
 use Rattle.machine.proofs.meetings.meets.Reads as meets-reads
 use Rattle.machine.proofs.meetings.meets.Kinds as meets-kinds
 
--- machine.run(code, memory, budget) handed back `answer`, and left `after` in the memory
-pub record RunCall (machine : Machine) (code memory : List ℕ) (budget : ℕ) (answer : Ran) (after : List ℕ) : Type 1 where
+-- machine.run(code, memory, floor, budget) handed back `answer`, and left `after` in the memory
+pub record RunCall (machine : Machine) (code memory : List ℕ) (floor budget : ℕ) (answer : Ran) (after : List ℕ) : Type 1 where
   pub κs : Lfts 2
   pub given : Dens κs run-kinds.ps
   pub exit : AtExit (endedOf 2 run-kinds.ps run-kinds.r) κs
@@ -30,7 +30,8 @@ pub record RunCall (machine : Machine) (code memory : List ℕ) (budget : ℕ) (
   pub with-machine : given .0 ≡ machine
   pub with-code : now (given .1 .0) ≡ code
   pub with-memory : now (given .1 .1 .0) ≡ memory
-  pub with-budget : given .1 .1 .1 .0 ≡ budget
+  pub with-floor : given .1 .1 .1 .0 ≡ floor
+  pub with-budget : given .1 .1 .1 .1 .0 ≡ budget
   pub leaves : now (exit .1 .1 .0) ≡ after
 
 -- machine.footprint(code, at, memory) handed back `answer`
@@ -55,12 +56,13 @@ pub record MeetsCall (first second : Footprint) (answer : Bool) : Type 1 where
 
 -- what each contract says of its call
 
-pub run-says : (machine : Machine) (code memory : List ℕ) (budget : ℕ) (answer : Ran) (after : List ℕ) → RunCall machine code memory budget answer after
-    → paperOfRun answer after ≡ runOf code budget (stateOf machine memory)
-run-says machine code memory budget answer after c =
+pub run-says : (machine : Machine) (code memory : List ℕ) (floor budget : ℕ) (answer : Ran) (after : List ℕ) → RunCall machine code memory floor budget answer after
+    → paperOfRun answer after ≡ runOf floor code budget (stateOf machine memory)
+run-says machine code memory floor budget answer after c =
     ap (paperOfRun answer) (sym (c .leaves)) ∙ c .met
-    ∙ ap₂ (λ (x : List ℕ) (n : ℕ). runOf x n (stateOf (c .given .0) (now (c .given .1 .1 .0)))) (c .with-code) (c .with-budget)
-    ∙ ap₂ (λ (m : Machine) (x : List ℕ). runOf code budget (stateOf m x)) (c .with-machine) (c .with-memory)
+    ∙ ap₂ (λ (f n : ℕ). runOf f (now (c .given .1 .0)) n (stateOf (c .given .0) (now (c .given .1 .1 .0)))) (c .with-floor) (c .with-budget)
+    ∙ ap (λ (x : List ℕ). runOf floor x budget (stateOf (c .given .0) (now (c .given .1 .1 .0)))) (c .with-code)
+    ∙ ap₂ (λ (m : Machine) (x : List ℕ). runOf floor code budget (stateOf m x)) (c .with-machine) (c .with-memory)
 
 pub footprint-says : (machine : Machine) (code : List ℕ) (at : ℕ) (memory : List ℕ) (answer : Tracing) → FootprintCall machine code at memory answer
     → paperOfFootprint answer ≡ maskedAt code at (stateOf machine memory)
@@ -78,17 +80,18 @@ meets-says first second answer c = c .met ∙ ap₂ meet (c .with-first) (c .wit
 abbrev lent : List ℕ → RefT (List ℕ)
 lent bytes = record { ptr = (0, 0); name = 0; now = bytes }
 
-pub run-there : (machine : Machine) (code memory : List ℕ) (budget : ℕ) (answer : Ran) (after : List ℕ)
-    → paperOfRun answer after ≡ runOf code budget (stateOf machine memory) → RunCall machine code memory budget answer after
-run-there machine code memory budget answer after e =
+pub run-there : (machine : Machine) (code memory : List ℕ) (floor budget : ℕ) (answer : Ran) (after : List ℕ)
+    → paperOfRun answer after ≡ runOf floor code budget (stateOf machine memory) → RunCall machine code memory floor budget answer after
+run-there machine code memory floor budget answer after e =
     record {
       κs = ([], ([], tt));
-      given = (machine, (lent code, (lent memory, (budget, tt))));
-      exit = (machine, (lent code, (lent after, (budget, tt))));
+      given = (machine, (lent code, (lent memory, (floor, (budget, tt)))));
+      exit = (machine, (lent code, (lent after, (floor, (budget, tt)))));
       met = e;
       with-machine = refl;
       with-code = refl;
       with-memory = refl;
+      with-floor = refl;
       with-budget = refl;
       leaves = refl;
     }

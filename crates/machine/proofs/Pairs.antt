@@ -31,10 +31,10 @@ use Rattle.machine.proofs.Positions.{ranged-run}
 -- two instructions of the block meet in its run: by their places, and by the program's test
 
 abbrev MeetInRun : ℕ → ℕ → Type 0
-MeetInRun i j = Meets (footprintInRun block start i) (footprintInRun block start j)
+MeetInRun i j = Meets (footprintInRun 0 block start i) (footprintInRun 0 block start j)
 
 abbrev meetInRun : ℕ → ℕ → Bool
-meetInRun i j = meetTest (footprintInRun block start i) (footprintInRun block start j)
+meetInRun i j = meetTest (footprintInRun 0 block start i) (footprintInRun 0 block start j)
 
 -- the later ones from j on, so many, that meet i
 abbrev meetingWith : ℕ → ℕ → ℕ → List (ℕ × ℕ)
@@ -67,11 +67,11 @@ allowed-new =
 pub allowed-keeps : Keeps 5 allowed MeetInRun
 allowed-keeps i j p q earlier j-in p-in q-in at-p at-q m =
     keeps-unturned meetInRun allowed (found .unturned) i j p q earlier j-in p-in q-in at-p at-q
-    (meet-test-exactly (footprintInRun block start i) (footprintInRun block start j) (ranged-run block start i) (ranged-run block start j) .1 m)
+    (meet-test-exactly (footprintInRun 0 block start i) (footprintInRun 0 block start j) (ranged-run 0 block start i) (ranged-run 0 block start j) .1 m)
 
 -- so demand 3 says what it leaves, and its run is not looked at
-pub allowed-leaves : runOf (rearranged read block allowed) 4096 start ≡ finished 17 5 final
-allowed-leaves = demand-3 block allowed 4096 17 5 start final (computed .block) allowed-new allowed-keeps
+pub allowed-leaves : runOf 0 (rearranged read block allowed) 4096 start ≡ finished 17 5 final
+allowed-leaves = demand-3 0 block allowed 4096 17 5 start final (computed .block) allowed-new allowed-keeps
 
 -- the forbidden order is one, and turns 2 and 4 round
 pub forbidden-new : NewOrder 5 forbidden
@@ -82,5 +82,5 @@ forbidden-new =
 pub forbidden-turns : Keeps 5 forbidden MeetInRun → ⊥
 forbidden-turns keeps =
     let m : MeetInRun 2 4 =
-    meet-test-exactly (footprintInRun block start 2) (footprintInRun block start 4) (ranged-run block start 2) (ranged-run block start 4) .0 (found .turned) in
+    meet-test-exactly (footprintInRun 0 block start 2) (footprintInRun 0 block start 4) (ranged-run 0 block start 2) (ranged-run 0 block start 4) .0 (found .turned) in
     omega (arith, keeps 2 4 4 3 (omega arith) (omega arith) (omega arith) (omega arith) refl refl m)

@@ -19,19 +19,19 @@ use Rattle.machine.proofs.laws.meetings.Ranges.{OneRange, RangedFootpri
 use Rattle.machine.proofs.laws.meetings.Masking.{byte-masked}
 use Rattle.machine.proofs.laws.meetings.Meeting.{meet-exactly}
 
-ranged-reading : (o : Result (Fetched Instruction)) (s : State) → RangedFootprint (andThen o (λ r. footprint (r .instruction) s))
+ranged-reading : (o : Result (Fetched Instruction)) (s : State) → RangedFootprint (andThen o (λ r. footprint 0 (r .instruction) s))
 ranged-reading (done r) s = ranged s (r .instruction)
 ranged-reading (refused n) s = tt
 
-ranged-at : (code : List ℕ) (at : ℕ) (s : State) → RangedFootprint (footprintAt code at s)
+ranged-at : (code : List ℕ) (at : ℕ) (s : State) → RangedFootprint (footprintAt 0 code at s)
 unfolding footprintAt
-ranged-at code at s = ranged-reading (instructionAt code at s) s
+ranged-at code at s = ranged-reading (instructionAt 0 code at s) s
 
 -- a byte lies in the range of these places
 abbrev pub Covers : Places → ℕ → Type 0
 Covers p a = (p .start ≤ a) × (a < p .start + p .length)
 
-module _ (code : List ℕ) (at : ℕ) (s : State) (f : places.Footprint Place Kind) (e : footprintAt code at s ≡ done f) where
+module _ (code : List ℕ) (at : ℕ) (s : State) (f : places.Footprint Place Kind) (e : footprintAt 0 code at s ≡ done f) where
   one-range : OneRange f
   one-range = subst RangedFootprint e (ranged-at code at s)
 
@@ -44,9 +44,9 @@ module _ (code : List ℕ) (at : ℕ) (s : State) (f : places.Footprint Place Ki
 
 -- the footprints of two steps, wherever they stand
 pub meet-at : (code code′ : List ℕ) (at at′ : ℕ) (s s′ : State) (f g : places.Footprint Place Kind)
-    → footprintAt code at s ≡ done f → footprintAt code′ at′ s′ ≡ done g → (meet (masked f) (masked g) ≡ true) ↔ Meets (done f) (done g)
+    → footprintAt 0 code at s ≡ done f → footprintAt 0 code′ at′ s′ ≡ done g → (meet (masked f) (masked g) ≡ true) ↔ Meets (done f) (done g)
 meet-at code code′ at at′ s s′ f g ef eg = meet-exactly f g (one-range code at s f ef) (one-range code′ at′ s′ g eg)
 
 -- and of the step that a run has come to
-pub ranged-run : (code : List ℕ) (start : State) (k : ℕ) → RangedFootprint (footprintInRun code start k)
-ranged-run code start k = let answer = runOf code k start in ranged-at code (positionReached answer) (stateReached answer)
+pub ranged-run : (floor : ℕ) (code : List ℕ) (start : State) (k : ℕ) → RangedFootprint (footprintInRun floor code start k)
+ranged-run floor code start k = let answer = runOf floor code k start in ranged-at code (positionReached answer) (stateReached answer)

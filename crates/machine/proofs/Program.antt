@@ -34,24 +34,24 @@ position-handed Done at count s = refl
 position-handed Spent at count s = refl
 position-handed (Refused n) at count s = refl
 
-state-handed : (e : End) (at count : ℕ) (s : State) → stateReached (paperOfEnd e at count s) ≡ s
+pub state-handed : (e : End) (at count : ℕ) (s : State) → stateReached (paperOfEnd e at count s) ≡ s
 state-handed Done at count s = refl
 state-handed Spent at count s = refl
 state-handed (Refused n) at count s = refl
 
-module _ (machine : Machine) (code memory : List ℕ) (k : ℕ) (answer : Ran) (after : List ℕ) (call : RunCall machine code memory k answer after) where
-  called : runOf code k (stateOf machine memory) ≡ paperOfRun answer after
-  called = sym (run-says machine code memory k answer after call)
+module _ (machine : Machine) (code memory : List ℕ) (floor k : ℕ) (answer : Ran) (after : List ℕ) (call : RunCall machine code memory floor k answer after) where
+  called : runOf floor code k (stateOf machine memory) ≡ paperOfRun answer after
+  called = sym (run-says machine code memory floor k answer after call)
 
-  position-called : positionInRun code (stateOf machine memory) k ≡ answer .at
+  position-called : positionInRun floor code (stateOf machine memory) k ≡ answer .at
   position-called = ap positionReached called ∙ position-handed (answer .end) (answer .at) (answer .count) (stateOf (answer .machine) after)
 
-  state-called : stateReached (runOf code k (stateOf machine memory)) ≡ stateOf (answer .machine) after
+  state-called : stateReached (runOf floor code k (stateOf machine memory)) ≡ stateOf (answer .machine) after
   state-called = ap stateReached called ∙ state-handed (answer .end) (answer .at) (answer .count) (stateOf (answer .machine) after)
 
   -- so its footprint there is that of the instruction in the run
-  footprint-called : footprintInRun code (stateOf machine memory) k ≡ footprintAt code (answer .at) (stateOf (answer .machine) after)
-  footprint-called = ap₂ (footprintAt code) position-called state-called
+  footprint-called : footprintInRun floor code (stateOf machine memory) k ≡ footprintAt 0 code (answer .at) (stateOf (answer .machine) after)
+  footprint-called = ap₂ (footprintAt 0 code) position-called state-called
 
 -- the program's test of two footprints is its test of what it handed out of them
 handed-test : (x y : Result (places.Footprint Place Kind)) (f g : Footprint) → mapResult masked x ≡ done f → mapResult masked y ≡ done g → meetTest x y ≡ meet f g
@@ -62,18 +62,18 @@ handed-test (refused n) y f g ex ey = absurd (false≢true (cc))
 -- What a studio has in hand of a block: a run of it that was done; for each k up to the count, a run of k instructions from the same start; for
 -- each k below it, the footprint handed out at the position, on the machine and over the memory that this run handed back; and for each pair of
 -- them whether they meet.
-pub record Recorded (machine : Machine) (code memory : List ℕ) (budget : ℕ) (whole : Ran) (after : List ℕ) : Type 1 where
-  pub ran : RunCall machine code memory budget whole after
+pub record Recorded (machine : Machine) (code memory : List ℕ) (floor budget : ℕ) (whole : Ran) (after : List ℕ) : Type 1 where
+  pub ran : RunCall machine code memory floor budget whole after
   pub ended : whole .end ≡ Done
   pub runs : ℕ → Ran
   pub memories : ℕ → List ℕ
-  pub run-of : (k : ℕ) → k ≤ whole .count → RunCall machine code memory k (runs k) (memories k)
+  pub run-of : (k : ℕ) → k ≤ whole .count → RunCall machine code memory floor k (runs k) (memories k)
   pub footprints : ℕ → Footprint
   pub footprint-of : (k : ℕ) → k < whole .count → FootprintCall (runs k .machine) code (runs k .at) (memories k) (Traced (footprints k))
   pub meeting : ℕ → ℕ → Bool
   pub meeting-of : (i j : ℕ) → i < j → j < whole .count → MeetsCall (footprints i) (footprints j) (meeting i j)
 
-module _ (machine : Machine) (code memory : List ℕ) (budget : ℕ) (whole : Ran) (after : List ℕ) (known : Recorded machine code memory budget whole after) where
+module _ (machine : Machine) (code memory : List ℕ) (floor budget : ℕ) (whole : Ran) (after : List ℕ) (known : Recorded machine code memory floor budget whole after) where
   -- the block in a new order: of each instruction the bytes from where the run before it came to, to where the run with it did
   abbrev pub moved : List ℕ → List ℕ
   moved order = flatten (map (λ k. part code (known .runs k .at) (known .runs (suc k) .at)) order)
@@ -81,21 +81,21 @@ module _ (machine : Machine) (code memory : List ℕ) (budget : ℕ) (whole : Ra
   abbrev start : State
   start = stateOf machine memory
 
-  finishes : runOf code budget start ≡ finished (whole .at) (whole .count) (stateOf (whole .machine) after)
-  finishes = sym (run-says machine code memory budget whole after (known .ran)) ∙ ap (λ e. paperOfEnd e (whole .at) (whole .count) (stateOf (whole .machine) after)) (known .ended)
+  finishes : runOf floor code budget start ≡ finished (whole .at) (whole .count) (stateOf (whole .machine) after)
+  finishes = sym (run-says machine code memory floor budget whole after (known .ran)) ∙ ap (λ e. paperOfEnd e (whole .at) (whole .count) (stateOf (whole .machine) after)) (known .ended)
 
-  position-of : (k : ℕ) → k ≤ whole .count → positionInRun code start k ≡ known .runs k .at
-  position-of k b = position-called machine code memory k (known .runs k) (known .memories k) (known .run-of k b)
+  position-of : (k : ℕ) → k ≤ whole .count → positionInRun floor code start k ≡ known .runs k .at
+  position-of k b = position-called machine code memory floor k (known .runs k) (known .memories k) (known .run-of k b)
 
-  masked-footprint : (k : ℕ) → k < whole .count → mapResult masked (footprintInRun code start k) ≡ done (known .footprints k)
+  masked-footprint : (k : ℕ) → k < whole .count → mapResult masked (footprintInRun floor code start k) ≡ done (known .footprints k)
   unfolding maskedAt
   masked-footprint k b =
-      ap (mapResult masked) (footprint-called machine code memory k (known .runs k) (known .memories k) (known .run-of k (omega arith)))
+      ap (mapResult masked) (footprint-called machine code memory floor k (known .runs k) (known .memories k) (known .run-of k (omega arith)))
       ∙ sym (footprint-says (known .runs k .machine) code (known .runs k .at) (known .memories k) (Traced (known .footprints k)) (known .footprint-of k b))
 
   same-block : (order : List ℕ) → NewOrder (whole .count) order → rearranged read code order ≡ moved order
   same-block order new =
-      rearranged-parts code budget (whole .at) (whole .count) start (stateOf (whole .machine) after) finishes order new
+      rearranged-parts floor code budget (whole .at) (whole .count) start (stateOf (whole .machine) after) finishes order new
       ∙ ap flatten (map-alike _ _ order (λ k m.
       let b : k < whole .count = order-below (whole .count) order new k m in
       ap₂ (part code) (position-of k (omega arith)) (position-of (suc k) (omega arith))))
@@ -104,30 +104,30 @@ module _ (machine : Machine) (code memory : List ℕ) (budget : ℕ) (whole : Ra
   -- budget, is done too, with the same count, position, machine and memory
   pub demand-3-run : (order : List ℕ) (again : Ran) (after′ : List ℕ)
       → NewOrder (whole .count) order → Keeps (whole .count) order (λ i j. known .meeting i j ≡ true)
-      → RunCall machine (moved order) memory budget again after′
+      → RunCall machine (moved order) memory floor budget again after′
       → (again ≡ whole) × (after′ ≡ after)
   demand-3-run order again after′ new keeps call = run-given again whole after′ after
-      (run-says machine (moved order) memory budget again after′ call
-      ∙ ap (λ (c : List ℕ). runOf c budget start) (sym (same-block order new))
-      ∙ demand-3-tested code order budget (whole .at) (whole .count) start (stateOf (whole .machine) after) finishes new kept
-      ∙ sym finishes ∙ sym (run-says machine code memory budget whole after (known .ran)))
+      (run-says machine (moved order) memory floor budget again after′ call
+      ∙ ap (λ (c : List ℕ). runOf floor c budget start) (sym (same-block order new))
+      ∙ demand-3-tested floor code order budget (whole .at) (whole .count) start (stateOf (whole .machine) after) finishes new kept
+      ∙ sym finishes ∙ sym (run-says machine code memory floor budget whole after (known .ran)))
     where
-      kept : Keeps (whole .count) order (λ i j. meetTest (footprintInRun code start i) (footprintInRun code start j) ≡ true)
+      kept : Keeps (whole .count) order (λ i j. meetTest (footprintInRun floor code start i) (footprintInRun floor code start j) ≡ true)
       kept i j p q earlier j-in p-in q-in at-p at-q m =
           keeps i j p q earlier j-in p-in q-in at-p at-q
           (meets-says (known .footprints i) (known .footprints j) (known .meeting i j) (known .meeting-of i j earlier j-in)
-          ∙ sym (handed-test (footprintInRun code start i) (footprintInRun code start j) (known .footprints i) (known .footprints j) (masked-footprint i (omega arith)) (masked-footprint j j-in))
+          ∙ sym (handed-test (footprintInRun floor code start i) (footprintInRun floor code start j) (known .footprints i) (known .footprints j) (masked-footprint i (omega arith)) (masked-footprint j j-in))
           ∙ m)
 
 -- What is recorded can be had of every block whose run is done.
-module _ (machine : Machine) (code memory : List ℕ) (budget end total : ℕ) (final : State)
-    (h : runOf code budget (stateOf machine memory) ≡ finished end total final) where
+module _ (machine : Machine) (code memory : List ℕ) (floor budget end total : ℕ) (final : State)
+    (h : runOf floor code budget (stateOf machine memory) ≡ finished end total final) where
   -- what a run of so many instructions hands back
   abbrev handed : ℕ → After Ran
-  handed k = runBack (runOf code k (stateOf machine memory))
+  handed k = runBack (runOf floor code k (stateOf machine memory))
 
-  handed-run : (k : ℕ) → RunCall machine code memory k (handed k .answer) (handed k .memory)
-  handed-run k = run-there machine code memory k (handed k .answer) (handed k .memory) (run-handed (runOf code k (stateOf machine memory)))
+  handed-run : (k : ℕ) → RunCall machine code memory floor k (handed k .answer) (handed k .memory)
+  handed-run k = run-there machine code memory floor k (handed k .answer) (handed k .memory) (run-handed (runOf floor code k (stateOf machine memory)))
 
   -- the footprint that is handed out of a result (of a refusal, which there is none of below the count, this stands in)
   handedOut : Result (places.Footprint Place Kind) → Footprint
@@ -135,24 +135,24 @@ module _ (machine : Machine) (code memory : List ℕ) (budget end total : ℕ) (
   handedOut (refused n) = masked (record { reads = []; writes = []; kind = Ordinary })
 
   handed-footprint : (k : ℕ) → k < total
-      → FootprintCall (handed k .answer .machine) code (handed k .answer .at) (handed k .memory) (Traced (handedOut (footprintInRun code (stateOf machine memory) k)))
+      → FootprintCall (handed k .answer .machine) code (handed k .answer .at) (handed k .memory) (Traced (handedOut (footprintInRun floor code (stateOf machine memory) k)))
   unfolding handedOut maskedAt
   handed-footprint k b =
-      let (f, e) = has-footprint code budget end total (stateOf machine memory) final h k b in
+      let (f, e) = has-footprint floor code budget end total (stateOf machine memory) final h k b in
       footprint-there (handed k .answer .machine) code (handed k .answer .at) (handed k .memory) _
       (ap (λ o. done (handedOut o)) e
-      ∙ ap (mapResult masked) (sym e ∙ footprint-called machine code memory k (handed k .answer) (handed k .memory) (handed-run k)))
+      ∙ ap (mapResult masked) (sym e ∙ footprint-called machine code memory floor k (handed k .answer) (handed k .memory) (handed-run k)))
 
-  pub recorded : Recorded machine code memory budget (record { end = Done; at = end; count = total; machine = machineIn final }) (final .memory)
+  pub recorded : Recorded machine code memory floor budget (record { end = Done; at = end; count = total; machine = machineIn final }) (final .memory)
   recorded =
       record {
-        ran = run-there machine code memory budget _ _ (sym h);
+        ran = run-there machine code memory floor budget _ _ (sym h);
         ended = refl;
         runs = λ k. handed k .answer;
         memories = λ k. handed k .memory;
         run-of = λ k b. handed-run k;
-        footprints = λ k. handedOut (footprintInRun code (stateOf machine memory) k);
+        footprints = λ k. handedOut (footprintInRun floor code (stateOf machine memory) k);
         footprint-of = handed-footprint;
-        meeting = λ i j. meet (handedOut (footprintInRun code (stateOf machine memory) i)) (handedOut (footprintInRun code (stateOf machine memory) j));
+        meeting = λ i j. meet (handedOut (footprintInRun floor code (stateOf machine memory) i)) (handedOut (footprintInRun floor code (stateOf machine memory) j));
         meeting-of = λ i j earlier b. meets-there _ _;
       }

@@ -11,13 +11,13 @@ use Rattle.machine.specs.Footprints.{meetTest}
 use Rattle.machine.proofs.laws.meetings.Meeting.{meet-test-exactly}
 use Rattle.machine.proofs.Positions.{ranged-run}
 
-pub demand-3-tested : (code order : List ℕ) (budget end total : ℕ) (start final : State)
-    → runOf code budget start ≡ finished end total final
+pub demand-3-tested : (floor : ℕ) (code order : List ℕ) (budget end total : ℕ) (start final : State)
+    → runOf floor code budget start ≡ finished end total final
     → NewOrder total order
-    → Keeps total order (λ i j. meetTest (footprintInRun code start i) (footprintInRun code start j) ≡ true)
-    → runOf (rearranged read code order) budget start ≡ finished end total final
-demand-3-tested code order budget end total start final h new keeps =
-    demand-3 code order budget end total start final h new
+    → Keeps total order (λ i j. meetTest (footprintInRun floor code start i) (footprintInRun floor code start j) ≡ true)
+    → runOf floor (rearranged read code order) budget start ≡ finished end total final
+demand-3-tested floor code order budget end total start final h new keeps =
+    demand-3 floor code order budget end total start final h new
     (λ i j p q earlier j-in p-in q-in at-p at-q meets.
     keeps i j p q earlier j-in p-in q-in at-p at-q
-    (meet-test-exactly (footprintInRun code start i) (footprintInRun code start j) (ranged-run code start i) (ranged-run code start j) .1 meets))
+    (meet-test-exactly (footprintInRun floor code start i) (footprintInRun floor code start j) (ranged-run floor code start i) (ranged-run floor code start j) .1 meets))

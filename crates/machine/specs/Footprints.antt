@@ -54,9 +54,9 @@ setOf ps =
 abbrev pub masked : places.Footprint Place Kind → Footprint
 masked f = record { reads = setOf (f .reads); writes = setOf (f .writes); kind = f .kind }
 
--- what the footprint of the step at a position answers
+-- what the footprint of the step at a position answers: over floor 0
 unfoldable pub maskedAt : List ℕ → ℕ → State → Result Footprint
-maskedAt code at s = mapResult masked (footprintAt code at s)
+maskedAt code at s = mapResult masked (footprintAt 0 code at s)
 
 -- the paper's answer for each case of the footprint's
 abbrev pub paperOfFootprint : Tracing → Result Footprint

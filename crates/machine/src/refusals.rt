@@ -14,3 +14,7 @@ pub(crate) const IS_PENDING: u8 = 9;
 pub(crate) const OUTSIDE_MEMORY: u8 = 10;
 
 pub(crate) const OUTSIDE_BY_STACK: u8 = 14;
+
+pub(crate) const FLOOR_TOO_HIGH: u8 = 20;
+
+pub(crate) const BELOW_FLOOR: u8 = 21;

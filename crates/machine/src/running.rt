@@ -1,4 +1,5 @@
-// Runs of a machine by value: from a position on, from the code's start, and of one instruction.
+// Runs of a machine by value over a floor, below which no byte of the memory is written: from a position on, from the code's start, and of one
+// instruction.
 use crate::End;
 use crate::Machine;
 use crate::Ran;
@@ -6,6 +7,7 @@ use crate::Stepped;
 use crate::Taken;
 use crate::gathering;
 use crate::quick;
+use crate::refusals::FLOOR_TOO_HIGH;
 use crate::refusals::LONGEST_MEMORY;
 use crate::refusals::MEMORY_TOO_LONG;
 use crate::stepping;
@@ -23,10 +25,18 @@ ghost use Rattle.machine.specs.Runs.{paperOfRun};
 ghost use Rattle.machine.specs.inner.Runs.{remaining};
 
 impl Machine {
-    // The instructions from a position on, where memory and code are within their limits: steps over lent registers, as many as the budget has.
-    fn run_from(self, code: &[u8], start: usize, memory: &mut [u8], budget: u32) -> Ran
-        requires { ⌜ (length (now code) ≤ longestCode) × ((length (now memory) ≤ longestMemory) × (start ≤ length (now code))) ⌝ }
-        ensures { λ r. ⌜ paperOfRun r (now (memory .exit)) ≡ remaining budget (now (code .entry)) start 0 (stateOf self (now (memory .entry))) ⌝ }
+    // The instructions from a position on, where memory, floor and code are within their limits: steps over lent registers, as many as the budget
+    // has.
+    fn run_from(
+        self,
+        code: &[u8],
+        start: usize,
+        memory: &mut [u8],
+        floor: usize,
+        budget: u32,
+    ) -> Ran
+        requires { ⌜ (length (now code) ≤ longestCode) × ((length (now memory) ≤ longestMemory) × ((floor ≤ length (now memory)) × (start ≤ length (now code)))) ⌝ }
+        ensures { λ r. ⌜ paperOfRun r (now (memory .exit)) ≡ remaining floor budget (now (code .entry)) start 0 (stateOf self (now (memory .entry))) ⌝ }
     {
         let table = codec::table();
         let mut mmx = self.mmx;
@@ -59,6 +69,7 @@ impl Machine {
                 code,
                 at,
                 memory,
+                floor,
             );
             let refusal = moved.refusal;
             at = moved.next;
@@ -90,12 +101,20 @@ impl Machine {
     }
 
     // The instructions from position 0 on.
-    pub fn run(self, code: &[u8], memory: &mut [u8], budget: u32) -> Ran
-        ensures { λ r. ⌜ paperOfRun r (now (memory .exit)) ≡ runOf (now (code .entry)) budget (stateOf self (now (memory .entry))) ⌝ }
+    pub fn run(self, code: &[u8], memory: &mut [u8], floor: usize, budget: u32) -> Ran
+        ensures { λ r. ⌜ paperOfRun r (now (memory .exit)) ≡ runOf floor (now (code .entry)) budget (stateOf self (now (memory .entry))) ⌝ }
     {
         if LONGEST_MEMORY < memory.len() {
             return Ran {
                 end: End::Refused(MEMORY_TOO_LONG),
+                at: 0,
+                count: 0,
+                machine: self,
+            };
+        }
+        if memory.len() < floor {
+            return Ran {
+                end: End::Refused(FLOOR_TOO_HIGH),
                 at: 0,
                 count: 0,
                 machine: self,
@@ -109,16 +128,23 @@ impl Machine {
                 machine: self,
             };
         }
-        self.run_from(code, 0, memory, budget)
+        self.run_from(code, 0, memory, floor, budget)
     }
 
     // The instruction at a position.
-    pub fn step(self, code: &[u8], at: usize, memory: &mut [u8]) -> Stepped
-        ensures { λ r. ⌜ paperOfStep r (now (memory .exit)) ≡ stepAt (now (code .entry)) at (stateOf self (now (memory .entry))) ⌝ }
+    pub fn step(self, code: &[u8], at: usize, memory: &mut [u8], floor: usize) -> Stepped
+        ensures { λ r. ⌜ paperOfStep r (now (memory .exit)) ≡ stepAt floor (now (code .entry)) at (stateOf self (now (memory .entry))) ⌝ }
     {
         if LONGEST_MEMORY < memory.len() {
             return Stepped {
                 answer: Taken::Refused(MEMORY_TOO_LONG),
+                machine: self,
+                at: at,
+            };
+        }
+        if memory.len() < floor {
+            return Stepped {
+                answer: Taken::Refused(FLOOR_TOO_HIGH),
                 machine: self,
                 at: at,
             };
@@ -137,7 +163,7 @@ impl Machine {
                 at: at,
             };
         }
-        let ran = self.run_from(code, at, memory, 1);
+        let ran = self.run_from(code, at, memory, floor, 1);
         let machine = ran.machine;
         let end = ran.end;
         let answer = match end {

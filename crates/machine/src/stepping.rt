@@ -1,5 +1,6 @@
 // One step over lent registers.
 use crate::gathering;
+use crate::refusals::BELOW_FLOOR;
 ghost use Rattle.basis.specs.Names.{_≡_, _%_, _^_, _≤_, _<_, length, set};
 ghost use Rattle.codec.specs.Table.{opcodeTable};
 ghost use Rattle.codec.specs.Reads.{longestCode};
@@ -22,7 +23,8 @@ fn put_low(integers: &mut [u32; 8], register: usize, value: u64)
     integers[register] = (value % gathering::DOUBLEWORD_RANGE) as u32;
 }
 
-// The step at a position, where memory and code are within their limits, `bar` is the refusal of the control marks, or 0, and `valid` the tag mark.
+// The step at a position over a floor, where memory, floor and code are within their limits, `bar` is the refusal of the control marks, or 0, and
+// `valid` the tag mark.
 pub(crate) fn advance(
     table: &[u32; 256],
     quick: &[u32; 256],
@@ -33,9 +35,10 @@ pub(crate) fn advance(
     code: &[u8],
     at: usize,
     memory: &mut [u8],
+    floor: usize,
 ) -> Moved
-    requires { ⌜ (now table ≡ opcodeTable) × (Opened bar (now quick) × ((length (now code) ≤ longestCode) × (length (now memory) ≤ longestMemory))) ⌝ }
-    ensures { λ r. ⌜ Advanced r (now (mmx .entry)) (now (integers .entry)) bar valid (now (code .entry)) at (now (memory .entry)) (now (mmx .exit)) (now (integers .exit)) (now (memory .exit)) ⌝ }
+    requires { ⌜ (now table ≡ opcodeTable) × (Opened bar (now quick) × ((length (now code) ≤ longestCode) × ((length (now memory) ≤ longestMemory) × (floor ≤ length (now memory))))) ⌝ }
+    ensures { λ r. ⌜ Advanced r (now (mmx .entry)) (now (integers .entry)) bar valid (now (code .entry)) at (now (memory .entry)) floor (now (mmx .exit)) (now (integers .exit)) (now (memory .exit)) ⌝ }
 {
     let work = gathering::gathered(table, quick, mmx, integers, bar, code, at, memory);
     let what = work.what;
@@ -50,6 +53,13 @@ pub(crate) fn advance(
         return completed;
     }
     if what == gathering::STORE {
+        if place < floor {
+            return Moved {
+                refusal: BELOW_FLOOR,
+                next: at,
+                valid: true,
+            };
+        }
         let size = work.number;
         // a store of a constant size compiles to one move
         if size == gathering::QUADWORD {

@@ -3,21 +3,20 @@
 use Rattle.basis.specs.Names.{_≡_, refl, Bool, true, false, cond, List, ℕ, zero, suc, _+_, _≤_, _<_, eqb, ltb, length, drop}
 use Rattle.basis.proofs.Names.{sym, ap, subst, _∙_, false≢true, arith, length-drop}
 use Rattle.reorder.specs.Result.{Result, done, refused, caseOf}
-use Rattle.reorder.specs.Run.{Answer, finished, spent, stopped, runFrom, run}
-use Rattle.codec.specs.Refusals.{codeTooLong, notAllowed}
+use Rattle.reorder.specs.Run.{Answer, finished, spent, stopped, runFrom}
+use Rattle.codec.specs.Refusals.{notAllowed}
 use Rattle.codec.specs.Reads.{longestCode, readPart}
 use Rattle.codec.specs.Reasons as codec
 use Rattle.codec.specs.Answers.{Decoded}
 use Rattle.codec.specs.Answers as decoded
 use Rattle.codec.proofs.Theorems.{reading-is-local}
-use Rattle.manual.specs.Refusals.{memoryTooLong}
-use Rattle.manual.specs.State.{State, Frozen, frozen, longestMemory, isTooLong}
+use Rattle.manual.specs.State.{State, frozen}
 use Rattle.manual.specs.Instructions.{execute}
 use Rattle.manual.specs.Steps.{Outcome, concluded, completed, refusedWith, resultOf, stepAt}
-use Rattle.manual.specs.Reasons.{Reason, one, reading, seven, eight, nine, ten, fourteen}
+use Rattle.manual.specs.Reasons.{Fits, Reason, one, twenty, reading, seven, eight, nine, ten, fourteen, twentyOne}
 use Rattle.manual.specs.Runs.{read, runOf}
-use Rattle.manual.proofs.Turns.{onward, turn, instruction-here}
-use Rattle.manual.proofs.Refusals.{refused-step, step-frozen}
+use Rattle.manual.proofs.Turns.{onward, of-run, turn, instruction-here}
+use Rattle.manual.proofs.Refusals.{refused-step, step-frozen, still-fits}
 use Rattle.manual.proofs.Exactly.{step-exactly}
 
 -- a refusal's number has at most two digits: what is printed of it goes by that (which numbers there are, Exactly.antt says)
@@ -35,30 +34,33 @@ pub reading-small : (code : List ℕ) (at n : ℕ) → codec.ReasonAt code at n 
 reading-small code at n (codec.two h) = omega arith
 reading-small code at n (codec.reading h r) = part-small (drop at code) n r
 
-reason-small : (code : List ℕ) (at : ℕ) (s : State) (n : ℕ) → Reason code at s n → n ≤ greatestRefusal
-reason-small code at s n (one h) = omega arith
-reason-small code at s n (reading h r) = omega (arith, reading-small code at n r)
-reason-small code at s n (seven i size h em) = omega arith
-reason-small code at s n (eight i size h em ts) = omega arith
-reason-small code at s n (nine i size h em ts pending) = omega arith
-reason-small code at s n (ten i size h x touches o based) = omega arith
-reason-small code at s n (fourteen i size h x touches o based) = omega arith
+-- and so has a step's
+reason-small : (floor : ℕ) (code : List ℕ) (at : ℕ) (s : State) (n : ℕ) → Reason floor code at s n → n ≤ greatestRefusal
+reason-small floor code at s n (one h) = omega arith
+reason-small floor code at s n (twenty h g) = omega arith
+reason-small floor code at s n (reading h r) = omega (arith, reading-small code at n r)
+reason-small floor code at s n (seven i size h em) = omega arith
+reason-small floor code at s n (eight i size h em ts) = omega arith
+reason-small floor code at s n (nine i size h em ts pending) = omega arith
+reason-small floor code at s n (ten i size h x touches o based) = omega arith
+reason-small floor code at s n (fourteen i size h x touches o based) = omega arith
+reason-small floor code at s n (twentyOne i size h x given b) = omega arith
 
-module _ (code : List ℕ) (code-fits : ltb longestCode (length code) ≡ false) where
+module _ (floor : ℕ) (code : List ℕ) (code-fits : ltb longestCode (length code) ≡ false) where
   -- a completed step leaves a position of the code
-  pub step-within : (at next : ℕ) (s t : State) → isTooLong (s .memory) ≡ false → stepAt code at s ≡ completed next t → next ≤ length code
+  pub step-within : (at next : ℕ) (s t : State) → Fits floor s → stepAt floor code at s ≡ completed next t → next ≤ length code
   unfolding stepAt read
-  step-within at next s t memory-fits e =
-      reads (readPart (drop at code)) refl (simp (instruction-here code at s memory-fits code-fits) at e)
+  step-within at next s t fits e =
+      reads (readPart (drop at code)) refl (simp (instruction-here floor code at s fits code-fits) at e)
     where
       executing : (n : ℕ) (o : Result State) → n ≤ length (drop at code) → 0 < n → concluded at (at + n) s o ≡ completed next t → next ≤ length code
       executing n (refused r) h g z = absurd (false≢true (cc))
       executing n (done u) h g z = let same : at + n ≡ next = cc in omega (arith, length-drop at code)
 
       reads : (z : Decoded) → readPart (drop at code) ≡ z
-          → caseOf (resultOf z) (λ r. refusedWith r at s) (λ r. concluded at (at + r .size) s (execute (r .instruction) s)) ≡ completed next t
+          → caseOf (resultOf z) (λ r. refusedWith r at s) (λ r. concluded at (at + r .size) s (execute floor (r .instruction) s)) ≡ completed next t
           → next ≤ length code
-      reads (decoded.good i n) r z = let l = reading-is-local (drop at code) i n r in executing n (execute i s) (l .within) (omega (arith, l .two)) z
+      reads (decoded.good i n) r z = let l = reading-is-local (drop at code) i n r in executing n (execute floor i s) (l .within) (omega (arith, l .two)) z
       reads (decoded.refused n) r z = absurd (false≢true (cc))
 
 -- the bounds of a run's end, from a start with so large a budget
@@ -72,9 +74,9 @@ Bounded code budget start (finished at count t) = Bounds code budget start at co
 Bounded code budget start (spent at count t) = Bounds code budget start at count t
 Bounded code budget start (stopped n at count t) = (n ≤ greatestRefusal) × Bounds code budget start at count t
 
-module _ (code : List ℕ) (code-fits : ltb longestCode (length code) ≡ false) (budget : ℕ) (start : State) where
-  from : (remaining at count : ℕ) (s : State) → count + remaining ≤ budget → isTooLong (s .memory) ≡ false → Bounds code budget start at count s
-      → Bounded code budget start (runFrom read execute remaining code at count s)
+module _ (floor : ℕ) (code : List ℕ) (code-fits : ltb longestCode (length code) ≡ false) (budget : ℕ) (start : State) where
+  from : (remaining at count : ℕ) (s : State) → count + remaining ≤ budget → Fits floor s → Bounds code budget start at count s
+      → Bounded code budget start (runFrom read (execute floor) remaining code at count s)
   from zero at count s most fits b = at-end (eqb at (length code))
     where
       at-end : (t : Bool) → Bounded code budget start (cond t (finished at count s) (spent at count s))
@@ -85,14 +87,14 @@ module _ (code : List ℕ) (code-fits : ltb longestCode (length code) ≡ false)
     where
       Further : Type 0
       Further =
-          (at′ : ℕ) (u : State) → isTooLong (u .memory) ≡ false → Bounds code budget start at′ (suc count) u
-          → Bounded code budget start (runFrom read execute remaining code at′ (suc count) u)
+          (at′ : ℕ) (u : State) → Fits floor u → Bounds code budget start at′ (suc count) u
+          → Bounded code budget start (runFrom read (execute floor) remaining code at′ (suc count) u)
 
-      stepping : (o : Outcome) → stepAt code at s ≡ o → Further → Bounded code budget start (onward (runFrom read execute remaining code) count o)
+      stepping : (o : Outcome) → stepAt floor code at s ≡ o → Further → Bounded code budget start (onward (runFrom read (execute floor) remaining code) count o)
       stepping (refusedWith n at′ u) e further =
-          let (same-at, same-state) = refused-step code at n at′ s u e in
-          let given : stepAt code at s ≡ refusedWith n at s = cc in (
-            reason-small code at s n (step-exactly code at s n .0 given),
+          let (same-at, same-state) = refused-step floor code at n at′ s u e in
+          let given : stepAt floor code at s ≡ refusedWith n at s = cc in (
+            reason-small floor code at s n (step-exactly floor code at s n .0 given),
             record {
               position = omega (arith, b .position);
               completed-steps = b .completed-steps;
@@ -100,23 +102,19 @@ module _ (code : List ℕ) (code-fits : ltb longestCode (length code) ≡ false)
             },
           )
       stepping (completed at′ u) e further =
-          let same = step-frozen code at at′ s u e in
-          further at′ u (ap (λ (f : Frozen). ltb longestMemory (f .memory)) same ∙ fits)
-          (record { position = step-within code code-fits at at′ s u fits e; completed-steps = omega arith; kept = same ∙ b .kept })
+          let same = step-frozen floor code at at′ s u e in
+          further at′ u (still-fits floor s u same fits)
+          (record { position = step-within floor code code-fits at at′ s u fits e; completed-steps = omega arith; kept = same ∙ b .kept })
 
-      at-end : (t : Bool) → eqb at (length code) ≡ t → Further → Bounded code budget start (runFrom read execute (suc remaining) code at count s)
+      at-end : (t : Bool) → eqb at (length code) ≡ t → Further → Bounded code budget start (runFrom read (execute floor) (suc remaining) code at count s)
       at-end true e further = rw e b
-      at-end false e further = subst (Bounded code budget start) (sym (turn code at s fits code-fits remaining count e)) (stepping (stepAt code at s) refl further)
+      at-end false e further = subst (Bounded code budget start) (sym (turn floor code at s fits code-fits remaining count e)) (stepping (stepAt floor code at s) refl further)
 
-pub run-bounded : (code : List ℕ) (budget : ℕ) (s : State) → Bounded code budget s (runOf code budget s)
-unfolding runOf
-run-bounded code budget s = tests (isTooLong (s .memory)) (ltb longestCode (length code)) refl refl
+pub run-bounded : (floor : ℕ) (code : List ℕ) (budget : ℕ) (s : State) → Bounded code budget s (runOf floor code budget s)
+run-bounded floor code budget s =
+    of-run floor code s (λ runs. Bounded code budget s (runs budget))
+    (λ n e. (reason-small floor code 0 s n (step-exactly floor code 0 s n .0 e), still))
+    (λ fits code-fits. from floor code code-fits budget s budget 0 0 s (omega arith) fits still)
   where
     still : Bounds code budget s 0 0 s
     still = record { position = omega arith; completed-steps = omega arith; kept = refl }
-
-    tests : (a b : Bool) → isTooLong (s .memory) ≡ a → ltb longestCode (length code) ≡ b
-        → Bounded code budget s (cond a (stopped memoryTooLong 0 0 s) (cond b (stopped codeTooLong 0 0 s) (run read execute budget code s)))
-    tests true b ea eb = (omega arith, still)
-    tests false true ea eb = (omega arith, still)
-    tests false false ea eb = from code eb budget s budget 0 0 s (omega arith) ea still

@@ -20,29 +20,31 @@ use Rattle.manual.specs.Runs.{read, runOf}
 use Rattle.manual.specs.Footprints.{footprintAt, footprintInRun, Meets}
 use Rattle.manual.proofs.Meeting.{apart}
 use Rattle.manual.proofs.Plates.{start, plates, extensionPlates}
-use Rattle.manual.proofs.Edges.{edges, extensionEdges, stackEdges}
-use Rattle.manual.proofs.FootprintTable.{here, barred, footprints, whereBarred, inRuns}
+use Rattle.manual.proofs.Edges.{edges, extensionEdges, stackEdges, floorEdges}
+use Rattle.manual.proofs.FootprintTable.{here, barred, footprints, whereBarred, overFloors, inRuns}
 use Rattle.manual.proofs.Example as example
 
 pub record Computed : Type 0 where
-  -- document 01's plates and its edges, those of manual 000, and the edges of Req 04
+  -- document 01's plates and its edges, those of manual 000, and the edges of Req 04 and Req 08
   pub plates : T (all plates)
   pub edges : T (all edges)
   pub extension-plates : T (all extensionPlates)
   pub extension-edges : T (all extensionEdges)
   pub stack-edges : T (all stackEdges)
+  pub floor-edges : T (all floorEdges)
   -- the customer's example: PADDB MM0, MM1
-  pub customer : runOf (0x0f ∷ 0xfc ∷ 0xc1 ∷ []) 4096 (start 0xff 2 false) ≡ finished 3 1 (start 1 2 true)
-  -- the table of footprints, of single steps, with no control mark and with all, and in runs
-  pub footprints : map (λ e. footprintAt (e .0) 0 here) footprints ≡ map (λ e. e .1) footprints
-  pub where-barred : map (λ e. footprintAt (e .0) 0 barred) whereBarred ≡ map (λ e. e .1) whereBarred
-  pub in-runs : map (λ e. footprintInRun (e .0) here (e .1)) inRuns ≡ map (λ e. e .2) inRuns
+  pub customer : runOf 0 (0x0f ∷ 0xfc ∷ 0xc1 ∷ []) 4096 (start 0xff 2 false) ≡ finished 3 1 (start 1 2 true)
+  -- the table of footprints, of single steps, with no control mark and with all, over floors, and in runs
+  pub footprints : map (λ e. footprintAt 0 (e .0) 0 here) footprints ≡ map (λ e. e .1) footprints
+  pub where-barred : map (λ e. footprintAt 0 (e .0) 0 barred) whereBarred ≡ map (λ e. e .1) whereBarred
+  pub over-floors : map (λ e. footprintAt (e .0) (e .1 .0) 0 here) overFloors ≡ map (λ e. e .1 .1) overFloors
+  pub in-runs : map (λ e. footprintInRun (e .0) (e .1) here (e .2)) inRuns ≡ map (λ e. e .3) inRuns
   -- PADDB MM0, MM1 and PADDB MM2, MM3 do not meet
-  pub registers-apart : ¬ Meets (footprintAt (0x0f ∷ 0xfc ∷ 0xc1 ∷ []) 0 here) (footprintAt (0x0f ∷ 0xfc ∷ 0xd3 ∷ []) 0 here)
+  pub registers-apart : ¬ Meets (footprintAt 0 (0x0f ∷ 0xfc ∷ 0xc1 ∷ []) 0 here) (footprintAt 0 (0x0f ∷ 0xfc ∷ 0xd3 ∷ []) 0 here)
   -- the example block: its run, and its runs in an allowed and in a forbidden order
-  pub block : runOf example.block 4096 example.start ≡ finished 17 5 example.final
-  pub allowed : runOf (rearranged read example.block example.allowed) 4096 example.start ≡ finished 17 5 example.final
-  pub forbidden : runOf (rearranged read example.block example.forbidden) 4096 example.start ≡ finished 17 5 example.spoilt
+  pub block : runOf 0 example.block 4096 example.start ≡ finished 17 5 example.final
+  pub allowed : runOf 0 (rearranged read example.block example.allowed) 4096 example.start ≡ finished 17 5 example.final
+  pub forbidden : runOf 0 (rearranged read example.block example.forbidden) 4096 example.start ≡ finished 17 5 example.spoilt
 
 pub computed : Computed
 unfolding lane topBit build register signed wrap clamp clampSigned clampUnsigned packed pairwise sum sumSigned sumUnsigned greater productHigh productSum pack unpack shift left right rightSigned blend mean extract insert maximumSigned maximumUnsigned minimumSigned minimumUnsigned topBits productHighUnsigned distance total distances shuffle operate operateThree allows formAt operationAt hasSib displacementSize immediateReader displacementReader sibReader modrmReader formReader refusalOf secondReader instructionReader readAt flatten displacementOf baseOf indexOf addressOf address rmOf effectOf execute footprint instructionAt stepAt read runOf footprintAt
@@ -53,9 +55,11 @@ computed =
       extension-plates = tt;
       extension-edges = tt;
       stack-edges = tt;
+      floor-edges = tt;
       customer = refl;
       footprints = refl;
       where-barred = refl;
+      over-floors = refl;
       in-runs = refl;
       registers-apart = apart 0 1 2 3 (λ e. omega arith) (λ e. omega arith) (λ e. omega arith);
       block = refl;

@@ -1,10 +1,10 @@
 -- Demand 3, from the reordering theorem: the machine obeys the laws of places, and reading is local.
-use Rattle.basis.specs.Names.{_≡_, refl, Bool, true, false, cond, List, [], _∷_, map, flatten, List·Memᴰ as In, ℕ, suc, _+_, _-_, _<_, ltb, length, getD, take, drop}
+use Rattle.basis.specs.Names.{_≡_, refl, false, List, [], _∷_, map, flatten, List·Memᴰ as In, ℕ, suc, _+_, _-_, _<_, ltb, length, getD, take, drop}
 use Rattle.basis.proofs.Names.{sym, ap, ap₂, subst, subst₂, _∙_, false≢true, List·Memᴰ·head as here, List·Memᴰ·tail as later, arith}
 use Rattle.reorder.specs.Result.{Result, done, andThen}
 use Rattle.reorder.specs.Order.{NewOrder, Keeps}
 use Rattle.reorder.specs.Footprint.{Footprint}
-use Rattle.reorder.specs.Run.{Answer, finished, spent, stopped, positionReached, stateReached, run}
+use Rattle.reorder.specs.Run.{finished, spent, positionReached, stateReached, run}
 use Rattle.reorder.specs.Block.{piecesOf, rearranged}
 use Rattle.reorder.proofs.Reordering.{Swap}
 use Rattle.reorder.proofs.Swapping.{swap}
@@ -13,38 +13,33 @@ use Rattle.reorder.proofs.Rows.{footprintInCode}
 use Rattle.reorder.proofs.Rearranging.{reordered-block}
 use Rattle.reorder.proofs.Along.{Comes, comes-to}
 use Rattle.codec.specs.Reads.{longestCode}
-use Rattle.codec.specs.Refusals.{codeTooLong}
 use Rattle.codec.specs.declared.Instruction.{Instruction}
 use Rattle.codec.specs.declared.Kind.{Kind}
-use Rattle.manual.specs.Refusals.{memoryTooLong}
-use Rattle.manual.specs.State.{State, Frozen, frozen, longestMemory, isTooLong}
+use Rattle.manual.specs.State.{State, frozen}
 use Rattle.manual.specs.Places.{Place, look, put}
 use Rattle.manual.specs.Kinds.{marked, KindsMeet}
 use Rattle.manual.specs.Effects.{via, plan}
 use Rattle.manual.specs.Instructions.{effectOf, execute, footprint}
+use Rattle.manual.specs.Reasons.{Fits}
 use Rattle.manual.specs.Runs.{read, runOf}
 use Rattle.manual.specs.Footprints.{footprintAt, footprintInRun, Meets}
 use Rattle.manual.proofs.Laws.{laws, local}
 use Rattle.manual.proofs.Locality.{local-reader}
-use Rattle.manual.proofs.Turns.{instruction-here}
+use Rattle.manual.proofs.Turns.{of-run, instruction-here}
+use Rattle.manual.proofs.Refusals.{still-fits}
+use Rattle.manual.proofs.Floors.{fits-zero, footprint-zero}
 use Rattle.manual.proofs.Bounds.{Bounds, Bounded, run-bounded}
 use Rattle.manual.proofs.Uses.{completes-footprint}
 
 -- two instructions that don't meet change places
-execute-swap : Swap State Instruction (Result (Footprint Place Kind)) execute footprint Meets
+execute-swap : (floor : ℕ) → Swap State Instruction (Result (Footprint Place Kind)) (execute floor) (footprint floor) Meets
 unfolding execute footprint
-execute-swap a b = swap look put marked frozen KindsMeet laws via plan local (effectOf a) (effectOf b)
-
--- a run that finishes was not refused by a test at its start
-passed : (t : Bool) (n : ℕ) (s : State) (rest : Answer State) (end total : ℕ) (final : State)
-    → cond t (stopped n 0 0 s) rest ≡ finished end total final → (t ≡ false) × (rest ≡ finished end total final)
-passed true n s rest end total final h = absurd (false≢true (cc))
-passed false n s rest end total final h = (refl, h)
+execute-swap floor a b = swap look put marked frozen KindsMeet laws via (plan floor) (local floor) (effectOf a) (effectOf b)
 
 -- where a run of k instructions comes to, and the part of a code from one position to another
 
-abbrev pub positionInRun : List ℕ → State → ℕ → ℕ
-positionInRun code start k = positionReached (runOf code k start)
+abbrev pub positionInRun : ℕ → List ℕ → State → ℕ → ℕ
+positionInRun floor code start k = positionReached (runOf floor code k start)
 
 abbrev pub part : List ℕ → ℕ → ℕ → List ℕ
 part code from to = take (to - from) (drop from code)
@@ -56,74 +51,74 @@ map-alike f g (k ∷ ks) h = ap₂ (λ (x : List ℕ) (xs : List (List ℕ)). x 
 
 -- Of a run that finishes
 
-module _ (code : List ℕ) (budget end total : ℕ) (start final : State) (h : runOf code budget start ≡ finished end total final) where
+module _ (floor : ℕ) (code : List ℕ) (budget end total : ℕ) (start final : State) (h : runOf floor code budget start ≡ finished end total final) where
   -- the tests of its start are passed
-  pub fitting : (isTooLong (start .memory) ≡ false) × (ltb longestCode (length code) ≡ false) × (run read execute budget code start ≡ finished end total final)
-  unfolding runOf
+  pub fitting : Fits floor start × (ltb longestCode (length code) ≡ false) × (run read (execute floor) budget code start ≡ finished end total final)
   fitting =
-      let (memory-fits, h₁) = passed (isTooLong (start .memory)) memoryTooLong start _ end total final h in
-      let (code-fits, h₂) = passed (ltb longestCode (length code)) codeTooLong start _ end total final h₁ in
-      (memory-fits, code-fits, h₂)
+      of-run floor code start (λ runs. runs budget ≡ finished end total final → Fits floor start × (ltb longestCode (length code) ≡ false) × (run read (execute floor) budget code start ≡ finished end total final))
+      (λ n e f. absurd (false≢true (cc))) (λ fits code-fits ran. (fits, code-fits, ran)) h
 
   -- what a run of k instructions comes to, k below the count
-  pub comes : (k : ℕ) → k < total → Comes read execute footprint code start k
-  comes k b = let (memory-fits, code-fits, ran) = fitting in comes-to read execute footprint local-reader code budget end total start final ran k b
+  pub comes : (k : ℕ) → k < total → Comes read (execute floor) (footprint floor) code start k
+  comes k b = let (fits, code-fits, ran) = fitting in comes-to read (execute floor) (footprint floor) local-reader code budget end total start final ran k b
 
-  ran-to : (k : ℕ) (b : k < total) → runOf code k start ≡ spent (comes k b .at) k (comes k b .state)
+  ran-to : (k : ℕ) (b : k < total) → runOf floor code k start ≡ spent (comes k b .at) k (comes k b .state)
   unfolding runOf
-  ran-to k b = let (memory-fits, code-fits, ran) = fitting in simp (memory-fits, code-fits) (comes k b .ran)
+  ran-to k b = let (fits, code-fits, ran) = fitting in simp (fits .memory-fits, fits .floor-fits, code-fits) (comes k b .ran)
 
   -- its footprint is that of piece k of the code
-  footprint-along : (k : ℕ) → k < total → footprintInRun code start k ≡ footprintInCode read execute footprint code start k
+  footprint-along : (k : ℕ) → k < total → footprintInRun floor code start k ≡ footprintInCode read (execute floor) (footprint floor) code start k
   unfolding footprintAt
   footprint-along k b =
-      let (memory-fits, code-fits, ran) = fitting in
+      let (fits, code-fits, ran) = fitting in
       let c = comes k b in
-      let bounds : Bounds code k start (c .at) k (c .state) = subst (Bounded code k start) (ran-to k b) (run-bounded code k start) in
-      let still-fits : isTooLong (c .state .memory) ≡ false = ap (λ (f : Frozen). ltb longestMemory (f .memory)) (bounds .kept) ∙ memory-fits in
-      ap (λ a. footprintAt code (positionReached a) (stateReached a)) (ran-to k b)
-      ∙ ap (λ o. andThen o (λ r. footprint (r .instruction) (c .state))) (instruction-here code (c .at) (c .state) still-fits code-fits ∙ c .stands)
+      let bounds : Bounds code k start (c .at) k (c .state) = subst (Bounded code k start) (ran-to k b) (run-bounded floor code k start) in
+      let state-fits = fits-zero floor (c .state) (still-fits floor start (c .state) (bounds .kept) fits) in
+      let (t, does) = c .completes in
+      ap (λ a. footprintAt 0 code (positionReached a) (stateReached a)) (ran-to k b)
+      ∙ ap (λ o. andThen o (λ r. footprint 0 (r .instruction) (c .state))) (instruction-here 0 code (c .at) (c .state) state-fits code-fits ∙ c .stands)
+      ∙ footprint-zero floor (c .found .instruction) (c .state) t does
       ∙ sym (c .footprint-same)
 
   -- and it has one, since the step there completes
-  pub has-footprint : (k : ℕ) → k < total → (f : Footprint Place Kind) × (footprintInRun code start k ≡ done f)
+  pub has-footprint : (k : ℕ) → k < total → (f : Footprint Place Kind) × (footprintInRun floor code start k ≡ done f)
   has-footprint k b =
       let c = comes k b in
       let (t, does) = c .completes in
-      let (f, e) = completes-footprint (c .found .instruction) (c .state) t does in
+      let (f, e) = completes-footprint floor (c .found .instruction) (c .state) t does in
       (f, footprint-along k b ∙ c .footprint-same ∙ e)
 
   -- instruction k has the bytes from where a run of k instructions comes to, to where the next one does
-  part-along : (k : ℕ) → k < total → getD (piecesOf read code) k [] ≡ part code (positionInRun code start k) (positionInRun code start (suc k))
+  part-along : (k : ℕ) → k < total → getD (piecesOf read code) k [] ≡ part code (positionInRun floor code start k) (positionInRun floor code start (suc k))
   unfolding runOf
   part-along k b =
-      let (memory-fits, code-fits, ran) = fitting in
+      let (fits, code-fits, ran) = fitting in
       let c = comes k b in
-      let here : positionInRun code start k ≡ c .at = ap positionReached (ran-to k b) in
-      let there : positionInRun code start (suc k) ≡ c .at + c .found .size = simp (memory-fits, code-fits) (c .next) in
-      let size : c .found .size ≡ positionInRun code start (suc k) - positionInRun code start k = omega arith in
+      let here : positionInRun floor code start k ≡ c .at = ap positionReached (ran-to k b) in
+      let there : positionInRun floor code start (suc k) ≡ c .at + c .found .size = simp (fits .memory-fits, fits .floor-fits, code-fits) (c .next) in
+      let size : c .found .size ≡ positionInRun floor code start (suc k) - positionInRun floor code start k = omega arith in
       c .piece ∙ ap₂ (λ (n at : ℕ). take n (drop at code)) size (sym here)
 
   -- so the block in a new order is these parts in that order
   pub rearranged-parts : (order : List ℕ) → NewOrder total order
-      → rearranged read code order ≡ flatten (map (λ k. part code (positionInRun code start k) (positionInRun code start (suc k))) order)
+      → rearranged read code order ≡ flatten (map (λ k. part code (positionInRun floor code start k) (positionInRun floor code start (suc k))) order)
   rearranged-parts order new = ap flatten (map-alike _ _ order (λ k m. part-along k (order-below total order new k m)))
 
 -- "Take a straight block that runs to its end from some starting state and memory. Put its instructions in any other order that keeps, for each
 -- pair whose footprints meet in that run, the earlier one earlier. From the same state and memory, with the same budget, the new block also runs
 -- to its end, in as many instructions, and leaves exactly the registers, tag mark and memory that the manual's rules give for the original."
-pub demand-3 : (code order : List ℕ) (budget end total : ℕ) (start final : State)
-    → runOf code budget start ≡ finished end total final
+pub demand-3 : (floor : ℕ) (code order : List ℕ) (budget end total : ℕ) (start final : State)
+    → runOf floor code budget start ≡ finished end total final
     → NewOrder total order
-    → Keeps total order (λ i j. Meets (footprintInRun code start i) (footprintInRun code start j))
-    → runOf (rearranged read code order) budget start ≡ finished end total final
+    → Keeps total order (λ i j. Meets (footprintInRun floor code start i) (footprintInRun floor code start j))
+    → runOf floor (rearranged read code order) budget start ≡ finished end total final
 unfolding runOf
-demand-3 code order budget end total start final h new keeps =
-    let (memory-fits, code-fits, ran) = fitting code budget end total start final h in
-    let along = footprint-along code budget end total start final h in
-    let kept : Keeps total order (λ i j. Meets (footprintInCode read execute footprint code start i) (footprintInCode read execute footprint code start j)) =
+demand-3 floor code order budget end total start final h new keeps =
+    let (fits, code-fits, ran) = fitting floor code budget end total start final h in
+    let along = footprint-along floor code budget end total start final h in
+    let kept : Keeps total order (λ i j. Meets (footprintInCode read (execute floor) (footprint floor) code start i) (footprintInCode read (execute floor) (footprint floor) code start j)) =
     λ i j p q earlier j-in p-in q-in at-p at-q meets.
     keeps i j p q earlier j-in p-in q-in at-p at-q (subst₂ Meets (sym (along i (omega arith))) (sym (along j j-in)) meets) in
-    let (as-long, runs) = reordered-block read local-reader execute footprint Meets execute-swap code order budget end total start final ran new kept in
+    let (as-long, runs) = reordered-block read local-reader (execute floor) (footprint floor) Meets (execute-swap floor) code order budget end total start final ran new kept in
     let new-fits : ltb longestCode (length (rearranged read code order)) ≡ false = ap (ltb longestCode) as-long ∙ code-fits in
-    rw (memory-fits, new-fits) runs
+    rw (fits .memory-fits, fits .floor-fits, new-fits) runs

@@ -22,10 +22,14 @@ abbrev over : List ℕ → State
 over memory = record { mmx = replicate 8 0; integers = replicate 8 0; marks = clear false; memory = memory }
 
 abbrev run : List ℕ → Answer State
-run code = runOf code 4096 (start 0 0 false false false)
+run code = runOf 0 code 4096 (start 0 0 false false false)
+
+-- the same over a floor
+abbrev runOver : ℕ → List ℕ → Answer State
+runOver floor code = runOf floor code 4096 (start 0 0 false false false)
 
 abbrev runWith : ℕ → ℕ → List ℕ → Answer State
-runWith eax ecx code = runOf code 4096 (start eax ecx false false false)
+runWith eax ecx code = runOf 0 code 4096 (start eax ecx false false false)
 
 -- done after so many instructions, in a state of which this holds
 abbrev doneWith : ℕ → (State → Bool) → Answer State → Bool
@@ -138,22 +142,22 @@ edges =
     ∷ refuses 6 (run (0x0f ∷ 0x71 ∷ 0x00 ∷ []))
     ∷ refuses 3 (run (0x0f ∷ 0x71 ∷ 0xd0 ∷ []))
     -- EM before TS before pending before the operand, and after the reading
-    ∷ refuses 7 (runOf (0x0f ∷ 0x77 ∷ []) 1 (start 0 0 true true true))
-    ∷ refuses 8 (runOf (0x0f ∷ 0x77 ∷ []) 1 (start 0 0 false true true))
-    ∷ refuses 9 (runOf (0x0f ∷ 0x6f ∷ 0x05 ∷ 1 ∷ 0 ∷ 0 ∷ 0 ∷ []) 1 (start 0 0 false false true))
-    ∷ refuses 3 (runOf (0x0f ∷ 0x6f ∷ []) 1 (start 0 0 true false false))
+    ∷ refuses 7 (runOf 0 (0x0f ∷ 0x77 ∷ []) 1 (start 0 0 true true true))
+    ∷ refuses 8 (runOf 0 (0x0f ∷ 0x77 ∷ []) 1 (start 0 0 false true true))
+    ∷ refuses 9 (runOf 0 (0x0f ∷ 0x6f ∷ 0x05 ∷ 1 ∷ 0 ∷ 0 ∷ 0 ∷ []) 1 (start 0 0 false false true))
+    ∷ refuses 3 (runOf 0 (0x0f ∷ 0x6f ∷ []) 1 (start 0 0 true false false))
     -- 1 before 2, and 2 before the bytes are read; 32,768 bytes of memory and 4,096 of code are not too long
-    ∷ refusedAfter 1 0 tagsEmpty (runOf (replicate 4097 0x90) 1 (over (replicate 32769 0)))
-    ∷ refusedAfter 2 0 tagsEmpty (runOf (replicate 4097 0x90) 1 (over (replicate 32768 0)))
-    ∷ refusedAfter 5 0 tagsEmpty (runOf (replicate 4096 0x90) 1 (over []))
-    ∷ stepRefusedBy 1 (stepAt (replicate 4097 0x90) 0 (over (replicate 32769 0)))
+    ∷ refusedAfter 1 0 tagsEmpty (runOf 0 (replicate 4097 0x90) 1 (over (replicate 32769 0)))
+    ∷ refusedAfter 2 0 tagsEmpty (runOf 0 (replicate 4097 0x90) 1 (over (replicate 32768 0)))
+    ∷ refusedAfter 5 0 tagsEmpty (runOf 0 (replicate 4096 0x90) 1 (over []))
+    ∷ stepRefusedBy 1 (stepAt 0 (replicate 4097 0x90) 0 (over (replicate 32769 0)))
     -- EMMS sets the tags empty
     ∷ doneWith 2 tagsEmpty (run (0x0f ∷ 0xef ∷ 0xc0 ∷ 0x0f ∷ 0x77 ∷ []))
     -- done before spent before a step
-    ∷ doneWith 0 unchanged (runOf [] 0 (start 0 0 false false false))
-    ∷ spentAfter 0 (runOf (0x90 ∷ []) 0 (start 0 0 false false false))
-    ∷ doneWith 1 tagsEmpty (runOf (0x0f ∷ 0x77 ∷ []) 1 (start 0 0 false false false))
-    ∷ stepRefusedBy 3 (stepAt (0x0f ∷ 0x77 ∷ []) 2 (start 0 0 false false false))
+    ∷ doneWith 0 unchanged (runOf 0 [] 0 (start 0 0 false false false))
+    ∷ spentAfter 0 (runOf 0 (0x90 ∷ []) 0 (start 0 0 false false false))
+    ∷ doneWith 1 tagsEmpty (runOf 0 (0x0f ∷ 0x77 ∷ []) 1 (start 0 0 false false false))
+    ∷ stepRefusedBy 3 (stepAt 0 (0x0f ∷ 0x77 ∷ []) 2 (start 0 0 false false false))
     -- PXOR MM0, MM0 stays done where the instruction after it is refused
     ∷ refusedAfter 5 1 (mm0 0) (run (0x0f ∷ 0xef ∷ 0xc0 ∷ 0x90 ∷ []))
     ∷ []
@@ -201,8 +205,8 @@ extensionEdges =
     ∷ doneWith 1 (mm0 0x1110131215141716) (run (0x0f ∷ 0x70 ∷ 0x05 ∷ 0 ∷ 0 ∷ 0 ∷ 0 ∷ 0x1b ∷ []))
     ∷ doneWith 1 (memory 0xffffffffffffffff) (run (0x0f ∷ 0xe7 ∷ 0x05 ∷ 0 ∷ 0 ∷ 0 ∷ 0 ∷ []))
     -- /0 to /3 at FFFFFFFF, and SFENCE, complete though EM, TS and pending are set, and leave everything; PMOVMSKB is 7
-    ∷ doneWith 5 unchanged (runOf (flatten (map far (0x05 ∷ 0x0d ∷ 0x15 ∷ 0x1d ∷ [])) ++ 0x0f ∷ 0xae ∷ 0xf8 ∷ []) 4096 (start 0 0 true true true))
-    ∷ refuses 7 (runOf (0x0f ∷ 0xd7 ∷ 0xc0 ∷ []) 1 (start 0 0 true false false))
+    ∷ doneWith 5 unchanged (runOf 0 (flatten (map far (0x05 ∷ 0x0d ∷ 0x15 ∷ 0x1d ∷ [])) ++ 0x0f ∷ 0xae ∷ 0xf8 ∷ []) 4096 (start 0 0 true true true))
+    ∷ refuses 7 (runOf 0 (0x0f ∷ 0xd7 ∷ 0xc0 ∷ []) 1 (start 0 0 true false false))
     -- after PXOR MM0, MM0 a prefetch and SFENCE keep the tags valid, and after EMMS empty
     ∷ doneWith 3 (mm0 0) (run (0x0f ∷ 0xef ∷ 0xc0 ∷ 0x0f ∷ 0x18 ∷ 0x00 ∷ 0x0f ∷ 0xae ∷ 0xf8 ∷ []))
     ∷ doneWith 4 tagsEmpty (run (0x0f ∷ 0xef ∷ 0xc0 ∷ 0x0f ∷ 0x77 ∷ 0x0f ∷ 0x18 ∷ 0x00 ∷ 0x0f ∷ 0xae ∷ 0xf8 ∷ []))
@@ -245,5 +249,58 @@ stackEdges =
     ∷ completes (run (0x0f ∷ 0x7e ∷ 0xc5 ∷ []))
     ∷ doneWith 2 unchanged (run (0x0f ∷ 0x18 ∷ 0x44 ∷ 0x24 ∷ 0x7f ∷ 0x0f ∷ 0x18 ∷ 0x45 ∷ 0x7f ∷ []))
     -- the control marks come before 14
-    ∷ refuses 9 (runOf (0x0f ∷ 0x6f ∷ 0x45 ∷ 0 ∷ []) 1 (start 0 0 false false true))
+    ∷ refuses 9 (runOf 0 (0x0f ∷ 0x6f ∷ 0x45 ∷ 0 ∷ []) 1 (start 0 0 false false true))
+    ∷ []
+
+-- the edges of Req 08: runs and steps over a floor
+abbrev pub floorEdges : List Bool
+floorEdges =
+    -- a floor above the memory's length is 20, before 2 and after 1; at its length it is not, and then 2 is due
+    refusedAfter 20 0 tagsEmpty (runOf 5 (replicate 5000 0x90) 1 (over (replicate 4 0)))
+    ∷ stepRefusedBy 20 (stepAt 5 (replicate 5000 0x90) 0 (over (replicate 4 0)))
+    ∷ refusedAfter 1 0 tagsEmpty (runOf 32770 (replicate 5000 0x90) 1 (over (replicate 32769 0)))
+    ∷ stepRefusedBy 1 (stepAt 32770 (replicate 5000 0x90) 0 (over (replicate 32769 0)))
+    ∷ refusedAfter 2 0 tagsEmpty (runOf 4 (replicate 5000 0x90) 1 (over (replicate 4 0)))
+    ∷ stepRefusedBy 2 (stepAt 4 (replicate 5000 0x90) 0 (over (replicate 4 0)))
+    -- and before done and 3
+    ∷ refuses 20 (runOver 9 [])
+    ∷ stepRefusedBy 20 (stepAt 9 [] 0 (start 0 0 false false false))
+    ∷ doneWith 0 unchanged (runOver 8 [])
+    -- MOVD [0], [1] and [3], MM0 over floor 4 end before it, straddle it, and start one byte below: 21, and no byte is written; at [4] it completes
+    ∷ refuses 21 (runOver 4 (0x0f ∷ 0x7e ∷ 0x05 ∷ 0 ∷ 0 ∷ 0 ∷ 0 ∷ []))
+    ∷ refuses 21 (runOver 4 (0x0f ∷ 0x7e ∷ 0x05 ∷ 1 ∷ 0 ∷ 0 ∷ 0 ∷ []))
+    ∷ refuses 21 (runOver 4 (0x0f ∷ 0x7e ∷ 0x05 ∷ 3 ∷ 0 ∷ 0 ∷ 0 ∷ []))
+    ∷ doneWith 1 (memory 0xffffffff13121110) (runOver 4 (0x0f ∷ 0x7e ∷ 0x05 ∷ 4 ∷ 0 ∷ 0 ∷ 0 ∷ []))
+    -- MOVQ [0], MM0 over floors 1 and 7; MOVNTQ
+    ∷ refuses 21 (runOver 1 (0x0f ∷ 0x7f ∷ 0x05 ∷ 0 ∷ 0 ∷ 0 ∷ 0 ∷ []))
+    ∷ refuses 21 (runOver 7 (0x0f ∷ 0x7f ∷ 0x05 ∷ 0 ∷ 0 ∷ 0 ∷ 0 ∷ []))
+    ∷ refuses 21 (runOver 1 (0x0f ∷ 0xe7 ∷ 0x05 ∷ 0 ∷ 0 ∷ 0 ∷ 0 ∷ []))
+    -- MASKMOVQ at EDI = 0, with a mask of all ones, and with a mask of 0
+    ∷ refuses 21 (runOver 1 (0x0f ∷ 0xf7 ∷ 0xc0 ∷ []))
+    ∷ refuses 21 (runOver 1 (0x0f ∷ 0xf7 ∷ 0xc1 ∷ []))
+    -- over a floor at the memory's length every store is 21
+    ∷ refuses 21 (runOver 8 (0x0f ∷ 0x7e ∷ 0x05 ∷ 4 ∷ 0 ∷ 0 ∷ 0 ∷ []))
+    ∷ refuses 21 (runOver 8 (0x0f ∷ 0x7f ∷ 0x05 ∷ 0 ∷ 0 ∷ 0 ∷ 0 ∷ []))
+    ∷ refuses 21 (runOver 8 (0x0f ∷ 0xe7 ∷ 0x05 ∷ 0 ∷ 0 ∷ 0 ∷ 0 ∷ []))
+    ∷ refuses 21 (runOver 8 (0x0f ∷ 0xf7 ∷ 0xc1 ∷ []))
+    -- and all may be read: MOVQ MM0, [0]; PINSRW MM0, [6], 1; PSHUFW MM0, [0], 1B
+    ∷ reachesZero (runOver 8 (0x0f ∷ 0x6f ∷ 0x05 ∷ 0 ∷ 0 ∷ 0 ∷ 0 ∷ []))
+    ∷ doneWith 1 (mm0 0xffffffff1716ffff) (runOver 8 (0x0f ∷ 0xc4 ∷ 0x05 ∷ 6 ∷ 0 ∷ 0 ∷ 0 ∷ 1 ∷ []))
+    ∷ doneWith 1 (mm0 0x1110131215141716) (runOver 8 (0x0f ∷ 0x70 ∷ 0x05 ∷ 0 ∷ 0 ∷ 0 ∷ 0 ∷ 0x1b ∷ []))
+    -- registers are no memory: MOVD EAX, MM0 and MOVQ MM0, MM4 by the store forms
+    ∷ doneWith 1 (eax 0xffffffff) (runOver 8 (0x0f ∷ 0x7e ∷ 0xc0 ∷ []))
+    ∷ doneWith 1 (mm0 0) (runOver 8 (0x0f ∷ 0x7f ∷ 0xe0 ∷ []))
+    -- nor does a prefetch write
+    ∷ doneWith 1 unchanged (runOver 8 (0x0f ∷ 0x18 ∷ 0x05 ∷ 0 ∷ 0 ∷ 0 ∷ 0 ∷ []))
+    -- 10 and 14 before 21: MOVQ [1], MM0 and [EBP], MM0; MOVD [EBP], MM0 misses nothing
+    ∷ refuses 10 (runOver 8 (0x0f ∷ 0x7f ∷ 0x05 ∷ 1 ∷ 0 ∷ 0 ∷ 0 ∷ []))
+    ∷ refuses 14 (runOver 8 (0x0f ∷ 0x7f ∷ 0x45 ∷ 0 ∷ []))
+    ∷ refuses 21 (runOver 8 (0x0f ∷ 0x7e ∷ 0x45 ∷ 0 ∷ []))
+    -- and so are the control marks
+    ∷ refuses 7 (runOf 8 (0x0f ∷ 0x7f ∷ 0x05 ∷ 0 ∷ 0 ∷ 0 ∷ 0 ∷ []) 1 (start 0 0 true true true))
+    ∷ refuses 9 (runOf 8 (0x0f ∷ 0x7f ∷ 0x05 ∷ 0 ∷ 0 ∷ 0 ∷ 0 ∷ []) 1 (start 0 0 false false true))
+    -- in the second turn too: MOVD [4], MM0 stays done, and MOVD [0], MM0 is refused
+    ∷ refusedAfter 21 1 (memory 0xffffffff13121110) (runOver 4 (0x0f ∷ 0x7e ∷ 0x05 ∷ 4 ∷ 0 ∷ 0 ∷ 0 ∷ 0x0f ∷ 0x7e ∷ 0x05 ∷ 0 ∷ 0 ∷ 0 ∷ 0 ∷ []))
+    -- a step
+    ∷ stepRefusedBy 21 (stepAt 1 (0x0f ∷ 0x77 ∷ 0x0f ∷ 0x7f ∷ 0x05 ∷ 0 ∷ 0 ∷ 0 ∷ 0 ∷ []) 2 (start 0 0 false false false))
     ∷ []

@@ -1,19 +1,18 @@
 -- How a run of a block ends: done means at the code's end, spent means the whole budget; a larger budget changes no run that was not spent, and a
 -- budget of half the code's bytes is never spent.
-use Rattle.basis.specs.Names.{_≡_, refl, Bool, true, false, cond, List, ℕ, _*_, _≤_, _<_, ltb, length, drop}
+use Rattle.basis.specs.Names.{_≡_, refl, List, ℕ, _*_, _≤_, _<_, length, drop}
 use Rattle.basis.proofs.Names.{subst, zero-add, arith, ltb-false}
 use Rattle.reorder.specs.Run.{Answer, finished, spent, stopped, runFrom, run}
 use Rattle.reorder.specs.Block.{rearranged}
 use Rattle.reorder.proofs.Permutation.{from}
 use Rattle.reorder.proofs.Rearranging.{own-order-same}
 use Rattle.reorder.proofs.Endings.{by-turns, EndsWell, ends-well, Ended, ended-stays}
-use Rattle.codec.specs.Refusals.{codeTooLong}
 use Rattle.codec.specs.Reads.{longestCode}
-use Rattle.manual.specs.Refusals.{memoryTooLong}
-use Rattle.manual.specs.State.{State, isTooLong}
+use Rattle.manual.specs.State.{State}
 use Rattle.manual.specs.Instructions.{execute}
 use Rattle.manual.specs.Runs.{read, runOf}
 use Rattle.manual.proofs.Locality.{local, local-reader}
+use Rattle.manual.proofs.Turns.{of-run}
 use Rattle.manual.proofs.Bounds.{Bounds, Bounded, run-bounded}
 use Rattle.manual.proofs.Demand3.{fitting}
 
@@ -23,9 +22,9 @@ Halved (finished at count t) = 2 * count ≤ at
 Halved (spent at count t) = 2 * count ≤ at
 Halved (stopped n at count t) = 2 * count ≤ at
 
-halved : (code : List ℕ) (remaining at count : ℕ) (s : State) → 2 * count ≤ at → Halved (runFrom read execute remaining code at count s)
-halved code =
-    by-turns read execute code (λ remaining at count s a. 2 * count ≤ at → Halved a)
+halved : (floor : ℕ) (code : List ℕ) (remaining at count : ℕ) (s : State) → 2 * count ≤ at → Halved (runFrom read (execute floor) remaining code at count s)
+halved floor code =
+    by-turns read (execute floor) code (λ remaining at count s a. 2 * count ≤ at → Halved a)
     (record {
       ends = λ remaining at count s e h. h;
       spends = λ at count s e h. h;
@@ -34,37 +33,28 @@ halved code =
       turns = λ remaining at count s t r a e er eo rest h. rest (omega (arith, h, local (drop at code) r er .two));
     })
 
-module _ (code : List ℕ) (budget : ℕ) (s : State) where
-  -- what holds of a run, and of a refusal at its start, holds of a block's answer
-  of-run : (P : Answer State → Type 0) → ((n : ℕ) → P (stopped n 0 0 s)) → (ltb longestCode (length code) ≡ false → P (run read execute budget code s)) → P (runOf code budget s)
-  unfolding runOf
-  of-run P refuses runs = tests (isTooLong (s .memory)) (ltb longestCode (length code)) refl
-    where
-      tests : (a b : Bool) → ltb longestCode (length code) ≡ b
-          → P (cond a (stopped memoryTooLong 0 0 s) (cond b (stopped codeTooLong 0 0 s) (run read execute budget code s)))
-      tests true b e = refuses memoryTooLong
-      tests false true e = refuses codeTooLong
-      tests false false e = runs e
-
-  well : EndsWell code budget (runOf code budget s)
-  well = of-run (EndsWell code budget) (λ n. tt) (λ fits. subst (λ (n : ℕ). EndsWell code n (run read execute budget code s)) (zero-add budget) (ends-well read execute code budget 0 0 s))
+module _ (floor : ℕ) (code : List ℕ) (budget : ℕ) (s : State) where
+  well : EndsWell code budget (runOf floor code budget s)
+  well =
+      of-run floor code s (λ runs. EndsWell code budget (runs budget)) (λ n e. tt)
+      (λ fits code-fits. subst (λ (n : ℕ). EndsWell code n (run read (execute floor) budget code s)) (zero-add budget) (ends-well read (execute floor) code budget 0 0 s))
 
   -- done means at the end
-  pub done-at-end : (at count : ℕ) (t : State) → runOf code budget s ≡ finished at count t → at ≡ length code
+  pub done-at-end : (at count : ℕ) (t : State) → runOf floor code budget s ≡ finished at count t → at ≡ length code
   done-at-end at count t h = subst (EndsWell code budget) h well
 
   -- spent means the whole budget, before the end
-  pub spent-whole : (at count : ℕ) (t : State) → runOf code budget s ≡ spent at count t → (count ≡ budget) × (at < length code)
+  pub spent-whole : (at count : ℕ) (t : State) → runOf floor code budget s ≡ spent at count t → (count ≡ budget) × (at < length code)
   spent-whole at count t h =
       let (all, not-end) = subst (EndsWell code budget) h well in
-      let bounds : Bounds code budget s at count t = subst (Bounded code budget s) h (run-bounded code budget s) in
+      let bounds : Bounds code budget s at count t = subst (Bounded code budget s) h (run-bounded floor code budget s) in
       (all, omega (arith, bounds .position, not-end))
 
   -- an instruction has at least two bytes, so a budget of half the longest code is never spent
-  pub never-spent : (at count : ℕ) (t : State) → longestCode ≤ 2 * budget → runOf code budget s ≡ spent at count t → ⊥
+  pub never-spent : (at count : ℕ) (t : State) → longestCode ≤ 2 * budget → runOf floor code budget s ≡ spent at count t → ⊥
   never-spent at count t enough h =
       let (all, inside) = spent-whole at count t h in
-      let (half, fits) = subst Spendable h (of-run Spendable (λ n. tt) (λ fits. spendable (run read execute budget code s) (halved code budget 0 0 s (omega arith)) (ltb-false longestCode (length code) fits))) in
+      let (half, fits) = subst Spendable h (of-run floor code s (λ runs. Spendable (runs budget)) (λ n e. tt) (λ fits code-fits. spendable (run read (execute floor) budget code s) (halved floor code budget 0 0 s (omega arith)) (ltb-false longestCode (length code) code-fits))) in
       omega arith
     where
       Spendable : Answer State → Type 0
@@ -78,19 +68,13 @@ module _ (code : List ℕ) (budget : ℕ) (s : State) where
       spendable (stopped n at count t) h fits = tt
 
   -- a larger budget changes no run that was not spent
-  pub larger-budget : (more : ℕ) → budget ≤ more → Ended (runOf code budget s) → runOf code more s ≡ runOf code budget s
-  unfolding runOf
-  larger-budget more b ended = tests (isTooLong (s .memory)) (ltb longestCode (length code)) ended
-    where
-      tests : (x y : Bool) → Ended (cond x (stopped memoryTooLong 0 0 s) (cond y (stopped codeTooLong 0 0 s) (run read execute budget code s)))
-          → cond x (stopped memoryTooLong 0 0 s) (cond y (stopped codeTooLong 0 0 s) (run read execute more code s))
-          ≡ cond x (stopped memoryTooLong 0 0 s) (cond y (stopped codeTooLong 0 0 s) (run read execute budget code s))
-      tests true y e = refl
-      tests false true e = refl
-      tests false false e = ended-stays read execute code budget 0 0 s more b e
+  pub larger-budget : (more : ℕ) → budget ≤ more → Ended (runOf floor code budget s) → runOf floor code more s ≡ runOf floor code budget s
+  larger-budget more b =
+      of-run floor code s (λ runs. Ended (runs budget) → runs more ≡ runs budget) (λ n e ended. refl)
+      (λ fits code-fits ended. ended-stays read (execute floor) code budget 0 0 s more b ended)
 
   -- the instructions in the order in which they stand are the block
-  pub same-order : (end total : ℕ) (t : State) → runOf code budget s ≡ finished end total t → rearranged read code (from 0 total) ≡ code
+  pub same-order : (end total : ℕ) (t : State) → runOf floor code budget s ≡ finished end total t → rearranged read code (from 0 total) ≡ code
   same-order end total t h =
-      let (memory-fits, code-fits, ran) = fitting code budget end total s t h in
-      own-order-same read local-reader execute code budget end total s t ran
+      let (fits, code-fits, ran) = fitting floor code budget end total s t h in
+      own-order-same read local-reader (execute floor) code budget end total s t ran

@@ -1,24 +1,26 @@
--- Each refusal of a step is given exactly when there is its reason: the tests stand in document 01's order, and the operand test is the last.
-use Rattle.basis.specs.Names.{_≡_, refl, Bool, true, false, cond, List, [], _∷_, _++_, List·Memᴰ as In, ℕ, _+_, length}
-use Rattle.basis.proofs.Names.{sym, ap, subst, _∙_, _↔_, inl, inr, false≢true, List·Memᴰ·head as here, List·Memᴰ·tail as there, leb-false, lt-leb}
+-- Each refusal of a step is given exactly when there is its reason: the tests stand in document 01's order, the operand test is the last of them, and
+-- then comes the floor's.
+use Rattle.basis.specs.Names.{_≡_, refl, Bool, true, false, cond, List, [], _∷_, _++_, _&&_, List·Memᴰ as In, ℕ, zero, suc, _+_, leb, length}
+use Rattle.basis.proofs.Names.{sym, ap, ap₂, subst, _∙_, _↔_, inl, inr, ⊎-elim, false≢true, and-false, List·Memᴰ·head as here, List·Memᴰ·tail as there, leb-false, lt-leb, arith}
 use Rattle.reorder.specs.Result.{Result, done, refused, andThen, mapResult, caseOf}
 use Rattle.reorder.specs.Plan.{perform}
 use Rattle.codec.specs.Answers as decoded
 use Rattle.codec.specs.Reads.{readAt}
 use Rattle.codec.specs.declared.Instruction.{Instruction}
 use Rattle.codec.proofs.Exactly.{reading-exactly}
-use Rattle.manual.specs.Refusals.{memoryTooLong, outsideMemory, outsideByStack}
-use Rattle.manual.specs.State.{State, isTooLong}
+use Rattle.manual.specs.Refusals.{memoryTooLong, outsideMemory, outsideByStack, floorTooHigh, belowFloor}
+use Rattle.manual.specs.State.{State, isTooLong, isTooHigh}
 use Rattle.manual.specs.Places.{Place, look, put}
 use Rattle.manual.specs.Kinds.{marked}
 use Rattle.manual.specs.Addresses.{Address, isStackBase, address}
 use Rattle.manual.specs.Locations.{Location, mmxRegister, integerRegister, memory, liesInside, bytesFrom, missOf, placesOf}
-use Rattle.manual.specs.Effects.{placesOfAll, planOn, plan, unlessMarked}
+use Rattle.manual.specs.Effects.{placesOfAll, planOn, guarded, placedAbove, plan, unlessMarked}
 use Rattle.manual.specs.inner.Unmarked.{directly}
 use Rattle.manual.specs.Instructions.{effectOf, execute}
 use Rattle.manual.specs.Steps.{refusedWith, resultOf, concluded, instructionAt, stepAt}
-use Rattle.manual.specs.Reasons.{Stands, stopsIt, Passes, Touches, Outside, Reason, one, reading, seven, eight, nine, ten, fourteen}
+use Rattle.manual.specs.Reasons.{Fits, Stands, stopsIt, Passes, Touches, Outside, Below, Reason, one, twenty, reading, seven, eight, nine, ten, fourteen, twentyOne}
 use Rattle.manual.proofs.Marking.{controlled}
+use Rattle.manual.proofs.Floors.{allWritable, writable-bytes, writable-both}
 use Rattle.manual.proofs.OneAddress.{pointed, one-address}
 
 -- Operands: the only refusal is that of a miss, and it is given exactly where an operand is outside
@@ -81,40 +83,135 @@ refused-all s (y ∷ ys) n e = first (placesOf s y) refl (refused-all s ys n) e
         let same : m ≡ n = cc in
         record { operand = y; among = here refl; missed = refused-outside s y n (e ∙ ap refused same) }
 
+-- operands of which none is outside have their places
+all-inside : (s : State) (xs : List Location) → ((x : Location) → In x xs → ¬ Outside s x) → (ps : List Place) × (placesOfAll s xs ≡ done ps)
+all-inside s xs inside = by (placesOfAll s xs) refl
+  where
+    by : (r : Result (List Place)) → placesOfAll s xs ≡ r → (ps : List Place) × (placesOfAll s xs ≡ done ps)
+    by (done ps) e = (ps, e)
+    by (refused n) e = let o = refused-all s xs n e in absurd (inside (o .operand) (o .among) (o .missed .outside))
+
+-- and those that have, are not outside: the first has its places, and the others have theirs
+record Apiece (s : State) (y : Location) (ys : List Location) (ps : List Place) : Type 0 where
+  own : List Place
+  others : List Place
+  first : placesOf s y ≡ done own
+  rest : placesOfAll s ys ≡ done others
+  both : own ++ others ≡ ps
+
+apiece : (s : State) (y : Location) (ys : List Location) (ps : List Place) → placesOfAll s (y ∷ ys) ≡ done ps → Apiece s y ys ps
+apiece s y ys ps e = by (placesOf s y) (placesOfAll s ys) refl refl e
+  where
+    by : (a b : Result (List Place)) → placesOf s y ≡ a → placesOfAll s ys ≡ b → andThen a (λ own. mapResult (λ others. own ++ others) b) ≡ done ps → Apiece s y ys ps
+    by (done own) (done others) ea eb h = record { own = own; others = others; first = ea; rest = eb; both = cc }
+    by (done own) (refused n) ea eb h = absurd (false≢true (cc))
+    by (refused n) b ea eb h = absurd (false≢true (cc))
+
+placed-inside : (s : State) (xs : List Location) (ps : List Place) → placesOfAll s xs ≡ done ps → (x : Location) → In x xs → ¬ Outside s x
+placed-inside s (y ∷ ys) ps e x (here same) o =
+    false≢true (cc (apiece s y ys ps e .first, ap (placesOf s) same, outside-refused s x o))
+placed-inside s (y ∷ ys) ps e x (there m) o = let a = apiece s y ys ps e in placed-inside s ys (a .others) (a .rest) x m o
+
+-- The floor: it refuses exactly where an operand has a byte below it
+
+module _ (floor : ℕ) (s : State) where
+  own-below : (x : Location) (ps : List Place) → placesOf s x ≡ done ps → allWritable floor ps ≡ false → Below floor s x
+  own-below (mmxRegister k) ps e h = absurd (false≢true (cc))
+  own-below (integerRegister k) ps e h = absurd (false≢true (cc))
+  own-below (memory a size) ps e h = by (liesInside (length (s .memory)) size p) size e
+    where
+      p : ℕ
+      p = address (s .integers) a
+
+      by : (t : Bool) (n : ℕ) → cond t (done (bytesFrom p n)) (refused (missOf a)) ≡ done ps → Below floor s (memory a n)
+      by false n e = absurd (false≢true (cc))
+      by true zero e = absurd (false≢true (cc))
+      by true (suc n) e =
+          let same : bytesFrom p (suc n) ≡ ps = cc in
+          let first : leb floor p ≡ false = sym (writable-bytes floor (suc n) p (omega arith)) ∙ ap (allWritable floor) same ∙ h in
+          record { at = a; size = suc n; operand = refl; which = 0; among = omega arith; low = omega (arith, leb-false floor p first) }
+
+  below-own : (x : Location) (ps : List Place) → placesOf s x ≡ done ps → Below floor s x → allWritable floor ps ≡ false
+  below-own x ps e b = by (liesInside (length (s .memory)) (b .size) p) (sym (ap (placesOf s) (b .operand)) ∙ e)
+    where
+      p : ℕ
+      p = address (s .integers) (b .at)
+
+      by : (t : Bool) → cond t (done (bytesFrom p (b .size))) (refused (missOf (b .at))) ≡ done ps → allWritable floor ps ≡ false
+      by false e = absurd (false≢true (cc))
+      by true e =
+          let same : bytesFrom p (b .size) ≡ ps = cc in
+          ap (allWritable floor) (sym same) ∙ writable-bytes floor (b .size) p (omega (arith, b .among)) ∙ lt-leb floor p (omega (arith, b .low))
+
+  -- an operand among these has a byte below the floor
+  record OneBelow (xs : List Location) : Type 0 where
+    operand : Location
+    among : In operand xs
+    below : Below floor s operand
+
+  one-below : (xs : List Location) (ps : List Place) → placesOfAll s xs ≡ done ps → allWritable floor ps ≡ false → OneBelow xs
+  one-below [] ps e h = absurd (false≢true (cc))
+  one-below (y ∷ ys) ps e h =
+      let a = apiece s y ys ps e in
+      by a (allWritable floor (a .own)) refl (one-below ys (a .others) (a .rest)) (sym (writable-both floor (a .own) (a .others)) ∙ ap (allWritable floor) (a .both) ∙ h)
+    where
+      by : (a : Apiece s y ys ps) (t : Bool) → allWritable floor (a .own) ≡ t → (allWritable floor (a .others) ≡ false → OneBelow ys) → (t && allWritable floor (a .others)) ≡ false
+          → OneBelow (y ∷ ys)
+      by a true t further h = let o = further h in record { operand = o .operand; among = there (o .among); below = o .below }
+      by a false t further h = record { operand = y; among = here refl; below = own-below y (a .own) (a .first) t }
+
+  below-one : (xs : List Location) (ps : List Place) → placesOfAll s xs ≡ done ps → (x : Location) → In x xs → Below floor s x → allWritable floor ps ≡ false
+  below-one (y ∷ ys) ps e x m b =
+      let a = apiece s y ys ps e in
+      ap (allWritable floor) (sym (a .both)) ∙ writable-both floor (a .own) (a .others) ∙ by a m (λ m. below-one ys (a .others) (a .rest) x m b)
+    where
+      by : (a : Apiece s y ys ps) → In x (y ∷ ys) → (In x ys → allWritable floor (a .others) ≡ false) → (allWritable floor (a .own) && allWritable floor (a .others)) ≡ false
+      by a (here same) further = ap (λ (t : Bool). t && allWritable floor (a .others)) (below-own x (a .own) (ap (placesOf s) same ∙ a .first) b)
+      by a (there m) further = ap (λ (t : Bool). allWritable floor (a .own) && t) (further m) ∙ and-false (allWritable floor (a .own))
+
 -- One instruction
 
-module _ (i : Instruction) (s : State) where
+module _ (floor : ℕ) (i : Instruction) (s : State) where
   abbrev source : Result (List Place)
   source = placesOfAll s (effectOf i .takes)
 
   abbrev target : Result (List Place)
   target = placesOfAll s (effectOf i .gives)
 
-  -- one of its operands is outside, and this is its refusal
-  record OperandMissed (n : ℕ) : Type 0 where
-    operand : Location
-    touched : Touches i operand
-    missed : Missed s operand n
+  -- what it comes to, by its operands' places
+  abbrev with-places : Result (List Place) → Result (List Place) → Result State
+  with-places a b = perform look put marked s (andThen (andThen a (λ from. mapResult (planOn (effectOf i) from) b)) (guarded floor))
 
-  refused-unmarked : (n : ℕ) → directly (effectOf i) s ≡ refused n → OperandMissed n
+  -- why the operands or the floor refuse it
+  data Refusing : ℕ → Type 0 where
+    misses : (x : Location) → Touches i x → (o : Outside s x) → Refusing (missOf (o .at))
+    sinks : ((x : Location) → Touches i x → ¬ Outside s x) → (x : Location) → In x (effectOf i .gives) → Below floor s x → Refusing belowFloor
+
+  refused-unmarked : (n : ℕ) → directly floor (effectOf i) s ≡ refused n → Refusing n
   unfolding effectOf
   refused-unmarked n h = by source target refl refl h
     where
-      -- what an instruction computes is never refused
-      made : (from to : List Place) → perform look put marked s (done (planOn (effectOf i) from to)) ≡ refused n → ⊥
-      made from to h = false≢true (cc)
+      missing : (x : Location) → Touches i x → Missed s x n → Refusing n
+      missing x touched m = subst Refusing (sym (m .number)) (misses x touched (m .outside))
 
-      by : (a b : Result (List Place)) → source ≡ a → target ≡ b
-          → perform look put marked s (andThen a (λ from. mapResult (planOn (effectOf i) from) b)) ≡ refused n → OperandMissed n
+      -- what an instruction computes is never refused
+      tested : (from to : List Place) → source ≡ done from → target ≡ done to → (t : Bool) → allWritable floor to ≡ t
+          → perform look put marked s (cond t (done (planOn (effectOf i) from to)) (refused belowFloor)) ≡ refused n → Refusing n
+      tested from to ea eb true t h = absurd (false≢true (cc))
+      tested from to ea eb false t h =
+          let o = one-below floor s (effectOf i .gives) to eb t in
+          subst Refusing (cc) (sinks (λ x. ⊎-elim (placed-inside s (effectOf i .takes) from ea x) (placed-inside s (effectOf i .gives) to eb x)) (o .operand) (o .among) (o .below))
+
+      by : (a b : Result (List Place)) → source ≡ a → target ≡ b → with-places a b ≡ refused n → Refusing n
       by (refused m) b ea eb h =
           let same : m ≡ n = cc in
           let o = refused-all s (effectOf i .takes) n (ea ∙ ap refused same) in
-          record { operand = o .operand; touched = inl (o .among); missed = o .missed }
+          missing (o .operand) (inl (o .among)) (o .missed)
       by (done from) (refused m) ea eb h =
           let same : m ≡ n = cc in
           let o = refused-all s (effectOf i .gives) n (eb ∙ ap refused same) in
-          record { operand = o .operand; touched = inr (o .among); missed = o .missed }
-      by (done from) (done to) ea eb h = absurd (made from to h)
+          missing (o .operand) (inr (o .among)) (o .missed)
+      by (done from) (done to) ea eb h = tested from to ea eb (allWritable floor to) refl h
 
   -- all its operands in memory are at one address, and so have one refusal
   miss : ℕ
@@ -124,89 +221,103 @@ module _ (i : Instruction) (s : State) where
   unfolding miss
   alike x touched o = ap missOf (one-address i .points (o .at) (o .size) (subst (Touches i) (o .operand) touched) .same)
 
-  outside-unmarked : (x : Location) → Touches i x → Outside s x → directly (effectOf i) s ≡ refused miss
-  outside-unmarked x (inl m) o =
-      ap (λ a. perform look put marked s (andThen a (λ from. mapResult (planOn (effectOf i) from) target)))
-      (all-refused s miss (effectOf i .takes) (λ y n. alike y (inl n)) x m o)
-  outside-unmarked x (inr m) o =
-      ap (λ b. perform look put marked s (andThen source (λ from. mapResult (planOn (effectOf i) from) b)))
-      (all-refused s miss (effectOf i .gives) (λ y n. alike y (inr n)) x m o)
-      ∙ by source refl
+  outside-unmarked : (x : Location) → Touches i x → Outside s x → directly floor (effectOf i) s ≡ refused miss
+  outside-unmarked x (inl m) o = ap (λ a. with-places a target) (all-refused s miss (effectOf i .takes) (λ y n. alike y (inl n)) x m o)
+  outside-unmarked x (inr m) o = ap (with-places source) (all-refused s miss (effectOf i .gives) (λ y n. alike y (inr n)) x m o) ∙ by source refl
     where
-      by : (a : Result (List Place)) → source ≡ a
-          → perform look put marked s (andThen a (λ from. mapResult (planOn (effectOf i) from) (refused miss))) ≡ refused miss
+      by : (a : Result (List Place)) → source ≡ a → with-places a (refused miss) ≡ refused miss
       by (done from) e = refl
       by (refused n) e =
           let other = refused-all s (effectOf i .takes) n e in
           ap refused (other .missed .number ∙ alike (other .operand) (inl (other .among)) (other .missed .outside))
 
+  below-unmarked : ((x : Location) → Touches i x → ¬ Outside s x) → (x : Location) → In x (effectOf i .gives) → Below floor s x
+      → directly floor (effectOf i) s ≡ refused belowFloor
+  below-unmarked inside x m b =
+      let (from, ea) = all-inside s (effectOf i .takes) (λ y n. inside y (inl n)) in
+      let (to, eb) = all-inside s (effectOf i .gives) (λ y n. inside y (inr n)) in
+      ap₂ with-places ea eb
+      ∙ ap (λ t. perform look put marked s (cond t (done (planOn (effectOf i) from to)) (refused belowFloor))) (below-one floor s (effectOf i .gives) to eb x m b)
+
 -- The step
 
--- an instruction stands there: what it comes to
-step-stands : (code : List ℕ) (at : ℕ) (s : State) (i : Instruction) (size : ℕ) → Stands code at s i size
-    → stepAt code at s ≡ concluded at (at + size) s (perform look put marked s (plan (effectOf i) s))
-unfolding stepAt instructionAt execute
-step-stands code at s i size stands = simp (stands .memory-fits, stands .read)
+module _ (floor : ℕ) (code : List ℕ) (at : ℕ) (s : State) where
+  -- an instruction stands there: what it comes to
+  step-stands : (i : Instruction) (size : ℕ) → Stands floor code at s i size
+      → stepAt floor code at s ≡ concluded at (at + size) s (perform look put marked s (plan floor (effectOf i) s))
+  unfolding stepAt instructionAt execute
+  step-stands i size stands = simp (stands .fits .memory-fits, stands .fits .floor-fits, stands .read)
 
--- an operand of it is outside
-step-missed : (code : List ℕ) (at : ℕ) (s : State) (i : Instruction) (size : ℕ) → Passes code at s i size → (x : Location) → Touches i x → (o : Outside s x)
-    → stepAt code at s ≡ refusedWith (missOf (o .at)) at s
-step-missed code at s i size passes x touched o =
-    step-stands code at s i size (passes .stands)
-    ∙ simp (passes .em, passes .ts, passes .pending)
-    (ap (concluded at (at + size) s) (outside-unmarked i s x touched o ∙ ap refused (sym (alike i s x touched o))))
+  -- and no control mark stops it
+  step-passes : (i : Instruction) (size : ℕ) → Passes floor code at s i size
+      → stepAt floor code at s ≡ concluded at (at + size) s (directly floor (effectOf i) s)
+  step-passes i size passes = step-stands i size (passes .stands) ∙ simp (passes .em, passes .ts, passes .pending)
 
-pub step-given : (code : List ℕ) (at : ℕ) (s : State) (n : ℕ) → Reason code at s n → stepAt code at s ≡ refusedWith n at s
-unfolding stepAt instructionAt
-step-given code at s n (one long) = simp long
-step-given code at s n (reading fit r) = simp (fit, reading-exactly code at n .1 r)
-step-given code at s n (seven i size stands em) = step-stands code at s i size stands ∙ simp em
-step-given code at s n (eight i size stands em ts) = step-stands code at s i size stands ∙ simp (em, ts)
-step-given code at s n (nine i size stands em ts pending) = step-stands code at s i size stands ∙ simp (em, ts, pending)
-step-given code at s n (ten i size passes x touched o based) =
-    step-missed code at s i size passes x touched o ∙ ap (λ (m : ℕ). refusedWith m at s) (miss-by (o .at) false based)
-step-given code at s n (fourteen i size passes x touched o based) =
-    step-missed code at s i size passes x touched o ∙ ap (λ (m : ℕ). refusedWith m at s) (miss-by (o .at) true based)
+  -- an operand of it is outside
+  step-missed : (i : Instruction) (size : ℕ) → Passes floor code at s i size → (x : Location) → Touches i x → (o : Outside s x)
+      → stepAt floor code at s ≡ refusedWith (missOf (o .at)) at s
+  step-missed i size passes x touched o =
+      step-passes i size passes
+      ∙ ap (concluded at (at + size) s) (outside-unmarked floor i s x touched o ∙ ap refused (sym (alike floor i s x touched o)))
 
-pub step-exactly : (code : List ℕ) (at : ℕ) (s : State) (n : ℕ) → (stepAt code at s ≡ refusedWith n at s) ↔ Reason code at s n
-unfolding stepAt instructionAt execute
-step-exactly code at s n = (λ e. memory-test (isTooLong (s .memory)) refl e, step-given code at s n)
-  where
-    executed : (next : ℕ) (o : Result State) → concluded at next s o ≡ refusedWith n at s → o ≡ refused n
-    executed next (done t) h = absurd (false≢true (cc))
-    executed next (refused m) h = cc
+  pub step-given : (n : ℕ) → Reason floor code at s n → stepAt floor code at s ≡ refusedWith n at s
+  unfolding stepAt instructionAt
+  step-given n (one long) = simp long
+  step-given n (twenty fit high) = simp (fit, high)
+  step-given n (reading fits r) = simp (fits .memory-fits, fits .floor-fits, reading-exactly code at n .1 r)
+  step-given n (seven i size stands em) = step-stands i size stands ∙ simp em
+  step-given n (eight i size stands em ts) = step-stands i size stands ∙ simp (em, ts)
+  step-given n (nine i size stands em ts pending) = step-stands i size stands ∙ simp (em, ts, pending)
+  step-given n (ten i size passes x touched o based) =
+      step-missed i size passes x touched o ∙ ap (λ (m : ℕ). refusedWith m at s) (miss-by (o .at) false based)
+  step-given n (fourteen i size passes x touched o based) =
+      step-missed i size passes x touched o ∙ ap (λ (m : ℕ). refusedWith m at s) (miss-by (o .at) true based)
+  step-given n (twentyOne i size reaches x given b) =
+      step-passes i size (reaches .passes) ∙ ap (concluded at (at + size) s) (below-unmarked floor i s (reaches .inside) x given b)
 
-    missing : (i : Instruction) (size : ℕ) → Passes code at s i size → (x : Location) → Touches i x → (o : Outside s x) → n ≡ missOf (o .at)
-        → (stack : Bool) → isStackBase (o .at .base) ≡ stack → Reason code at s n
-    missing i size passes x touched o number false based =
-        subst (Reason code at s) (sym (number ∙ miss-by (o .at) false based)) (ten i size passes x touched o based)
-    missing i size passes x touched o number true based =
-        subst (Reason code at s) (sym (number ∙ miss-by (o .at) true based)) (fourteen i size passes x touched o based)
+  pub step-exactly : (n : ℕ) → (stepAt floor code at s ≡ refusedWith n at s) ↔ Reason floor code at s n
+  unfolding stepAt instructionAt execute
+  step-exactly n = (λ e. tests (isTooLong (s .memory)) (isTooHigh floor (s .memory)) refl refl e, step-given n)
+    where
+      Why : ℕ → Type 0
+      Why m = Reason floor code at s m
 
-    marks : (i : Instruction) (size : ℕ) → Stands code at s i size → (em ts pending : Bool)
-        → stopsIt i (s .marks .em) ≡ em → stopsIt i (s .marks .ts) ≡ ts → stopsIt i (s .marks .pending) ≡ pending
-        → perform look put marked s (unlessMarked (controlled (s .marks) em ts pending) (andThen (source i s) (λ from. mapResult (planOn (effectOf i) from) (target i s)))) ≡ refused n
-        → Reason code at s n
-    marks i size stands true ts pending e f g h = subst (Reason code at s) (cc) (seven i size stands e)
-    marks i size stands false true pending e f g h = subst (Reason code at s) (cc) (eight i size stands e f)
-    marks i size stands false false true e f g h = subst (Reason code at s) (cc) (nine i size stands e f g)
-    marks i size stands false false false e f g h =
-        let o = refused-unmarked i s n h in
-        let there = o .missed .outside in
-        missing i size (record { stands = stands; em = e; ts = f; pending = g }) (o .operand) (o .touched) there (o .missed .number) (isStackBase (there .at .base)) refl
+      executed : (next : ℕ) (o : Result State) → concluded at next s o ≡ refusedWith n at s → o ≡ refused n
+      executed next (done t) h = absurd (false≢true (cc))
+      executed next (refused m) h = cc
 
-    read : (z : decoded.Decoded) → isTooLong (s .memory) ≡ false → readAt code at ≡ z
-        → caseOf (resultOf z) (λ m. refusedWith m at s) (λ r. concluded at (at + r .size) s (execute (r .instruction) s)) ≡ refusedWith n at s
-        → Reason code at s n
-    read (decoded.refused m) fit e h =
-        let same : m ≡ n = cc in
-        reading fit (reading-exactly code at n .0 (e ∙ ap decoded.refused same))
-    read (decoded.good i size) fit e h =
-        marks i size (record { memory-fits = fit; read = e }) (stopsIt i (s .marks .em)) (stopsIt i (s .marks .ts)) (stopsIt i (s .marks .pending)) refl refl refl
-        (executed (at + size) (execute i s) h)
+      operands : (i : Instruction) (size : ℕ) → Passes floor code at s i size → (m : ℕ) → Refusing floor i s m → Why m
+      operands i size passes m (misses x touched o) = by (isStackBase (o .at .base)) refl
+        where
+          by : (stack : Bool) → isStackBase (o .at .base) ≡ stack → Why (missOf (o .at))
+          by false based = subst Why (sym (miss-by (o .at) false based)) (ten i size passes x touched o based)
+          by true based = subst Why (sym (miss-by (o .at) true based)) (fourteen i size passes x touched o based)
+      operands i size passes m (sinks inside x given b) = twentyOne i size (record { passes = passes; inside = inside }) x given b
 
-    memory-test : (t : Bool) → isTooLong (s .memory) ≡ t
-        → caseOf (cond t (refused memoryTooLong) (resultOf (readAt code at))) (λ m. refusedWith m at s) (λ r. concluded at (at + r .size) s (execute (r .instruction) s)) ≡ refusedWith n at s
-        → Reason code at s n
-    memory-test true t h = subst (Reason code at s) (cc) (one t)
-    memory-test false t h = read (readAt code at) t refl h
+      marks : (i : Instruction) (size : ℕ) → Stands floor code at s i size → (em ts pending : Bool)
+          → stopsIt i (s .marks .em) ≡ em → stopsIt i (s .marks .ts) ≡ ts → stopsIt i (s .marks .pending) ≡ pending
+          → perform look put marked s (unlessMarked (controlled (s .marks) em ts pending) (placedAbove floor (effectOf i) s)) ≡ refused n
+          → Why n
+      marks i size stands true ts pending e f g h = subst Why (cc) (seven i size stands e)
+      marks i size stands false true pending e f g h = subst Why (cc) (eight i size stands e f)
+      marks i size stands false false true e f g h = subst Why (cc) (nine i size stands e f g)
+      marks i size stands false false false e f g h =
+          operands i size (record { stands = stands; em = e; ts = f; pending = g }) n (refused-unmarked floor i s n h)
+
+      read : (z : decoded.Decoded) → Fits floor s → readAt code at ≡ z
+          → caseOf (resultOf z) (λ m. refusedWith m at s) (λ r. concluded at (at + r .size) s (execute floor (r .instruction) s)) ≡ refusedWith n at s
+          → Why n
+      read (decoded.refused m) fits e h =
+          let same : m ≡ n = cc in
+          reading fits (reading-exactly code at n .0 (e ∙ ap decoded.refused same))
+      read (decoded.good i size) fits e h =
+          marks i size (record { fits = fits; read = e }) (stopsIt i (s .marks .em)) (stopsIt i (s .marks .ts)) (stopsIt i (s .marks .pending)) refl refl refl
+          (executed (at + size) (execute floor i s) h)
+
+      tests : (a b : Bool) → isTooLong (s .memory) ≡ a → isTooHigh floor (s .memory) ≡ b
+          → caseOf (cond a (refused memoryTooLong) (cond b (refused floorTooHigh) (resultOf (readAt code at))))
+          (λ m. refusedWith m at s) (λ r. concluded at (at + r .size) s (execute floor (r .instruction) s)) ≡ refusedWith n at s
+          → Why n
+      tests true b ea eb h = subst Why (cc) (one ea)
+      tests false true ea eb h = subst Why (cc) (twenty ea eb)
+      tests false false ea eb h = read (readAt code at) (record { memory-fits = ea; floor-fits = eb }) refl h

@@ -96,16 +96,27 @@ whereBarred =
     ∷ (0x0f ∷ 0x77 ∷ [], refused 7)
     ∷ []
 
--- a block, the number of an instruction, and its footprint in the block's run
-abbrev pub inRuns : List (List ℕ × ℕ × Result (Footprint Place Kind))
+-- over a floor: MOVQ [EAX + 4], MM1, where the floor is at its first byte and behind it; a load below the floor; a floor above the memory
+abbrev pub overFloors : List (ℕ × Line)
+overFloors =
+    (12, uses (0x0f ∷ 0x7f ∷ 0x48 ∷ 4 ∷ []) (integer 0 ∷ mmx 1 ∷ []) (bytesFrom 12 8))
+    ∷ (13, (0x0f ∷ 0x7f ∷ 0x48 ∷ 4 ∷ [], refused 21))
+    ∷ (32, uses (0x0f ∷ 0x6f ∷ 0x48 ∷ 4 ∷ []) (integer 0 ∷ bytesFrom 12 8) (mmx 1 ∷ []))
+    ∷ (33, (0x0f ∷ 0x6f ∷ 0x48 ∷ 4 ∷ [], refused 20))
+    ∷ []
+
+-- a floor, a block, the number of an instruction, and its footprint in the block's run over that floor
+abbrev pub inRuns : List (ℕ × List ℕ × ℕ × Result (Footprint Place Kind))
 inRuns =
     -- MOVD ECX, MM0, which is 0, and then MOVQ MM1, [EAX + ECX * 8], at 8 and no more at 24
-    (0x0f ∷ 0x7e ∷ 0xc1 ∷ 0x0f ∷ 0x6f ∷ 0x0c ∷ 0xc8 ∷ [], 1, done (record { reads = integer 0 ∷ integer 1 ∷ bytesFrom 8 8; writes = mmx 1 ∷ []; kind = Ordinary }))
+    (0, 0x0f ∷ 0x7e ∷ 0xc1 ∷ 0x0f ∷ 0x6f ∷ 0x0c ∷ 0xc8 ∷ [], 1, done (record { reads = integer 0 ∷ integer 1 ∷ bytesFrom 8 8; writes = mmx 1 ∷ []; kind = Ordinary }))
     -- the step's own refusal: 90 is 5, a prefix after EMMS is 4, and past the last instruction the code ends
-    ∷ (0x90 ∷ [], 0, refused 5)
-    ∷ (0x0f ∷ 0x77 ∷ 0x66 ∷ [], 1, refused 4)
-    ∷ (0x0f ∷ 0x77 ∷ [], 1, refused 3)
-    ∷ (0x0f ∷ 0x77 ∷ [], 9, refused 3)
+    ∷ (0, 0x90 ∷ [], 0, refused 5)
+    ∷ (0, 0x0f ∷ 0x77 ∷ 0x66 ∷ [], 1, refused 4)
+    ∷ (0, 0x0f ∷ 0x77 ∷ [], 1, refused 3)
+    ∷ (0, 0x0f ∷ 0x77 ∷ [], 9, refused 3)
     -- code that is too long is 2, wherever it is asked about
-    ∷ (replicate 4097 0x90, 0, refused 2)
+    ∷ (0, replicate 4097 0x90, 0, refused 2)
+    -- where the floor refuses MOVQ [0], MM0, a run does not come to the EMMS behind it; and footprints are asked for over floor 0
+    ∷ (1, 0x0f ∷ 0x7f ∷ 0x05 ∷ 0 ∷ 0 ∷ 0 ∷ 0 ∷ 0x0f ∷ 0x77 ∷ [], 1, done (record { reads = mmx 0 ∷ []; writes = bytesFrom 0 8; kind = Ordinary }))
     ∷ []

@@ -10,7 +10,7 @@ use Rattle.manual.specs.Places.{Place, mmx, integer, byte, look, put}
 use Rattle.manual.specs.Kinds.{marked, heeded, KindsMeet}
 use Rattle.manual.specs.Addresses.{Address, registerPart, address, registersOf, addressRegisters}
 use Rattle.manual.specs.Locations.{Location, mmxRegister, integerRegister, memory, missOf, tested, placesOf, registersBehind}
-use Rattle.manual.specs.Effects.{placesOfAll, registersBehindAll, addressRegistersOf, unlessMarked, planOn, plan, via}
+use Rattle.manual.specs.Effects.{placesOfAll, registersBehindAll, addressRegistersOf, unlessMarked, planOn, guarded, plan, via}
 use Rattle.manual.proofs.Lists.{set-same, set-alike}
 use Rattle.manual.proofs.Marking.{controlled}
 
@@ -138,10 +138,10 @@ module _ (s s′ : State) (same : frozen s ≡ frozen s′) where
       λ j. andThen (places-local x (λ k m. h k (Memᴰ·append-left (registersBehindAll xs) m)) j)
       (λ ps. mapResult (λ qs. ps ++ qs) (all-local xs (λ k m. h k (Memᴰ·append-right (registersBehind x) m)) j))
 
-pub local : Local look frozen via plan
-local e s s′ same h =
+pub local : (floor : ℕ) → Local look frozen via (plan floor)
+local floor e s s′ same h =
     λ j. unlessMarked (heeded (e .kind) (controlled (s .marks) (same j .em) (same j .ts) (same j .pending)))
-    (andThen (takes j) (λ source. mapResult (planOn e source) (gives j)))
+    (andThen (andThen (takes j) (λ source. mapResult (planOn e source) (gives j))) (guarded floor))
   where
     agree : Agree s s′ same (addressRegistersOf e)
     agree k m = h (integer k) (Memᴰ·map integer m)

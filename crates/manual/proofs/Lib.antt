@@ -7,10 +7,12 @@ pub mod Laws
 pub mod Locality
 pub mod Turns
 pub mod Refusals
+pub mod Floors
 pub mod OneAddress
 pub mod Exactly
 pub mod Bounds
 pub mod StackBases
+pub mod Stores
 pub mod Demand3
 pub mod Endings
 pub mod Uses

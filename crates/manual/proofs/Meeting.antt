@@ -59,13 +59,13 @@ kinds-exactly i j = (from (eqb (i .second) 0x77) (isSilent (i .second)) (eqb (j 
     to (inr h) = kinds-turn (kindAt (j .second)) (kindAt (i .second)) (one j i h)
 
 -- "Two instructions meet if one writes a place that the other reads or writes, or if either is EMMS", and the other no prefetch or SFENCE; no others do
-pub meets-exactly : (i j : Instruction) (s t : State) (f g : places.Footprint Place Kind) → footprint i s ≡ done f → footprint j t ≡ done g
-    → Meets (footprint i s) (footprint j t) ↔ ((Empties i j ⊎ Empties j i) ⊎ places.Share f g)
-meets-exactly i j s t f g ef eg =
+pub meets-exactly : (floor : ℕ) (i j : Instruction) (s t : State) (f g : places.Footprint Place Kind) → footprint floor i s ≡ done f → footprint floor j t ≡ done g
+    → Meets (footprint floor i s) (footprint floor j t) ↔ ((Empties i j ⊎ Empties j i) ⊎ places.Share f g)
+meets-exactly floor i j s t f g ef eg =
     subst₂ (λ x y. Meets x y ↔ ((Empties i j ⊎ Empties j i) ⊎ places.Share f g)) (sym ef) (sym eg) (from, to)
   where
     same : KindsMeet (f .kind) (g .kind) ≡ KindsMeet (kindAt (i .second)) (kindAt (j .second))
-    same = ap₂ KindsMeet (footprint-kind i s f ef) (footprint-kind j t g eg)
+    same = ap₂ KindsMeet (footprint-kind floor i s f ef) (footprint-kind floor j t g eg)
 
     from : Meets (done f) (done g) → (Empties i j ⊎ Empties j i) ⊎ places.Share f g
     from (inl h) = inl (kinds-exactly i j .0 (subst (λ X. X) same h))
@@ -76,9 +76,9 @@ meets-exactly i j s t f g ef eg =
     to (inr h) = inr h
 
 -- a prefetch or SFENCE meets nothing, EMMS included
-pub silent-meets-none : (i : Instruction) (s : State) (x : Result (places.Footprint Place Kind)) → isSilent (i .second) ≡ true
-    → ¬ Meets (footprint i s) x
-silent-meets-none i s x h m = by x (subst (λ y. Meets y x) (silent-passes i s h .1) m)
+pub silent-meets-none : (floor : ℕ) (i : Instruction) (s : State) (x : Result (places.Footprint Place Kind)) → isSilent (i .second) ≡ true
+    → ¬ Meets (footprint floor i s) x
+silent-meets-none floor i s x h m = by x (subst (λ y. Meets y x) (silent-passes floor i s h .1) m)
   where
     by : (x : Result (places.Footprint Place Kind)) → Meets (done (record { reads = []; writes = []; kind = Silent })) x → ⊥
     by (refused n) m = m

@@ -24,7 +24,7 @@ stoppedBy (stopped n at count t) number = eqb n number && eqb at 0 && eqb count 
 
 -- bytes, destination, source, what is left
 abbrev plate : List ℕ → ℕ → ℕ → ℕ → Bool
-plate code destination source result = leaves (runOf code 4096 (start destination source false)) result
+plate code destination source result = leaves (runOf 0 code 4096 (start destination source false)) result
 
 -- the plates of document 01
 abbrev pub plates : List Bool
@@ -52,7 +52,7 @@ plates =
     -- PACKUSWB
     ∷ plate (0x0f ∷ 0x67 ∷ 0xc1 ∷ []) 0xffffffffffffffff 0xffffffffffffffff 0
     -- digit 0 of 71 is not listed
-    ∷ stoppedBy (runOf (0x0f ∷ 0x71 ∷ 0xc0 ∷ 0x01 ∷ []) 4096 (start 0 0 false)) 6
+    ∷ stoppedBy (runOf 0 (0x0f ∷ 0x71 ∷ 0xc0 ∷ 0x01 ∷ []) 4096 (start 0 0 false)) 6
     -- the letter's question: of 0001 and FFFF, PCMPGTW finds 0001 the greater
     ∷ plate (0x0f ∷ 0x65 ∷ 0xc1 ∷ []) 0x0001 0xffff 0xffff
     ∷ []

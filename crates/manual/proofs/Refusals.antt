@@ -2,68 +2,82 @@
 use Rattle.basis.specs.Names.{_≡_, refl, _⊎_, Bool, true, false, cond, List, ℕ, zero, suc, _-_, _≤_, _+_, eqb, ltb, length}
 use Rattle.basis.proofs.Names.{sym, ap, _∙_, inl, inr, false≢true, sub-zero, arith}
 use Rattle.reorder.specs.Result.{Result, done, refused, caseOf}
-use Rattle.reorder.specs.Run.{Fetched, finished, spent, stopped, runFrom, run}
+use Rattle.reorder.specs.Run.{Fetched, Answer, finished, spent, stopped, runFrom, run}
 use Rattle.reorder.proofs.Places.{leaves-frozen}
 use Rattle.reorder.proofs.Swapping.{completed as planned}
-use Rattle.codec.specs.Refusals.{codeTooLong}
-use Rattle.codec.specs.Reads.{longestCode, readAt}
+use Rattle.codec.specs.Reads.{longestCode}
 use Rattle.codec.specs.declared.Instruction.{Instruction}
-use Rattle.manual.specs.Refusals.{memoryTooLong}
-use Rattle.manual.specs.State.{State, Frozen, frozen, longestMemory, isTooLong}
+use Rattle.manual.specs.State.{State, Frozen, frozen, longestMemory}
 use Rattle.manual.specs.Places.{look, put}
 use Rattle.manual.specs.Kinds.{marked, KindsMeet}
 use Rattle.manual.specs.Effects.{via, plan}
 use Rattle.manual.specs.Instructions.{effectOf, execute}
 use Rattle.manual.specs.Steps.{Outcome, completed, refusedWith, concluded, instructionAt, stepAt}
+use Rattle.manual.specs.Reasons.{Fits}
 use Rattle.manual.specs.Runs.{read, runOf}
 use Rattle.manual.proofs.Laws.{laws}
-use Rattle.manual.proofs.Turns.{onward, turn}
+use Rattle.manual.proofs.Turns.{onward, of-run, turn}
 
 -- "A refused step returns the number with the state and position it was given and changes no memory byte."
-pub refused-step : (code : List ℕ) (at n at′ : ℕ) (s t : State) → stepAt code at s ≡ refusedWith n at′ t → (at′ ≡ at) × (t ≡ s)
+pub refused-step : (floor : ℕ) (code : List ℕ) (at n at′ : ℕ) (s t : State) → stepAt floor code at s ≡ refusedWith n at′ t → (at′ ≡ at) × (t ≡ s)
 unfolding stepAt
-refused-step code at n at′ s t e = reading (instructionAt code at s) e
+refused-step floor code at n at′ s t e = reading (instructionAt floor code at s) e
   where
     executing : (size : ℕ) (o : Result State) → concluded at (at + size) s o ≡ refusedWith n at′ t → (at′ ≡ at) × (t ≡ s)
     executing size (refused m) h = (cc, cc)
     executing size (done u) h = absurd (false≢true (cc))
 
     reading : (o : Result (Fetched Instruction))
-        → caseOf o (λ m. refusedWith m at s) (λ r. concluded at (at + r .size) s (execute (r .instruction) s)) ≡ refusedWith n at′ t
+        → caseOf o (λ m. refusedWith m at s) (λ r. concluded at (at + r .size) s (execute floor (r .instruction) s)) ≡ refusedWith n at′ t
         → (at′ ≡ at) × (t ≡ s)
     reading (refused m) h = (cc, cc)
-    reading (done r) h = executing (r .size) (execute (r .instruction) s) h
+    reading (done r) h = executing (r .size) (execute floor (r .instruction) s) h
 
 -- a completed step changes nothing frozen
-execute-frozen : (i : Instruction) (s t : State) → execute i s ≡ done t → frozen t ≡ frozen s
+execute-frozen : (floor : ℕ) (i : Instruction) (s t : State) → execute floor i s ≡ done t → frozen t ≡ frozen s
 unfolding execute
-execute-frozen i s t e =
-    let (pl, vs, ep, em, et) = planned look put marked via plan (effectOf i) s t e in
+execute-frozen floor i s t e =
+    let (pl, vs, ep, em, et) = planned look put marked via (plan floor) (effectOf i) s t e in
     ap frozen et ∙ leaves-frozen look put marked frozen KindsMeet laws pl s vs
 
-pub step-frozen : (code : List ℕ) (at at′ : ℕ) (s t : State) → stepAt code at s ≡ completed at′ t → frozen t ≡ frozen s
+-- a completed step is an instruction that stands there and completes
+pub step-executed : (floor : ℕ) (code : List ℕ) (at next : ℕ) (s t : State) → stepAt floor code at s ≡ completed next t
+    → (r : Fetched Instruction) × (instructionAt floor code at s ≡ done r) × (execute floor (r .instruction) s ≡ done t) × (next ≡ at + r .size)
 unfolding stepAt
-step-frozen code at at′ s t e = reading (instructionAt code at s) e
+step-executed floor code at next s t e = reading (instructionAt floor code at s) refl e
   where
-    executing : (r : Fetched Instruction) (o : Result State) → execute (r .instruction) s ≡ o
-        → concluded at (at + r .size) s o ≡ completed at′ t → frozen t ≡ frozen s
-    executing r (refused m) x h = absurd (false≢true (cc))
-    executing r (done u) x h = execute-frozen (r .instruction) s t (cc)
+    Goal : Type 0
+    Goal = (r : Fetched Instruction) × (instructionAt floor code at s ≡ done r) × (execute floor (r .instruction) s ≡ done t) × (next ≡ at + r .size)
 
-    reading : (o : Result (Fetched Instruction))
-        → caseOf o (λ m. refusedWith m at s) (λ r. concluded at (at + r .size) s (execute (r .instruction) s)) ≡ completed at′ t
-        → frozen t ≡ frozen s
-    reading (refused m) h = absurd (false≢true (cc))
-    reading (done r) h = executing r (execute (r .instruction) s) refl h
+    executing : (r : Fetched Instruction) → instructionAt floor code at s ≡ done r → (o : Result State) → execute floor (r .instruction) s ≡ o
+        → concluded at (at + r .size) s o ≡ completed next t → Goal
+    executing r e (refused m) x h = absurd (false≢true (cc))
+    executing r e (done u) x h = (r, e, (cc), (cc))
 
-module _ (code : List ℕ) (code-fits : ltb longestCode (length code) ≡ false) (n end total : ℕ) (t : State) where
+    reading : (o : Result (Fetched Instruction)) → instructionAt floor code at s ≡ o
+        → caseOf o (λ m. refusedWith m at s) (λ r. concluded at (at + r .size) s (execute floor (r .instruction) s)) ≡ completed next t → Goal
+    reading (refused m) e h = absurd (false≢true (cc))
+    reading (done r) e h = executing r e (execute floor (r .instruction) s) refl h
+
+pub step-frozen : (floor : ℕ) (code : List ℕ) (at next : ℕ) (s t : State) → stepAt floor code at s ≡ completed next t → frozen t ≡ frozen s
+step-frozen floor code at next s t e = let (r, er, ex, en) = step-executed floor code at next s t e in execute-frozen floor (r .instruction) s t ex
+
+-- so memory and floor still fit
+pub still-fits : (floor : ℕ) (s t : State) → frozen t ≡ frozen s → Fits floor s → Fits floor t
+still-fits floor s t same fits =
+    record {
+      memory-fits = ap (λ (f : Frozen). ltb longestMemory (f .memory)) same ∙ fits .memory-fits;
+      floor-fits = ap (λ (f : Frozen). ltb (f .memory) floor) same ∙ fits .floor-fits;
+    }
+
+module _ (floor : ℕ) (code : List ℕ) (code-fits : ltb longestCode (length code) ≡ false) (n end total : ℕ) (t : State) where
   -- a run that stops has come, by as many steps as it counts, to a step that is refused
   abbrev Kept : ℕ → ℕ → State → Type 0
   Kept at count s =
-      (count ≤ total) × (runFrom read execute (total - count) code at count s ≡ spent end total t) × (stepAt code end t ≡ refusedWith n end t)
+      (count ≤ total) × (runFrom read (execute floor) (total - count) code at count s ≡ spent end total t) × (stepAt floor code end t ≡ refusedWith n end t)
 
-  kept : (remaining at count : ℕ) (s : State) → isTooLong (s .memory) ≡ false
-      → runFrom read execute remaining code at count s ≡ stopped n end total t → Kept at count s
+  kept : (remaining at count : ℕ) (s : State) → Fits floor s
+      → runFrom read (execute floor) remaining code at count s ≡ stopped n end total t → Kept at count s
   kept zero at count s fits h = at-end (eqb at (length code)) h
     where
       at-end : (b : Bool) → cond b (finished at count s) (spent at count s) ≡ stopped n end total t → Kept at count s
@@ -74,52 +88,44 @@ module _ (code : List ℕ) (code-fits : ltb longestCode (length code) ≡ false)
     where
       Further : Type 0
       Further =
-          (at′ : ℕ) (u : State) → isTooLong (u .memory) ≡ false → runFrom read execute remaining code at′ (suc count) u ≡ stopped n end total t → Kept at′ (suc count) u
+          (at′ : ℕ) (u : State) → Fits floor u → runFrom read (execute floor) remaining code at′ (suc count) u ≡ stopped n end total t → Kept at′ (suc count) u
 
-      stepping : eqb at (length code) ≡ false → (o : Outcome) → stepAt code at s ≡ o → Further
-          → onward (runFrom read execute remaining code) count o ≡ stopped n end total t → Kept at count s
+      stepping : eqb at (length code) ≡ false → (o : Outcome) → stepAt floor code at s ≡ o → Further
+          → onward (runFrom read (execute floor) remaining code) count o ≡ stopped n end total t → Kept at count s
       stepping more (refusedWith m at′ u) e further h =
-          let (same-at, same-state) = refused-step code at m at′ s u e in
+          let (same-at, same-state) = refused-step floor code at m at′ s u e in
           let all : count ≡ total = cc in
           let none : total - count ≡ 0 = omega arith in
           (omega arith, simp (none, more) (cc), cc)
       stepping more (completed at′ u) e further h =
-          let fits′ : isTooLong (u .memory) ≡ false = ap (λ (f : Frozen). ltb longestMemory (f .memory)) (step-frozen code at at′ s u e) ∙ fits in
+          let fits′ : Fits floor u = still-fits floor s u (step-frozen floor code at at′ s u e) fits in
           let (counted, rest, last) = further at′ u fits′ h in
           let one : total - count ≡ suc (total - suc count) = omega arith in (
             omega arith,
-            ap (λ (k : ℕ). runFrom read execute k code at count s) one
-                ∙ turn code at s fits code-fits (total - suc count) count more
-                ∙ ap (onward (runFrom read execute (total - suc count) code) count) e
+            ap (λ (k : ℕ). runFrom read (execute floor) k code at count s) one
+                ∙ turn floor code at s fits code-fits (total - suc count) count more
+                ∙ ap (onward (runFrom read (execute floor) (total - suc count) code) count) e
                 ∙ rest,
             last,
           )
 
-      at-end : (b : Bool) → eqb at (length code) ≡ b → Further → runFrom read execute (suc remaining) code at count s ≡ stopped n end total t → Kept at count s
+      at-end : (b : Bool) → eqb at (length code) ≡ b → Further → runFrom read (execute floor) (suc remaining) code at count s ≡ stopped n end total t → Kept at count s
       at-end true e further h = let over : finished at count s ≡ stopped n end total t = simp e at h in absurd (false≢true (cc))
       at-end false e further h =
-          stepping e (stepAt code at s) refl further (sym (turn code at s fits code-fits remaining count e) ∙ h)
+          stepping e (stepAt floor code at s) refl further (sym (turn floor code at s fits code-fits remaining count e) ∙ h)
 
 -- "A refused run keeps what earlier instructions did": it has come to a step that is refused, in the state that a run with just the budget of
 -- those instructions leaves; or it was refused at its start, and nothing has changed.
-pub refused-run : (code : List ℕ) (budget n at count : ℕ) (s t : State) → runOf code budget s ≡ stopped n at count t
-    → (stepAt code at t ≡ refusedWith n at t) × ((runOf code count s ≡ spent at count t) ⊎ ((count ≡ 0) × (t ≡ s)))
-unfolding runOf stepAt instructionAt readAt
-refused-run code budget n at count s t h = tests (isTooLong (s .memory)) (ltb longestCode (length code)) refl refl h
+pub refused-run : (floor : ℕ) (code : List ℕ) (budget n at count : ℕ) (s t : State) → runOf floor code budget s ≡ stopped n at count t
+    → (stepAt floor code at t ≡ refusedWith n at t) × ((runOf floor code count s ≡ spent at count t) ⊎ ((count ≡ 0) × (t ≡ s)))
+refused-run floor code budget n at count s t = of-run floor code s Stops at-start further
   where
-    Goal : Type 0
-    Goal = (stepAt code at t ≡ refusedWith n at t) × ((runOf code count s ≡ spent at count t) ⊎ ((count ≡ 0) × (t ≡ s)))
+    Stops : (ℕ → Answer State) → Type 0
+    Stops runs =
+        runs budget ≡ stopped n at count t → (stepAt floor code at t ≡ refusedWith n at t) × ((runs count ≡ spent at count t) ⊎ ((count ≡ 0) × (t ≡ s)))
 
-    tests : (a b : Bool) → isTooLong (s .memory) ≡ a → ltb longestCode (length code) ≡ b
-        → cond a (stopped memoryTooLong 0 0 s) (cond b (stopped codeTooLong 0 0 s) (run read execute budget code s)) ≡ stopped n at count t → Goal
-    tests true b ea eb h =
-        let same : t ≡ s = cc in
-        let number : memoryTooLong ≡ n = cc in
-        (simp (same, ea) (cc), inr (cc, same))
-    tests false true ea eb h =
-        let same : t ≡ s = cc in
-        let number : codeTooLong ≡ n = cc in
-        (simp (same, ea, eb) (cc), inr (cc, same))
-    tests false false ea eb h =
-        let (counted, rest, last) = kept code eb n at count t budget 0 0 s ea h in
-        (last, inl (simp (ea, eb) (rw sub-zero at rest)))
+    at-start : (m : ℕ) → stepAt floor code 0 s ≡ refusedWith m 0 s → Stops (λ k. stopped m 0 0 s)
+    at-start m e h = (cc, inr (cc, cc))
+
+    further : Fits floor s → ltb longestCode (length code) ≡ false → Stops (λ k. run read (execute floor) k code s)
+    further fits code-fits h = let (counted, rest, last) = kept floor code code-fits n at count t budget 0 0 s fits h in (last, inl (rw sub-zero at rest))

@@ -3,6 +3,8 @@
 use Rattle.basis.specs.Names.{_≡_, refl, _⊎_, Bool, true, false, List, ℕ, _+_, _<_, eqb, length}
 use Rattle.basis.proofs.Names.{sym, ap, subst, _∙_, _↔_, inl, inr, false≢true, and-false, arith, eqb-true, eqb-false, eq-eqb, ne-eqb}
 use Rattle.codec.specs.Operands.{hasSib}
+use Rattle.codec.specs.Forms.{memorySize}
+use Rattle.codec.specs.Opcodes.{formAt}
 use Rattle.codec.specs.declared.Operand.{Operand}
 use Rattle.codec.specs.declared.Instruction.{Instruction}
 use Rattle.manual.specs.Refusals.{outsideByStack}
@@ -10,7 +12,7 @@ use Rattle.manual.specs.State.{State}
 use Rattle.manual.specs.Addresses.{Address, baseOf, addressOf, isStackBase, address}
 use Rattle.manual.specs.Locations.{memory}
 use Rattle.manual.specs.Steps.{refusedWith, stepAt}
-use Rattle.manual.specs.Reasons.{Passes, Touches, Reason, one, reading, seven, eight, nine, ten, fourteen}
+use Rattle.manual.specs.Reasons.{Passes, Touches, Reason, one, twenty, reading, seven, eight, nine, ten, fourteen, twentyOne}
 use Rattle.manual.proofs.OneAddress.{PointedAt, one-address}
 use Rattle.manual.proofs.Exactly.{step-exactly}
 use Rattle.manual.proofs.Bounds.{reading-small}
@@ -63,11 +65,11 @@ stack-in-words w other = (there (eqb (w .rm) 4) refl, back)
     back (ebp-sib mode e five) = simp (ne-eqb (w .mode) 3 other, eq-eqb (w .rm) 4 e) (based-exactly (w .mode) (w .base) .1 (inr (mode, five)))
 
 -- 14 is due
-pub record Fourteen (code : List ℕ) (at : ℕ) (s : State) : Type 0 where
+pub record Fourteen (floor : ℕ) (code : List ℕ) (at : ℕ) (s : State) : Type 0 where
   -- the instruction there, of so many bytes
   pub instruction : Instruction
   pub bytes : ℕ
-  pub passes : Passes code at s instruction bytes
+  pub passes : Passes floor code at s instruction bytes
   -- its operand in memory, by ESP or EBP, of which a byte is outside
   pub in-memory : instruction .operand .mode ≡ 3 → ⊥
   pub by-stack : ByStack (instruction .operand)
@@ -75,22 +77,24 @@ pub record Fourteen (code : List ℕ) (at : ℕ) (s : State) : Type 0 where
   pub touches : Touches instruction (memory (addressOf (instruction .operand)) size)
   pub past : length (s .memory) < address (s .integers) (addressOf (instruction .operand)) + size
 
-pub fourteen-in-words : (code : List ℕ) (at : ℕ) (s : State) → (stepAt code at s ≡ refusedWith outsideByStack at s) ↔ Fourteen code at s
-fourteen-in-words code at s = (λ e. there outsideByStack (step-exactly code at s outsideByStack .0 e) refl, λ f. step-exactly code at s outsideByStack .1 (back f))
+pub fourteen-in-words : (floor : ℕ) (code : List ℕ) (at : ℕ) (s : State) → (stepAt floor code at s ≡ refusedWith outsideByStack at s) ↔ Fourteen floor code at s
+fourteen-in-words floor code at s = (λ e. there outsideByStack (step-exactly floor code at s outsideByStack .0 e) refl, λ f. step-exactly floor code at s outsideByStack .1 (back f))
   where
-    there : (n : ℕ) → Reason code at s n → n ≡ outsideByStack → Fourteen code at s
+    there : (n : ℕ) → Reason floor code at s n → n ≡ outsideByStack → Fourteen floor code at s
     there n (one h) e = absurd (omega arith)
+    there n (twenty h g) e = absurd (omega arith)
     there n (reading h r) e = absurd (omega (arith, reading-small code at n r))
     there n (seven i size h em) e = absurd (omega arith)
     there n (eight i size h em ts) e = absurd (omega arith)
     there n (nine i size h em ts pending) e = absurd (omega arith)
     there n (ten i size h x touches o based) e = absurd (omega arith)
+    there n (twentyOne i size h x given b) e = absurd (omega arith)
     there n (fourteen i size h x touches o based) e = by (one-address i .inEdi) (one-address i .points (o .at) (o .size) touched)
       where
         touched : Touches i (memory (o .at) (o .size))
         touched = subst (Touches i) (o .operand) touches
 
-        by : (inEdi : Bool) → PointedAt inEdi i (o .at) → Fourteen code at s
+        by : (inEdi : Bool) → PointedAt inEdi i (memorySize (formAt (i .second))) (o .at) (o .size) → Fourteen floor code at s
         by true p = absurd (false≢true (ap (λ (a : Address). isStackBase (a .base)) (sym (p .same)) ∙ based))
         by false p =
             record {
@@ -104,7 +108,7 @@ fourteen-in-words code at s = (λ e. there outsideByStack (step-exactly code at 
               past = subst (λ (a : Address). length (s .memory) < address (s .integers) a + o .size) (p .same) (o .past);
             }
 
-    back : Fourteen code at s → Reason code at s outsideByStack
+    back : Fourteen floor code at s → Reason floor code at s outsideByStack
     back f =
         let i = f .instruction in
         let a = addressOf (i .operand) in

@@ -1,41 +1,61 @@
--- A run is its steps: each turn of it is a step at its position, and the position after that is the one that the step gives.
-use Rattle.basis.specs.Names.{_≡_, refl, false, List, ℕ, suc, _+_, eqb, ltb, length, drop}
+-- A run is its steps: at its start it is refused by 1, 20 or 2 where its first step is; each turn of it is a step at its position, and the position
+-- after that is the one that the step gives.
+use Rattle.basis.specs.Names.{_≡_, refl, Bool, true, false, cond, List, ℕ, suc, _+_, eqb, ltb, length, drop}
 use Rattle.reorder.specs.Result.{Result, done, refused, caseOf}
-use Rattle.reorder.specs.Run.{Fetched, Answer, stopped, runFrom}
+use Rattle.reorder.specs.Run.{Fetched, Answer, stopped, runFrom, run}
+use Rattle.codec.specs.Refusals.{codeTooLong}
 use Rattle.codec.specs.Reads.{longestCode, readAt}
 use Rattle.codec.specs.declared.Instruction.{Instruction}
-use Rattle.manual.specs.State.{State, isTooLong}
+use Rattle.manual.specs.Refusals.{memoryTooLong, floorTooHigh}
+use Rattle.manual.specs.State.{State, isTooLong, isTooHigh}
 use Rattle.manual.specs.Instructions.{execute}
 use Rattle.manual.specs.Steps.{Outcome, completed, refusedWith, concluded, instructionAt, stepAt}
-use Rattle.manual.specs.Runs.{read}
+use Rattle.manual.specs.Reasons.{Fits}
+use Rattle.manual.specs.Runs.{read, runOf}
 
 -- What a run makes of a step: it goes on at the position that the step gives, or stops where the step was refused.
 abbrev pub onward : (ℕ → ℕ → State → Answer State) → ℕ → Outcome → Answer State
 onward further count (completed at t) = further at (suc count) t
 onward further count (refusedWith n at t) = stopped n at count t
 
+-- what holds of runs past the tests of their start, and of those that are refused there, as the step is, holds of a block's runs, by their budget
+pub of-run : (floor : ℕ) (code : List ℕ) (s : State) (P : (ℕ → Answer State) → Type 0)
+    → ((n : ℕ) → stepAt floor code 0 s ≡ refusedWith n 0 s → P (λ budget. stopped n 0 0 s))
+    → (Fits floor s → ltb longestCode (length code) ≡ false → P (λ budget. run read (execute floor) budget code s))
+    → P (λ budget. runOf floor code budget s)
+unfolding runOf stepAt instructionAt readAt
+of-run floor code s P refuses runs =
+    tests (isTooLong (s .memory)) (isTooHigh floor (s .memory)) (ltb longestCode (length code)) refl refl refl
+  where
+    tests : (a b c : Bool) → isTooLong (s .memory) ≡ a → isTooHigh floor (s .memory) ≡ b → ltb longestCode (length code) ≡ c
+        → P (λ budget. cond a (stopped memoryTooLong 0 0 s) (cond b (stopped floorTooHigh 0 0 s) (cond c (stopped codeTooLong 0 0 s) (run read (execute floor) budget code s))))
+    tests true b c ea eb ec = refuses memoryTooLong (simp ea)
+    tests false true c ea eb ec = refuses floorTooHigh (simp (ea, eb))
+    tests false false true ea eb ec = refuses codeTooLong (simp (ea, eb, ec))
+    tests false false false ea eb ec = runs (record { memory-fits = ea; floor-fits = eb }) ec
+
 -- the tests of a run's start are passed, and the position is not the end
-module _ (code : List ℕ) (at : ℕ) (s : State) (memory-fits : isTooLong (s .memory) ≡ false) (code-fits : ltb longestCode (length code) ≡ false) where
-  pub instruction-here : instructionAt code at s ≡ read (drop at code)
+module _ (floor : ℕ) (code : List ℕ) (at : ℕ) (s : State) (fits : Fits floor s) (code-fits : ltb longestCode (length code) ≡ false) where
+  pub instruction-here : instructionAt floor code at s ≡ read (drop at code)
   unfolding instructionAt read readAt
-  instruction-here = simp (memory-fits, code-fits)
+  instruction-here = simp (fits .memory-fits, fits .floor-fits, code-fits)
 
   -- a turn of the run is a step at its position
   pub turn : (remaining count : ℕ) → eqb at (length code) ≡ false
-      → runFrom read execute (suc remaining) code at count s ≡ onward (runFrom read execute remaining code) count (stepAt code at s)
+      → runFrom read (execute floor) (suc remaining) code at count s ≡ onward (runFrom read (execute floor) remaining code) count (stepAt floor code at s)
   unfolding stepAt
   turn remaining count more = simp (more, instruction-here) (reading (read (drop at code)))
     where
       executing : (size : ℕ) (o : Result State)
-          → caseOf o (λ n. stopped n at count s) (λ t. runFrom read execute remaining code (at + size) (suc count) t)
-          ≡ onward (runFrom read execute remaining code) count (concluded at (at + size) s o)
+          → caseOf o (λ n. stopped n at count s) (λ t. runFrom read (execute floor) remaining code (at + size) (suc count) t)
+          ≡ onward (runFrom read (execute floor) remaining code) count (concluded at (at + size) s o)
       executing size (refused n) = refl
       executing size (done t) = refl
 
       reading : (o : Result (Fetched Instruction))
           → caseOf o (λ n. stopped n at count s)
-          (λ r. caseOf (execute (r .instruction) s) (λ n. stopped n at count s) (λ t. runFrom read execute remaining code (at + r .size) (suc count) t))
-          ≡ onward (runFrom read execute remaining code) count
-          (caseOf o (λ n. refusedWith n at s) (λ r. concluded at (at + r .size) s (execute (r .instruction) s)))
+          (λ r. caseOf (execute floor (r .instruction) s) (λ n. stopped n at count s) (λ t. runFrom read (execute floor) remaining code (at + r .size) (suc count) t))
+          ≡ onward (runFrom read (execute floor) remaining code) count
+          (caseOf o (λ n. refusedWith n at s) (λ r. concluded at (at + r .size) s (execute floor (r .instruction) s)))
       reading (refused n) = refl
-      reading (done r) = executing (r .size) (execute (r .instruction) s)
+      reading (done r) = executing (r .size) (execute floor (r .instruction) s)

@@ -18,57 +18,58 @@ use Rattle.codec.specs.declared.Kind.the-variants.{Ordinary, Emms, Silent}
 use Rattle.manual.specs.declared.Marks.{Marks}
 use Rattle.manual.specs.State.{State, withTag, frozen}
 use Rattle.manual.specs.Places.{Place, mmx, integer, byte, look, put}
-use Rattle.manual.specs.Kinds.{marked, heeded, KindsMeet}
+use Rattle.manual.specs.Kinds.{marked, KindsMeet}
 use Rattle.manual.specs.Effects.{Effect, placesOfAll, planOn, unlessMarked, via, plan, perform, footprintOf}
 use Rattle.manual.specs.Instructions.{effectBy, effectOf, execute, footprint}
 use Rattle.manual.specs.Steps.{Outcome, completed, refusedWith, concluded, instructionAt, stepAt}
 use Rattle.manual.specs.Footprints.{footprintAt}
 use Rattle.manual.proofs.Laws.{laws, local}
-use Rattle.manual.proofs.Marking.{by-marks, past-marks}
+use Rattle.manual.proofs.Marking.{past-marks}
+use Rattle.manual.proofs.Floors.{plan-past}
 use Rattle.manual.proofs.Shapes.{bare}
 
 -- the places whose contents an instruction goes by in a state, whether it is refused or not
-abbrev pub askedBy : Instruction → State → List Place
-askedBy i s = asked (via (effectOf i)) (plan (effectOf i) s)
+abbrev pub askedBy : ℕ → Instruction → State → List Place
+askedBy floor i s = asked (via (effectOf i)) (plan floor (effectOf i) s)
 
 -- where it has a footprint, these are the places that the footprint reads
-pub asked-is-read : (i : Instruction) (s : State) (f : Footprint Place Kind) → footprint i s ≡ done f → askedBy i s ≡ f .reads
+pub asked-is-read : (floor : ℕ) (i : Instruction) (s : State) (f : Footprint Place Kind) → footprint floor i s ≡ done f → askedBy floor i s ≡ f .reads
 unfolding footprint
-asked-is-read i s f e = asked-reads look (via (effectOf i)) s (plan (effectOf i) s) f e
+asked-is-read floor i s f e = asked-reads look (via (effectOf i)) s (plan floor (effectOf i) s) f e
 
 -- two states that agree on what is frozen (the control marks, the memory's length, as many registers) and on these places: one footprint or
 -- one refusal, and the same is left in what the footprint writes
-pub goes-by-reads : (i : Instruction) (s s′ : State) → frozen s ≡ frozen s′ → ((p : Place) → In p (askedBy i s) → look s p ≡ look s′ p)
-    → (footprint i s′ ≡ footprint i s) × Alike look (footprint i s) (execute i s) (execute i s′)
+pub goes-by-reads : (floor : ℕ) (i : Instruction) (s s′ : State) → frozen s ≡ frozen s′ → ((p : Place) → In p (askedBy floor i s) → look s p ≡ look s′ p)
+    → (footprint floor i s′ ≡ footprint floor i s) × Alike look (footprint floor i s) (execute floor i s) (execute floor i s′)
 unfolding execute footprint
-goes-by-reads i s s′ f h = honest look put marked frozen KindsMeet laws via plan local (effectOf i) s s′ f h
+goes-by-reads floor i s s′ f h = honest look put marked frozen KindsMeet laws via (plan floor) (local floor) (effectOf i) s s′ f h
 
 -- so a step that completes does so in every state that agrees on what is frozen and on what its footprint reads, with the same footprint, and
 -- leaves the same in what it writes
-pub completes-alike : (i : Instruction) (s s′ t : State) (f : Footprint Place Kind) → execute i s ≡ done t → footprint i s ≡ done f
+pub completes-alike : (floor : ℕ) (i : Instruction) (s s′ t : State) (f : Footprint Place Kind) → execute floor i s ≡ done t → footprint floor i s ≡ done f
     → frozen s ≡ frozen s′ → ((p : Place) → In p (f .reads) → look s p ≡ look s′ p)
-    → (t′ : State) × (execute i s′ ≡ done t′) × (footprint i s′ ≡ done f) × ((p : Place) → In p (f .writes) → look t p ≡ look t′ p)
-completes-alike i s s′ t f e ef same agree =
-    let reads : askedBy i s ≡ f .reads = asked-is-read i s f ef in
-    let (ef′, alike) = goes-by-reads i s s′ same (λ p m. agree p (subst (In p) reads m)) in
-    go (execute i s′) refl (ef′ ∙ ef) (subst₂ (λ x y. Alike look x y (execute i s′)) ef e alike)
+    → (t′ : State) × (execute floor i s′ ≡ done t′) × (footprint floor i s′ ≡ done f) × ((p : Place) → In p (f .writes) → look t p ≡ look t′ p)
+completes-alike floor i s s′ t f e ef same agree =
+    let reads : askedBy floor i s ≡ f .reads = asked-is-read floor i s f ef in
+    let (ef′, alike) = goes-by-reads floor i s s′ same (λ p m. agree p (subst (In p) reads m)) in
+    go (execute floor i s′) refl (ef′ ∙ ef) (subst₂ (λ x y. Alike look x y (execute floor i s′)) ef e alike)
   where
-    go : (o : Result State) → execute i s′ ≡ o → footprint i s′ ≡ done f → Alike look (done f) (done t) o
-        → (t′ : State) × (execute i s′ ≡ done t′) × (footprint i s′ ≡ done f) × ((p : Place) → In p (f .writes) → look t p ≡ look t′ p)
+    go : (o : Result State) → execute floor i s′ ≡ o → footprint floor i s′ ≡ done f → Alike look (done f) (done t) o
+        → (t′ : State) × (execute floor i s′ ≡ done t′) × (footprint floor i s′ ≡ done f) × ((p : Place) → In p (f .writes) → look t p ≡ look t′ p)
     go (done t′) e′ ef′ alike = (t′, e′, ef′, alike)
     go (refused n) e′ ef′ alike = absurd alike
 
 -- nothing else changes: no place but those that the footprint writes, no control mark, not the memory's length
-pub changes-writes : (i : Instruction) (s t : State) (f : Footprint Place Kind) → execute i s ≡ done t → footprint i s ≡ done f
+pub changes-writes : (floor : ℕ) (i : Instruction) (s t : State) (f : Footprint Place Kind) → execute floor i s ≡ done t → footprint floor i s ≡ done f
     → (frozen t ≡ frozen s) × ((p : Place) → ¬ In p (f .writes) → look t p ≡ look s p)
 unfolding execute footprint
-changes-writes i s t f e h = untouched look put marked frozen KindsMeet laws via plan (effectOf i) s t f e h
+changes-writes floor i s t f e h = untouched look put marked frozen KindsMeet laws via (plan floor) (effectOf i) s t f e h
 
 -- where a step completes, there is a footprint
-pub completes-footprint : (i : Instruction) (s t : State) → execute i s ≡ done t → (f : Footprint Place Kind) × (footprint i s ≡ done f)
+pub completes-footprint : (floor : ℕ) (i : Instruction) (s t : State) → execute floor i s ≡ done t → (f : Footprint Place Kind) × (footprint floor i s ≡ done f)
 unfolding execute footprint
-completes-footprint i s t e =
-    let (pl, vs, ep, em, et) = planned look put marked via plan (effectOf i) s t e in
+completes-footprint floor i s t e =
+    let (pl, vs, ep, em, et) = planned look put marked via (plan floor) (effectOf i) s t e in
     (ofPlan (via (effectOf i)) pl, simp (ep, em))
 
 -- the tag mark that a kind leaves, from the one before
@@ -93,15 +94,13 @@ puts-marks s (p ∷ ps) values = puts-marks (put s p (getD values 0 0)) ps (drop
     one (byte a) value = refl
 
 -- a plan has its effect's kind
-plan-kind : (e : Effect) (s : State) (pl : Plan Place Kind) → plan e s ≡ done pl → pl .kind ≡ e .kind
-plan-kind e s pl =
-    by-marks (λ a b. a ≡ done pl → pl .kind ≡ e .kind) (λ n h. absurd (false≢true (cc))) (heeded (e .kind) (s .marks)) _ (done pl)
-    (placed (placesOfAll s (e .takes)) (placesOfAll s (e .gives)))
+plan-kind : (floor : ℕ) (e : Effect) (s : State) (pl : Plan Place Kind) → plan floor e s ≡ done pl → pl .kind ≡ e .kind
+plan-kind floor e s pl h = made (placesOfAll s (e .takes)) (placesOfAll s (e .gives)) (plan-past floor e s pl h .0)
   where
-    placed : (a b : Result (List Place)) → andThen a (λ source. mapResult (planOn e source) b) ≡ done pl → pl .kind ≡ e .kind
-    placed (done from) (done to) h = let same : planOn e from to ≡ pl = cc in sym (ap (λ (p : Plan Place Kind). p .kind) same)
-    placed (done from) (refused n) h = absurd (false≢true (cc))
-    placed (refused n) b h = absurd (false≢true (cc))
+    made : (a b : Result (List Place)) → andThen a (λ source. mapResult (planOn e source) b) ≡ done pl → pl .kind ≡ e .kind
+    made (done from) (done to) h = let same : planOn e from to ≡ pl = cc in sym (ap (λ (p : Plan Place Kind). p .kind) same)
+    made (done from) (refused n) h = absurd (false≢true (cc))
+    made (refused n) b h = absurd (false≢true (cc))
 
 -- 18 and AE, the second bytes of the prefetches and SFENCE
 abbrev pub silentBytes : List ℕ
@@ -148,46 +147,46 @@ unfolding effectOf
 kind-exactly i = byte-kind (i .second)
 
 -- and so has its footprint
-pub footprint-kind : (i : Instruction) (s : State) (f : Footprint Place Kind) → footprint i s ≡ done f → f .kind ≡ kindAt (i .second)
+pub footprint-kind : (floor : ℕ) (i : Instruction) (s : State) (f : Footprint Place Kind) → footprint floor i s ≡ done f → f .kind ≡ kindAt (i .second)
 unfolding footprint
-footprint-kind i s f h = planning (plan (effectOf i) s) refl h
+footprint-kind floor i s f h = planning (plan floor (effectOf i) s) refl h
   where
-    making : (pl : Plan Place Kind) → plan (effectOf i) s ≡ done pl → (o : Result (List ℕ))
+    making : (pl : Plan Place Kind) → plan floor (effectOf i) s ≡ done pl → (o : Result (List ℕ))
         → mapResult (λ values. ofPlan (via (effectOf i)) pl) o ≡ done f → f .kind ≡ kindAt (i .second)
     making pl e (refused n) h = absurd (false≢true (cc))
     making pl e (done values) h =
         let same : ofPlan (via (effectOf i)) pl ≡ f = cc in
-        ap (λ (g : Footprint Place Kind). g .kind) (sym same) ∙ plan-kind (effectOf i) s pl e ∙ kind-exactly i
+        ap (λ (g : Footprint Place Kind). g .kind) (sym same) ∙ plan-kind floor (effectOf i) s pl e ∙ kind-exactly i
 
-    planning : (o : Result (Plan Place Kind)) → plan (effectOf i) s ≡ o → footprintIn look (via (effectOf i)) s o ≡ done f
+    planning : (o : Result (Plan Place Kind)) → plan floor (effectOf i) s ≡ o → footprintIn look (via (effectOf i)) s o ≡ done f
         → f .kind ≡ kindAt (i .second)
     planning (refused n) e h = absurd (false≢true (cc))
     planning (done pl) e h = making pl e (pl .make (looks look s (pl .source))) h
 
 -- "Every completed instruction but EMMS sets it valid; EMMS sets it empty"; prefetches and SFENCE keep it
-pub tag-after : (i : Instruction) (s t : State) → execute i s ≡ done t → t .marks .valid ≡ tagOf (kindAt (i .second)) (s .marks .valid)
+pub tag-after : (floor : ℕ) (i : Instruction) (s t : State) → execute floor i s ≡ done t → t .marks .valid ≡ tagOf (kindAt (i .second)) (s .marks .valid)
 unfolding execute
-tag-after i s t e =
-    let (pl, vs, ep, em, et) = planned look put marked via plan (effectOf i) s t e in
+tag-after floor i s t e =
+    let (pl, vs, ep, em, et) = planned look put marked via (plan floor) (effectOf i) s t e in
     ap (λ (u : State). u .marks .valid) et
     ∙ tag-marked (pl .kind) (puts put s (pl .target) vs)
-    ∙ ap₂ (λ (k : Kind) (marks : Marks). tagOf k (marks .valid)) (plan-kind (effectOf i) s pl ep ∙ kind-exactly i) (puts-marks s (pl .target) vs)
+    ∙ ap₂ (λ (k : Kind) (marks : Marks). tagOf k (marks .valid)) (plan-kind floor (effectOf i) s pl ep ∙ kind-exactly i) (puts-marks s (pl .target) vs)
 
 -- "EMMS sets it empty and changes nothing else": what it leaves is the state with the tag mark empty, unless a control mark refuses it
-pub emms-leaves : (i : Instruction) (s : State) → i .second ≡ 0x77 → execute i s ≡ unlessMarked (s .marks) (done (withTag s false))
+pub emms-leaves : (floor : ℕ) (i : Instruction) (s : State) → i .second ≡ 0x77 → execute floor i s ≡ unlessMarked (s .marks) (done (withTag s false))
 unfolding execute effectOf formAt
-emms-leaves i s e =
-    ap (λ (second : ℕ). perform (effectBy (formAt second) (operationAt second (i .operand .reg)) i) s) e
+emms-leaves floor i s e =
+    ap (λ (second : ℕ). perform floor (effectBy (formAt second) (operationAt second (i .operand .reg)) i) s) e
     ∙ past-marks (performed look put marked s) (λ n. refl) (s .marks) (done (planOn (bare Emms) [] []))
 
 -- prefetches and SFENCE touch nothing, not even tags, ignore the control marks, never give 10 or 14, and have an empty footprint
-pub silent-passes : (i : Instruction) (s : State) → isSilent (i .second) ≡ true
-    → (execute i s ≡ done s) × (footprint i s ≡ done (record { reads = []; writes = []; kind = Silent }))
+pub silent-passes : (floor : ℕ) (i : Instruction) (s : State) → isSilent (i .second) ≡ true
+    → (execute floor i s ≡ done s) × (footprint floor i s ≡ done (record { reads = []; writes = []; kind = Silent }))
 unfolding execute footprint effectOf formAt
-silent-passes i s h =
+silent-passes floor i s h =
     among
     (λ second. let e = effectBy (formAt second) (operationAt second (i .operand .reg)) i in
-    (perform e s ≡ done s) × (footprintOf e s ≡ done (record { reads = []; writes = []; kind = Silent })))
+    (perform floor e s ≡ done s) × (footprintOf floor e s ≡ done (record { reads = []; writes = []; kind = Silent })))
     (i .second) silentBytes h (refl, refl) (refl, refl)
 
 -- an outcome and a footprint go together: both there, or both refused by one number
@@ -198,21 +197,21 @@ Together (refusedWith m at t) (done f) = ⊥
 Together (refusedWith m at t) (refused n) = m ≡ n
 
 -- a step has a footprint exactly where it completes; else the footprint's refusal is the step's
-pub footprint-exactly : (code : List ℕ) (at : ℕ) (s : State) → Together (stepAt code at s) (footprintAt code at s)
+pub footprint-exactly : (floor : ℕ) (code : List ℕ) (at : ℕ) (s : State) → Together (stepAt floor code at s) (footprintAt floor code at s)
 unfolding stepAt footprintAt execute footprint
-footprint-exactly code at s = reading (instructionAt code at s)
+footprint-exactly floor code at s = reading (instructionAt floor code at s)
   where
     making : (size : ℕ) (o : Result (List ℕ)) (leave : List ℕ → State) (touch : List ℕ → Footprint Place Kind)
         → Together (concluded at (at + size) s (mapResult leave o)) (mapResult touch o)
     making size (done values) leave touch = tt
     making size (refused n) leave touch = refl
 
-    planning : (r : Fetched Instruction) (o : Result (Plan Place Kind)) → plan (effectOf (r .instruction)) s ≡ o
-        → Together (concluded at (at + r .size) s (execute (r .instruction) s)) (footprint (r .instruction) s)
+    planning : (r : Fetched Instruction) (o : Result (Plan Place Kind)) → plan floor (effectOf (r .instruction)) s ≡ o
+        → Together (concluded at (at + r .size) s (execute floor (r .instruction) s)) (footprint floor (r .instruction) s)
     planning r (done pl) e = simp e (making (r .size) (pl .make (looks look s (pl .source))) _ _)
     planning r (refused n) e = simp e refl
 
     reading : (o : Result (Fetched Instruction))
-        → Together (caseOf o (λ n. refusedWith n at s) (λ r. concluded at (at + r .size) s (execute (r .instruction) s))) (andThen o (λ r. footprint (r .instruction) s))
+        → Together (caseOf o (λ n. refusedWith n at s) (λ r. concluded at (at + r .size) s (execute floor (r .instruction) s))) (andThen o (λ r. footprint floor (r .instruction) s))
     reading (refused n) = refl
-    reading (done r) = planning r (plan (effectOf (r .instruction)) s) refl
+    reading (done r) = planning r (plan floor (effectOf (r .instruction)) s) refl

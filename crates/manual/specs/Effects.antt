@@ -5,11 +5,12 @@ use Rattle.words.specs.Number.{number, bytes}
 use Rattle.reorder.specs.Result.{Result, done, refused, andThen, mapResult}
 use Rattle.reorder.specs.Plan.{Plan, execBy}
 use Rattle.reorder.specs.Footprint.{Footprint, footprintBy}
+use Rattle.codec.specs.Fits.{all}
 use Rattle.codec.specs.declared.Kind.{Kind}
 use Rattle.manual.specs.declared.Marks.{Marks}
-use Rattle.manual.specs.Refusals.{invalidOpcode, notAvailable, isPending}
+use Rattle.manual.specs.Refusals.{invalidOpcode, notAvailable, isPending, belowFloor}
 use Rattle.manual.specs.State.{State}
-use Rattle.manual.specs.Places.{Place, integer, look, put}
+use Rattle.manual.specs.Places.{Place, integer, look, put, isWritable}
 use Rattle.manual.specs.Kinds.{marked, heeded}
 use Rattle.manual.specs.Locations.{Location, mmxRegister, integerRegister, memory, placesOf, registersBehind}
 
@@ -75,9 +76,17 @@ planOn e source target =
 abbrev pub placed : Effect → State → Result (Plan Place Kind)
 placed e s = andThen (placesOfAll s (e .takes)) (λ source. mapResult (planOn e source) (placesOfAll s (e .gives)))
 
+-- a plan over a floor: 21 where it would write a byte below
+abbrev pub guarded : ℕ → Plan Place Kind → Result (Plan Place Kind)
+guarded floor plan = cond (all (map (isWritable floor) (plan .target))) (done plan) (refused belowFloor)
+
+-- the effect on its operands' places, over a floor, which is tested after the operands
+abbrev pub placedAbove : ℕ → Effect → State → Result (Plan Place Kind)
+placedAbove floor e s = andThen (placed e s) (guarded floor)
+
 -- the effect in a state: the control marks that stop its kind are tested before the operands
-abbrev pub plan : Effect → State → Result (Plan Place Kind)
-plan e s = unlessMarked (heeded (e .kind) (s .marks)) (placed e s)
+abbrev pub plan : ℕ → Effect → State → Result (Plan Place Kind)
+plan floor e s = unlessMarked (heeded (e .kind) (s .marks)) (placedAbove floor e s)
 
 -- the address registers of what it takes and of what it gives: they are read too
 abbrev pub addressRegistersOf : Effect → List ℕ
@@ -86,10 +95,10 @@ addressRegistersOf e = registersBehindAll (e .takes) ++ registersBehindAll (e .g
 abbrev pub via : Effect → List Place
 via e = map integer (addressRegistersOf e)
 
--- the step of an effect
-abbrev pub perform : Effect → State → Result State
-perform = execBy look put marked plan
+-- the step of an effect, over a floor
+abbrev pub perform : ℕ → Effect → State → Result State
+perform floor = execBy look put marked (plan floor)
 
 -- the footprint of an effect: what its step reads and writes
-abbrev pub footprintOf : Effect → State → Result (Footprint Place Kind)
-footprintOf = footprintBy look via plan
+abbrev pub footprintOf : ℕ → Effect → State → Result (Footprint Place Kind)
+footprintOf floor = footprintBy look via (plan floor)

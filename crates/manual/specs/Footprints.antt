@@ -11,14 +11,14 @@ use Rattle.manual.specs.Instructions.{footprint}
 use Rattle.manual.specs.Steps.{instructionAt}
 use Rattle.manual.specs.Runs.{runOf}
 
--- what the step reads and writes, or the step's refusal
-unfoldable pub footprintAt : List ℕ → ℕ → State → Result (places.Footprint Place Kind)
-footprintAt code at s = andThen (instructionAt code at s) (λ read. footprint (read .instruction) s)
+-- what the step over a floor reads and writes, or the step's refusal
+unfoldable pub footprintAt : ℕ → List ℕ → ℕ → State → Result (places.Footprint Place Kind)
+footprintAt floor code at s = andThen (instructionAt floor code at s) (λ read. footprint floor (read .instruction) s)
 
--- the footprint of instruction k of a block, in the state where it runs in the original order: that of the step which a run of k instructions
--- has come to
-abbrev pub footprintInRun : List ℕ → State → ℕ → Result (places.Footprint Place Kind)
-footprintInRun code start k = let answer = runOf code k start in footprintAt code (positionReached answer) (stateReached answer)
+-- the footprint of instruction k of a block, in the state where it runs over a floor in the original order: that of the step which a run of k
+-- instructions has come to (over floor 0, as footprints are asked for; a step that completes over another has the same)
+abbrev pub footprintInRun : ℕ → List ℕ → State → ℕ → Result (places.Footprint Place Kind)
+footprintInRun floor code start k = let answer = runOf floor code k start in footprintAt 0 code (positionReached answer) (stateReached answer)
 
 -- one writes a place that the other reads or writes, or their kinds meet: either is EMMS, and neither a prefetch or SFENCE
 abbrev pub Meets : Result (places.Footprint Place Kind) → Result (places.Footprint Place Kind) → Type 0

@@ -69,10 +69,10 @@ effectBy form operation i =
 unfoldable pub effectOf : Instruction → Effect
 effectOf i = effectBy (formAt (i .second)) (operationAt (i .second) (i .operand .reg)) i
 
--- one instruction in a state: the state that it leaves, or 7 to 10, or 14
-unfoldable pub execute : Instruction → State → Result State
-execute i s = perform (effectOf i) s
+-- one instruction over a floor, in a state: the state that it leaves, or 7 to 10, 14 or 21
+unfoldable pub execute : ℕ → Instruction → State → Result State
+execute floor i s = perform floor (effectOf i) s
 
--- its footprint in a state, or 7 to 10, or 14
-unfoldable pub footprint : Instruction → State → Result (Footprint Place Kind)
-footprint i s = footprintOf (effectOf i) s
+-- its footprint, or 7 to 10, 14 or 21
+unfoldable pub footprint : ℕ → Instruction → State → Result (Footprint Place Kind)
+footprint floor i s = footprintOf floor (effectOf i) s

@@ -1,5 +1,5 @@
 -- The places that steps read and write: MMX registers, integer registers, single memory bytes.
-use Rattle.basis.specs.Names.{ℕ, getD, set}
+use Rattle.basis.specs.Names.{Bool, true, ℕ, leb, getD, set}
 use Rattle.manual.specs.State.{State, withMmx, withInteger, withMemory}
 
 pub data Place : Type 0 where
@@ -16,3 +16,9 @@ abbrev pub put : State → Place → ℕ → State
 put s (mmx k) value = withMmx s k value
 put s (integer k) value = withInteger s k value
 put s (byte a) value = withMemory s (set (s .memory) a value)
+
+-- a place that may be written over a floor: any register, and a byte that is not below it
+abbrev pub isWritable : ℕ → Place → Bool
+isWritable floor (mmx k) = true
+isWritable floor (integer k) = true
+isWritable floor (byte a) = leb floor a

@@ -1,29 +1,34 @@
--- When each refusal of a step is due, in the customer's words: 1, then 2 to 6 by the reading, then 7, 8, 9 where the control marks stop the instruction,
--- then 10 or 14.
+-- When each refusal of a step over a floor is due, in the customer's words: 1, then 20, then 2 to 6 by the reading, then 7, 8, 9 where the control
+-- marks stop the instruction, then 10 or 14, then 21.
 use Rattle.basis.specs.Names.{_≡_, _⊎_, Bool, true, false, List, List·Memᴰ as In, ℕ, _+_, _<_, length}
 use Rattle.codec.specs.Answers.{good}
 use Rattle.codec.specs.Reads.{readAt}
 use Rattle.codec.specs.Reasons.{ReasonAt}
 use Rattle.codec.specs.declared.Instruction.{Instruction}
-use Rattle.manual.specs.Refusals.{memoryTooLong, invalidOpcode, notAvailable, isPending, outsideMemory, outsideByStack}
-use Rattle.manual.specs.State.{State, isTooLong}
+use Rattle.manual.specs.Refusals.{memoryTooLong, invalidOpcode, notAvailable, isPending, outsideMemory, outsideByStack, floorTooHigh, belowFloor}
+use Rattle.manual.specs.State.{State, isTooLong, isTooHigh}
 use Rattle.manual.specs.Kinds.{stops}
 use Rattle.manual.specs.Addresses.{Address, isStackBase, address}
 use Rattle.manual.specs.Locations.{Location, memory}
 use Rattle.manual.specs.Instructions.{effectOf}
 
--- the instruction at a position, of so many bytes: none of 1 to 6 is due
-pub record Stands (code : List ℕ) (at : ℕ) (s : State) (i : Instruction) (size : ℕ) : Type 0 where
+-- neither 1 nor 20 is due
+pub record Fits (floor : ℕ) (s : State) : Type 0 where
   pub memory-fits : isTooLong (s .memory) ≡ false
+  pub floor-fits : isTooHigh floor (s .memory) ≡ false
+
+-- the instruction at a position, of so many bytes: nor is one of 2 to 6
+pub record Stands (floor : ℕ) (code : List ℕ) (at : ℕ) (s : State) (i : Instruction) (size : ℕ) : Type 0 where
+  pub fits : Fits floor s
   pub read : readAt code at ≡ good i size
 
 -- a control mark stops the instruction
 abbrev pub stopsIt : Instruction → Bool → Bool
 stopsIt i mark = stops (effectOf i .kind) mark
 
--- the instruction at a position, which no control mark stops: none of 1 to 9 is due
-pub record Passes (code : List ℕ) (at : ℕ) (s : State) (i : Instruction) (size : ℕ) : Type 0 where
-  pub stands : Stands code at s i size
+-- no control mark stops it: nor is one of 7 to 9
+pub record Passes (floor : ℕ) (code : List ℕ) (at : ℕ) (s : State) (i : Instruction) (size : ℕ) : Type 0 where
+  pub stands : Stands floor code at s i size
   pub em : stopsIt i (s .marks .em) ≡ false
   pub ts : stopsIt i (s .marks .ts) ≡ false
   pub pending : stopsIt i (s .marks .pending) ≡ false
@@ -39,11 +44,27 @@ pub record Outside (s : State) (x : Location) : Type 0 where
   pub operand : x ≡ memory at size
   pub past : length (s .memory) < address (s .integers) at + size
 
-pub data Reason (code : List ℕ) (at : ℕ) (s : State) : ℕ → Type 0 where
-  one : isTooLong (s .memory) ≡ true → Reason code at s memoryTooLong
-  reading : {n : ℕ} → isTooLong (s .memory) ≡ false → ReasonAt code at n → Reason code at s n
-  seven : (i : Instruction) (size : ℕ) → Stands code at s i size → stopsIt i (s .marks .em) ≡ true → Reason code at s invalidOpcode
-  eight : (i : Instruction) (size : ℕ) → Stands code at s i size → stopsIt i (s .marks .em) ≡ false → stopsIt i (s .marks .ts) ≡ true → Reason code at s notAvailable
-  nine : (i : Instruction) (size : ℕ) → Stands code at s i size → stopsIt i (s .marks .em) ≡ false → stopsIt i (s .marks .ts) ≡ false → stopsIt i (s .marks .pending) ≡ true → Reason code at s isPending
-  ten : (i : Instruction) (size : ℕ) → Passes code at s i size → (x : Location) → Touches i x → (o : Outside s x) → isStackBase (o .at .base) ≡ false → Reason code at s outsideMemory
-  fourteen : (i : Instruction) (size : ℕ) → Passes code at s i size → (x : Location) → Touches i x → (o : Outside s x) → isStackBase (o .at .base) ≡ true → Reason code at s outsideByStack
+-- none of its operands is: neither 10 nor 14 is due
+pub record Reaches (floor : ℕ) (code : List ℕ) (at : ℕ) (s : State) (i : Instruction) (size : ℕ) : Type 0 where
+  pub passes : Passes floor code at s i size
+  pub inside : (x : Location) → Touches i x → ¬ Outside s x
+
+-- a byte of an operand in memory is below the floor
+pub record Below (floor : ℕ) (s : State) (x : Location) : Type 0 where
+  pub at : Address
+  pub size : ℕ
+  pub operand : x ≡ memory at size
+  pub which : ℕ
+  pub among : which < size
+  pub low : address (s .integers) at + which < floor
+
+pub data Reason (floor : ℕ) (code : List ℕ) (at : ℕ) (s : State) : ℕ → Type 0 where
+  one : isTooLong (s .memory) ≡ true → Reason floor code at s memoryTooLong
+  twenty : isTooLong (s .memory) ≡ false → isTooHigh floor (s .memory) ≡ true → Reason floor code at s floorTooHigh
+  reading : {n : ℕ} → Fits floor s → ReasonAt code at n → Reason floor code at s n
+  seven : (i : Instruction) (size : ℕ) → Stands floor code at s i size → stopsIt i (s .marks .em) ≡ true → Reason floor code at s invalidOpcode
+  eight : (i : Instruction) (size : ℕ) → Stands floor code at s i size → stopsIt i (s .marks .em) ≡ false → stopsIt i (s .marks .ts) ≡ true → Reason floor code at s notAvailable
+  nine : (i : Instruction) (size : ℕ) → Stands floor code at s i size → stopsIt i (s .marks .em) ≡ false → stopsIt i (s .marks .ts) ≡ false → stopsIt i (s .marks .pending) ≡ true → Reason floor code at s isPending
+  ten : (i : Instruction) (size : ℕ) → Passes floor code at s i size → (x : Location) → Touches i x → (o : Outside s x) → isStackBase (o .at .base) ≡ false → Reason floor code at s outsideMemory
+  fourteen : (i : Instruction) (size : ℕ) → Passes floor code at s i size → (x : Location) → Touches i x → (o : Outside s x) → isStackBase (o .at .base) ≡ true → Reason floor code at s outsideByStack
+  twentyOne : (i : Instruction) (size : ℕ) → Reaches floor code at s i size → (x : Location) → In x (effectOf i .gives) → Below floor s x → Reason floor code at s belowFloor

@@ -1,4 +1,4 @@
--- The state: registers, marks and the bytes of the lent memory; the limit of that memory, and what no step changes.
+-- The state: registers, marks and the bytes of the lent memory; the limits of that memory and of a floor in it, and what no step changes.
 use Rattle.basis.specs.Names.{Bool, List, ℕ, ltb, length, set}
 use Rattle.manual.specs.declared.Marks.{Marks}
 
@@ -36,6 +36,10 @@ longestMemory = 32768
 
 abbrev pub isTooLong : List ℕ → Bool
 isTooLong memory = ltb longestMemory (length memory)
+
+-- a floor, below which no byte may be written, is at most the memory's length
+abbrev pub isTooHigh : ℕ → List ℕ → Bool
+isTooHigh floor memory = ltb (length memory) floor
 
 -- what no step changes: the control marks, how many registers there are, and how long the memory is
 pub record Frozen : Type 0 where

@@ -1,4 +1,4 @@
--- One step at a position of the code.
+-- One step at a position of the code, over a floor.
 use Rattle.basis.specs.Names.{cond, List, ℕ, _+_}
 use Rattle.reorder.specs.Result.{Result, done, refused, caseOf}
 use Rattle.reorder.specs.Run.{Fetched}
@@ -6,8 +6,8 @@ use Rattle.codec.specs.Reads.{readAt}
 use Rattle.codec.specs.declared.Instruction.{Instruction}
 use Rattle.codec.specs.Answers.{Decoded}
 use Rattle.codec.specs.Answers as decoded
-use Rattle.manual.specs.Refusals.{memoryTooLong}
-use Rattle.manual.specs.State.{State, isTooLong}
+use Rattle.manual.specs.Refusals.{memoryTooLong, floorTooHigh}
+use Rattle.manual.specs.State.{State, isTooLong, isTooHigh}
 use Rattle.manual.specs.Instructions.{execute}
 
 -- what a step comes to
@@ -22,16 +22,20 @@ abbrev pub resultOf : Decoded → Result (Fetched Instruction)
 resultOf (decoded.good instruction size) = done (record { instruction = instruction; size = size })
 resultOf (decoded.refused n) = refused n
 
--- the instruction at a position: 1, then 2 to 6 by the reader
-unfoldable pub instructionAt : List ℕ → ℕ → State → Result (Fetched Instruction)
-instructionAt code at s = cond (isTooLong (s .memory)) (refused memoryTooLong) (resultOf (readAt code at))
+-- the instruction at a position, over a floor: 1, 20, then 2 to 6 by the reader
+unfoldable pub instructionAt : ℕ → List ℕ → ℕ → State → Result (Fetched Instruction)
+instructionAt floor code at s =
+    cond (isTooLong (s .memory)) (refused memoryTooLong)
+    (cond (isTooHigh floor (s .memory)) (refused floorTooHigh)
+    (resultOf (readAt code at)))
 
 -- what an instruction came to, with the position after it: a refusal changes nothing
 abbrev pub concluded : ℕ → ℕ → State → Result State → Outcome
 concluded at next s (done t) = completed next t
 concluded at next s (refused n) = refusedWith n at s
 
--- 1 to 6 where there is no instruction, then 7 to 10, or 14, by the instruction
-unfoldable pub stepAt : List ℕ → ℕ → State → Outcome
-stepAt code at s =
-    caseOf (instructionAt code at s) (λ n. refusedWith n at s) (λ read. concluded at (at + read .size) s (execute (read .instruction) s))
+-- 1, 20 and 2 to 6 where there is no instruction, then 7 to 10, 14 and 21 by the instruction
+unfoldable pub stepAt : ℕ → List ℕ → ℕ → State → Outcome
+stepAt floor code at s =
+    caseOf (instructionAt floor code at s) (λ n. refusedWith n at s)
+    (λ read. concluded at (at + read .size) s (execute floor (read .instruction) s))

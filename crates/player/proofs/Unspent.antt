@@ -17,11 +17,11 @@ module _ (memory : List ℕ) (marks : ℕ) (file : List ℕ) where
 
   pub unspent : (at count : ℕ) (t : State) → runIn memory marks file ≡ spent at count t → ⊥
   unfolding runIn
-  unspent at count t h = never-spent (codeOf file) budget start at count t (omega arith) h
+  unspent at count t h = never-spent 0 (codeOf file) budget start at count t (omega arith) h
 
-  pub any-budget : (more : ℕ) → budget ≤ more → runOf (codeOf file) more start ≡ runIn memory marks file
+  pub any-budget : (more : ℕ) → budget ≤ more → runOf 0 (codeOf file) more start ≡ runIn memory marks file
   unfolding runIn
-  any-budget more b = larger-budget (codeOf file) budget start more b (ended (runIn memory marks file) refl)
+  any-budget more b = larger-budget 0 (codeOf file) budget start more b (ended (runIn memory marks file) refl)
     where
       ended : (a : Answer State) → runIn memory marks file ≡ a → Ended a
       ended (finished at count t) h = tt

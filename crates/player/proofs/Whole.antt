@@ -47,7 +47,7 @@ well-formed-most marks file = tests (isTooLong (memoryOf file)) (ltb longestCode
     tests false false ea eb =
         let start : State = stateOf (startOf (mmxOf file) (integersOf file) marks) (memoryOf file) in
         answer-most (codeOf file) start refl refl (ltb-false longestMemory (length (memoryOf file)) ea)
-        (ltb-false longestCode (length (codeOf file)) eb) (runOf (codeOf file) budget start) (run-bounded (codeOf file) budget start)
+        (ltb-false longestCode (length (codeOf file)) eb) (runOf 0 (codeOf file) budget start) (run-bounded 0 (codeOf file) budget start)
 
 pub text-most : (file : List ℕ) → length (pageText file) ≤ longestReport
 unfolding pageText pageOf

@@ -28,9 +28,9 @@ answerText (finished at count s) = stateText Done at count s
 answerText (spent at count s) = stateText Spent at count s
 answerText (stopped n at count s) = stateText (Refused n) at count s
 
--- the answer of the run of a page's code, in the machine that its registers and marks start, with a memory
+-- the answer of the run of a page's code over floor 0, in the machine that its registers and marks start, with a memory
 unfoldable pub runIn : List ℕ → ℕ → List ℕ → Answer State
-runIn memory marks file = runOf (codeOf file) budget (stateOf (startOf (mmxOf file) (integersOf file) marks) memory)
+runIn memory marks file = runOf 0 (codeOf file) budget (stateOf (startOf (mmxOf file) (integersOf file) marks) memory)
 
 -- a well-formed page is refused by 1 (its memory is too long), then by 2 (its code is), or run with its memory
 unfoldable pub wellFormedText : ℕ → List ℕ → List ℕ

@@ -12,6 +12,9 @@ ghost use Rattle.player.specs.Page.{answerText, runIn, wellFormedText, p
 // The instructions that a page may run.
 const BUDGET: u32 = 4096;
 
+// A page may write every byte of its memory.
+const FLOOR: usize = 0;
+
 // Runs a page's code in a memory, and prints.
 fn run(file: &[u8], marks: u8, memory: &mut [u8], out: &mut [u8]) -> usize
     ensures { λ r. ⌜ printing r (now (out .exit)) ≡ printed (answerText (runIn (now (memory .entry)) marks (now (file .entry)))) (now (out .entry)) ⌝ }
@@ -21,7 +24,7 @@ fn run(file: &[u8], marks: u8, memory: &mut [u8], out: &mut [u8]) -> usize
         pagefile::integer_registers(file),
         marks,
     );
-    let ran = machine.run(pagefile::code(file), memory, BUDGET);
+    let ran = machine.run(pagefile::code(file), memory, FLOOR, BUDGET);
     printout::report(out, ran, memory)
 }
 

@@ -5,6 +5,6 @@ use Rattle.manual.specs.State.{State}
 use Rattle.manual.specs.Instructions.{execute}
 use Rattle.manual.specs.Runs.{read}
 
--- with what is left of its budget, and the count of instructions completed before the position
-unfoldable pub remaining : ℕ → List ℕ → ℕ → ℕ → State → Answer State
-remaining budget code at count s = runFrom read execute budget code at count s
+-- over a floor, with what is left of its budget, and the count of instructions completed before the position
+unfoldable pub remaining : ℕ → ℕ → List ℕ → ℕ → ℕ → State → Answer State
+remaining floor budget code at count s = runFrom read (execute floor) budget code at count s

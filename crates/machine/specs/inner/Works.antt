@@ -1,6 +1,6 @@
 -- The parts of the code's step in the words of the definitions: lent registers with marks are a machine, what remains to be done leaves a
 -- state, and how a step ended is an outcome.
-use Rattle.basis.specs.Names.{_≡_, Bool, true, cond, Option, none, some, List, [], _∷_, map, ℕ, _/_, _%_, _^_, _<_, eqb, getD}
+use Rattle.basis.specs.Names.{_≡_, Bool, true, cond, Option, none, some, List, [], _∷_, map, ℕ, _/_, _%_, _^_, _<_, _≤_, eqb, leb, length, getD}
 use Rattle.lanes.specs.Operations.{Operation, operationOf, operate, described, MOVE, PINSRW, PSHUFW, PEXTRW, PMOVMSKB, MASKMOVQ}
 use Rattle.words.specs.Buffer.{loaded, stored}
 use Rattle.codec.specs.Forms.{forms, isAmong, memorySize}
@@ -10,7 +10,7 @@ use Rattle.codec.specs.inner.Entries.{operationIn}
 use Rattle.codec.specs.declared.Instruction.{Instruction}
 use Rattle.codec.specs.declared.Kind.the-variants.{Ordinary, Emms}
 use Rattle.manual.specs.declared.Marks.{Marks}
-use Rattle.manual.specs.Refusals.{invalidOpcode, notAvailable, isPending}
+use Rattle.manual.specs.Refusals.{invalidOpcode, notAvailable, isPending, belowFloor}
 use Rattle.manual.specs.State.{State, withMemory, tagged}
 use Rattle.manual.specs.Places.{mmx, integer, look, put}
 use Rattle.manual.specs.Kinds.{marked}
@@ -108,14 +108,15 @@ takeWork registers integers memory number place (Integer k) next = workOf toOper
 takeWork registers integers memory number place (Bytes a size) next = workOf toOperate number place (loaded memory a size) next
 takeWork registers integers memory number place (Refused n) next = refusedWork n
 
--- what a work comes to at a position, in a state: an operation on an MMX register, a store, a move to an integer register, the tag mark set
--- empty, nothing, or a refusal
-unfoldable pub performed : Work → ℕ → State → Outcome
-performed work at s =
+-- what a work comes to over a floor, at a position, in a state: an operation on an MMX register, a store, a move to an integer register, the tag mark
+-- set empty, nothing, or a refusal
+unfoldable pub performed : ℕ → Work → ℕ → State → Outcome
+performed floor work at s =
     cond (eqb (work .what) toOperate)
     (completed (work .next) (marked Ordinary (put s (mmx (work .place)) (operate (operationOf (work .number)) (look s (mmx (work .place))) (work .value)))))
     (cond (eqb (work .what) toStore)
-    (completed (work .next) (marked Ordinary (withMemory s (stored (s .memory) (work .place) (work .number) (work .value)))))
+    (cond (leb floor (work .place)) (completed (work .next) (marked Ordinary (withMemory s (stored (s .memory) (work .place) (work .number) (work .value)))))
+    (refusedWith belowFloor at s))
     (cond (eqb (work .what) toInteger) (completed (work .next) (marked Ordinary (put s (integer (work .place)) (work .value % 2 ^ 32))))
     (cond (eqb (work .what) toEmpty) (completed (work .next) (marked Emms s))
     (cond (eqb (work .what) toPass) (completed (work .next) s)
@@ -127,21 +128,21 @@ pub record Sound (work : Work) : Type 0 where
   pub moves : work .what ≡ toInteger → work .place < 8
   pub refuses : (work .what ≡ toOperate → ⊥) → (work .what ≡ toStore → ⊥) → (work .what ≡ toInteger → ⊥) → (work .what ≡ toEmpty → ⊥) → (work .what ≡ toPass → ⊥) → work .number ≡ 0 → ⊥
 
--- with these registers and this memory a work does what an effect does, whatever the marks and the position, and goes on at `next`
+-- with these registers and this memory a work does what an effect does, whatever the floor, the marks and the position, and goes on at `next`
 pub record Does (work : Work) (registers integers memory : List ℕ) (e : Effect) (next : ℕ) : Type 0 where
   pub sound : Sound work
-  pub does : (marks : Marks) (at : ℕ) → let s = stateOf (machineOf registers integers marks) memory in performed work at s ≡ concluded at next s (directly e s)
+  pub does : (floor : ℕ) (marks : Marks) (at : ℕ) → let s = stateOf (machineOf registers integers marks) memory in performed floor work at s ≡ concluded at next s (directly floor e s)
 
--- a work does what the step at a position of the code does, for all marks whose refusal is `bar`
+-- a work does what the step at a position of the code does, over every floor in the memory and for all marks whose refusal is `bar`
 pub record Gathered (work : Work) (registers integers : List ℕ) (bar : ℕ) (code : List ℕ) (at : ℕ) (memory : List ℕ) : Type 0 where
   pub sound : Sound work
-  pub steps : (marks : Marks) → bar ≡ barredBy marks → let s = stateOf (machineOf registers integers marks) memory in performed work at s ≡ stepAt code at s
+  pub steps : (floor : ℕ) → floor ≤ length memory → (marks : Marks) → bar ≡ barredBy marks → let s = stateOf (machineOf registers integers marks) memory in performed floor work at s ≡ stepAt floor code at s
 
--- a step that ended so, with what is then in the lent registers and memory, is the step at a position of the code, for all marks whose refusal is `bar`
--- and whose tag mark is `valid`
-pub record Advanced (moved : Moved) (registers integers : List ℕ) (bar : ℕ) (valid : Bool) (code : List ℕ) (at : ℕ) (memory registers′ integers′ memory′ : List ℕ) : Type 0 where
+-- a step that ended so, with what is then in the lent registers and memory, is the step over a floor at a position of the code, for all marks whose
+-- refusal is `bar` and whose tag mark is `valid`
+pub record Advanced (moved : Moved) (registers integers : List ℕ) (bar : ℕ) (valid : Bool) (code : List ℕ) (at : ℕ) (memory : List ℕ) (floor : ℕ) (registers′ integers′ memory′ : List ℕ) : Type 0 where
   pub ends : (marks : Marks) → bar ≡ barredBy marks → valid ≡ marks .valid
       → cond (eqb (moved .refusal) 0)
       (completed (moved .next) (stateOf (machineOf registers′ integers′ (tagged marks (moved .valid))) memory′))
       (refusedWith (moved .refusal) (moved .next) (stateOf (machineOf registers′ integers′ marks) memory′))
-      ≡ stepAt code at (stateOf (machineOf registers integers marks) memory)
+      ≡ stepAt floor code at (stateOf (machineOf registers integers marks) memory)

@@ -9,16 +9,16 @@ use Rattle.machine.proofs.Machine.run_from.Statement.{statement}
 use Rattle.machine.proofs.Machine.run_from.Tie as tie
 
 abbrev Inv-loop : tie.InvT-loop
-Inv-loop code start memory₀ budget table mmx₀ integers₀ marks₀ bar quick at₀ rest₀ memory mmx integers marks at rest =
+Inv-loop code start memory₀ floor budget table mmx₀ integers₀ marks₀ bar quick at₀ rest₀ memory mmx integers marks at rest =
     (rest ≤ budget)
     × ((at ≤ length code)
     × ((length memory ≡ length memory₀)
     × ((bar ≡ barredBy marks)
-    × (remaining rest code at (budget - rest) (stateOf (machineOf mmx integers marks) memory)
-    ≡ remaining budget code start 0 (stateOf (machineOf mmx₀ integers₀ marks₀) memory₀)))))
+    × (remaining floor rest code at (budget - rest) (stateOf (machineOf mmx integers marks) memory)
+    ≡ remaining floor budget code start 0 (stateOf (machineOf mmx₀ integers₀ marks₀) memory₀)))))
 
 abbrev μ-loop : tie.MeasureT-loop
-μ-loop code start memory₀ budget table mmx₀ integers₀ marks₀ bar quick at₀ rest₀ memory mmx integers marks at rest =
+μ-loop code start memory₀ floor budget table mmx₀ integers₀ marks₀ bar quick at₀ rest₀ memory mmx integers marks at rest =
     rest
 
 pub run-from-spec : {M : Type 1} → statement M
@@ -32,14 +32,14 @@ run-from-spec =
     (λ c κs.
     let start = c .before .before .before .before .before .before .before .before in
     let pre = start .before .before .before .before .before .before .before .before .pre in
-    (start .before .before .before .before .before .table .ensures, (start .quick-table .ensures, (pre .0, search (needs, pre)))))
+    (start .before .before .before .before .before .table .ensures, (start .quick-table .ensures, (pre .0, (search (needs, pre), search (needs, pre))))))
     (λ c. search needs) (λ c. search needs)
     (λ c.
     let turn = c .before .before .before .before .before .before .before .before .before in
     let inv = turn .before .before .loop .inv in
     let entry = turn .before .before .before .before .before .before .before .before .before .before .before in
-    run-refused _ _ _ _ _ _ _ _ _ (inv .1 .1 .1 .1) (turn .before .loop-test .taken) (inv .0) (turn .if1 .left) (entry .pre .0) (entry .args .memory .now)
-    (inv .1 .1 .0) (entry .pre .1 .0) _ _ _ _ _ (inv .1 .1 .1 .0) _ refl (c .before .before .before .advance .ensures) (c .if2 .taken))
+    run-refused _ _ _ _ _ _ _ _ _ _ (inv .1 .1 .1 .1) (turn .before .loop-test .taken) (inv .0) (turn .if1 .left) (entry .pre .0) (entry .args .memory .now)
+    (inv .1 .1 .0) (entry .pre .1 .0) (entry .pre .1 .1 .0) _ _ _ _ _ (inv .1 .1 .1 .0) _ refl (c .before .before .before .advance .ensures) (c .if2 .taken))
     (λ c. search needs) (λ c. search needs)
     (λ c. (search needs, (search turning, (search needs, (search turning, search turning)))))
     (λ c. search needs) (λ c. search needs) (λ c. search turning))

@@ -1,6 +1,6 @@
 -- The tests before the footprint, in the order of a step's: the memory's length, the reader's, the control marks. Rules for their answers.
 use Rattle.basis.specs.Names.{_≡_, refl, List, ℕ, _-_, _/_, _^_, _≤_, _<_, length}
-use Rattle.basis.proofs.Names.{sym, ap, _∙_, needs, lt-ltb, le-ltb}
+use Rattle.basis.proofs.Names.{sym, ap, _∙_, arith, needs, lt-ltb}
 use Rattle.reorder.specs.Result.{Result, refused, andThen, mapResult}
 use Rattle.reorder.specs.Plan.{Plan}
 use Rattle.reorder.specs.Footprint.{footprintIn}
@@ -22,6 +22,7 @@ use Rattle.manual.specs.Instructions.{effectOf, footprint}
 use Rattle.manual.specs.Steps.{resultOf, instructionAt}
 use Rattle.manual.specs.Footprints.{footprintAt}
 use Rattle.manual.proofs.Marking.{past-marks}
+use Rattle.manual.proofs.Floors.{within-limits, placed-zero}
 use Rattle.machine.specs.declared.Footprint.{Footprint}
 use Rattle.machine.specs.declared.Machine.{Machine}
 use Rattle.machine.specs.declared.Tracing.{Tracing}
@@ -42,9 +43,9 @@ module _ (code : List ℕ) (at : ℕ) (machine : Machine) (memory : List ℕ) wh
   traced-long h = simp (lt-ltb longestMemory (length memory) h)
 
   module _ (short : length memory ≤ longestMemory) where
-    by-reading : (z : Decoded) → z ≡ readAt code at → maskedAt code at here ≡ mapResult masked (andThen (resultOf z) (λ r. footprint (r .instruction) here))
+    by-reading : (z : Decoded) → z ≡ readAt code at → maskedAt code at here ≡ mapResult masked (andThen (resultOf z) (λ r. footprint 0 (r .instruction) here))
     unfolding maskedAt footprintAt instructionAt
-    by-reading z e = simp (le-ltb longestMemory (length memory) short, ← e)
+    by-reading z e = let fits = within-limits 0 here short (omega arith) in simp (fits .memory-fits, fits .floor-fits, ← e)
 
     pub traced-code-long : longestCode < length code → refused codeTooLong ≡ maskedAt code at here
     traced-code-long h = sym (by-reading (decoded.refused codeTooLong) (read-long code at h))
@@ -64,6 +65,8 @@ module _ (code : List ℕ) (at : ℕ) (machine : Machine) (memory : List ℕ) wh
             by-reading (good (x .instruction) (x .next - at)) (read-on code at x table ours e fits passed)
             ∙ past-marks (λ (o : Result (Plan Place Kind)). mapResult masked (footprintIn look (via (effectOf (x .instruction))) here o)) (λ n. refl)
             (heeded (effectOf (x .instruction) .kind) (machine .marks)) _
+            ∙ ap (λ (o : Result (Plan Place Kind)). unlessMarked (heeded (effectOf (x .instruction) .kind) (machine .marks)) (mapResult masked (footprintIn look (via (effectOf (x .instruction))) here o)))
+            (placed-zero (effectOf (x .instruction)) here)
             ∙ ap (λ (y : Effect). unlessMarked (heeded (y .kind) (machine .marks)) (unmarkedFootprint y here)) (sym (effect-found table code at x ours e passed))
 
         -- the number of the marks that stop it, or 0

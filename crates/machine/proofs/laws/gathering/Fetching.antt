@@ -23,6 +23,7 @@ use Rattle.manual.specs.Instructions.{effectOf, execute}
 use Rattle.manual.specs.Steps.{concluded, refusedWith, resultOf, stepAt}
 use Rattle.manual.specs.Runs.{read}
 use Rattle.manual.proofs.Turns.{instruction-here}
+use Rattle.manual.proofs.Floors.{within-limits}
 use Rattle.manual.proofs.Direct.{marks-first}
 use Rattle.machine.specs.declared.gathering.Work.{Work}
 use Rattle.machine.specs.State.{stateOf}
@@ -32,8 +33,8 @@ use Rattle.machine.proofs.laws.gathering.Soundness.{sound-refusal}
 use Rattle.machine.proofs.laws.gathering.Testing.{unbarred-by, barred-by, stopped-by}
 
 -- an effect where no mark stops its kind
-abbrev heedfully : Effect → State → Result State
-heedfully e s = unlessMarked (heeded (e .kind) (s .marks)) (directly e s)
+abbrev heedfully : ℕ → Effect → State → Result State
+heedfully floor e s = unlessMarked (heeded (e .kind) (s .marks)) (directly floor e s)
 
 module _ (table code : List ℕ) (at : ℕ) (x : Found) (ours : table ≡ opcodeTable) (e : x ≡ findWith table code at) where
   -- what is found is the defined reading, as far on as the position
@@ -60,27 +61,27 @@ module _ (table code : List ℕ) (at : ℕ) (x : Found) (ours : table ≡ opcode
   effect-found = found-known (λ y. effectIn (y .entry) (y .instruction) ≡ effectOf (y .instruction)) (λ i n g. effect-is i (g .registers))
 
   -- within the limits
-  module _ (s : State) (code-fits : length code ≤ longestCode) (memory-fits : length (s .memory) ≤ longestMemory) where
+  module _ (floor : ℕ) (s : State) (code-fits : length code ≤ longestCode) (memory-fits : length (s .memory) ≤ longestMemory) (floor-fits : floor ≤ length (s .memory)) where
     step-reads : (z : Decoded) → readPart (drop at code) ≡ z
-        → stepAt code at s
-        ≡ caseOf (resultOf z) (λ n. refusedWith n at s) (λ r. concluded at (at + r .size) s (execute (r .instruction) s))
+        → stepAt floor code at s
+        ≡ caseOf (resultOf z) (λ n. refusedWith n at s) (λ r. concluded at (at + r .size) s (execute floor (r .instruction) s))
     unfolding stepAt read
     step-reads z r =
-        simp (instruction-here code at s (le-ltb longestMemory (length (s .memory)) memory-fits) (le-ltb longestCode (length code) code-fits), r)
+        simp (instruction-here floor code at s (within-limits floor s memory-fits floor-fits) (le-ltb longestCode (length code) code-fits), r)
 
     -- an instruction was found
     module _ (passed : x .refusal ≡ 0) where
-      step-found : stepAt code at s ≡ concluded at (x .next) s (heedfully (effectIn (x .entry) (x .instruction)) s)
+      step-found : stepAt floor code at s ≡ concluded at (x .next) s (heedfully floor (effectIn (x .entry) (x .instruction)) s)
       unfolding execute
       step-found = by (readPart (drop at code)) refl (reads-known formAt 0 (drop at code))
         where
           by : (z : Decoded) → readPart (drop at code) ≡ z → Holds (Known formAt) Refusal z
-              → stepAt code at s ≡ concluded at (x .next) s (heedfully (effectIn (x .entry) (x .instruction)) s)
+              → stepAt floor code at s ≡ concluded at (x .next) s (heedfully floor (effectIn (x .entry) (x .instruction)) s)
           by (good i n) r g =
               step-reads (good i n) r
-              ∙ ap (concluded at (at + n) s) (marks-first s (effectOf i))
-              ∙ ap (λ (y : Effect). concluded at (at + n) s (heedfully y s)) (sym (effect-is i (g .registers)))
-              ∙ ap (λ (y : Found). concluded at (y .next) s (heedfully (effectIn (y .entry) (y .instruction)) s))
+              ∙ ap (concluded at (at + n) s) (marks-first floor s (effectOf i))
+              ∙ ap (λ (y : Effect). concluded at (at + n) s (heedfully floor y s)) (sym (effect-is i (g .registers)))
+              ∙ ap (λ (y : Found). concluded at (y .next) s (heedfully floor (effectIn (y .entry) (y .instruction)) s))
               (sym (found-is (good i n) r))
           by (refused n) r g =
               let f : x .refusal ≡ n = ap (λ (y : Found). y .refusal) (found-is (refused n) r) in
@@ -102,7 +103,7 @@ module _ (table code : List ℕ) (at : ℕ) (x : Found) (ours : table ≡ opcode
             let f : x .refusal ≡ n = ap (λ (y : Found). y .refusal) (found-is (refused n) r) in
             record {
               sound = sound-refusal (x .refusal) h;
-              steps = λ marks b. ap (λ (k : ℕ). refusedWith k at (state marks)) f ∙ sym (step-reads (state marks) code-fits memory-fits (refused n) r);
+              steps = λ floor low marks b. ap (λ (k : ℕ). refusedWith k at (state marks)) f ∙ sym (step-reads floor (state marks) code-fits memory-fits low (refused n) r);
             }
 
     -- an instruction was found
@@ -117,9 +118,9 @@ module _ (table code : List ℕ) (at : ℕ) (x : Found) (ours : table ≡ opcode
           subst (λ (y : Work). Gathered y registers integers bar code at m) (sym w)
           (record {
             sound = sound-refusal stop h;
-            steps = λ marks b.
+            steps = λ floor low marks b.
                 ap (λ (k : ℕ). refusedWith k at (state marks)) (stops-it marks b)
-                ∙ sym (step-found (state marks) code-fits memory-fits passed ∙ ap (concluded at (x .next) (state marks)) (barred-by _ _ (λ z. h (stops-it marks b ∙ z))));
+                ∙ sym (step-found floor (state marks) code-fits memory-fits low passed ∙ ap (concluded at (x .next) (state marks)) (barred-by _ _ (λ z. h (stops-it marks b ∙ z))));
           })
 
       pub gathered-sorted : stop ≡ 0 → Does work registers integers m (effectIn (x .entry) (x .instruction)) (x .next)
@@ -127,9 +128,9 @@ module _ (table code : List ℕ) (at : ℕ) (x : Found) (ours : table ≡ opcode
       gathered-sorted h d =
           record {
             sound = d .sound;
-            steps = λ marks b.
-                d .does marks at
-                ∙ sym (step-found (state marks) code-fits memory-fits passed ∙ ap (concluded at (x .next) (state marks)) (unbarred-by _ _ (sym (stops-it marks b) ∙ h)));
+            steps = λ floor low marks b.
+                d .does floor marks at
+                ∙ sym (step-found floor (state marks) code-fits memory-fits low passed ∙ ap (concluded at (x .next) (state marks)) (unbarred-by _ _ (sym (stops-it marks b) ∙ h)));
           }
 
 pub ruleset fetching = (needs, names-registers, is-listed, gathered-unread, gathered-barred, gathered-sorted)

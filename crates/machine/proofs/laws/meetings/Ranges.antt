@@ -20,6 +20,7 @@ use Rattle.manual.specs.Locations.{registerIn, rmOf, atEdi, locate, bytesFrom, 
 use Rattle.manual.specs.Effects.{placesOfAll, addressRegistersOf, unlessMarked, planOn, via, footprintOf}
 use Rattle.manual.specs.Instructions.{sources, targets, effectBy, effectOf, footprint}
 use Rattle.manual.proofs.Marking.{by-marks}
+use Rattle.manual.proofs.Floors.{placed-zero}
 use Rattle.machine.specs.Footprints.{byteNumber, bytesOf}
 use Rattle.machine.proofs.laws.operands.Locating.{by-place}
 
@@ -150,11 +151,12 @@ module _ (s : State) (i : Instruction) where
       → RangedFootprint (footprintIn look vs s (unlessMarked marks o))
   unmarked marks vs o h = by-marks (λ a b. RangedFootprint (footprintIn look vs s a)) (λ n. tt) marks o o h
 
-  ranged-form : (form : Form) (o : Operation) → oneEach form ≡ true → RangedFootprint (footprintOf (effectBy form o i) s)
+  ranged-form : (form : Form) (o : Operation) → oneEach form ≡ true → RangedFootprint (footprintOf 0 (effectBy form o i) s)
   ranged-form form o e =
       let (a, b) = and-both (atMost true (sources (form .operands))) _ e in
       unmarked (heeded (form .kind) (s .marks)) (via (effectBy form o i)) _
-      (by (places s i (sources (form .operands))) (places s i (targets (form .operands))) (at-most s i true (sources (form .operands)) a) (at-most s i true (targets (form .operands)) b))
+      (subst (λ p. RangedFootprint (footprintIn look (via (effectBy form o i)) s p)) (sym (placed-zero (effectBy form o i) s))
+      (by (places s i (sources (form .operands))) (places s i (targets (form .operands))) (at-most s i true (sources (form .operands)) a) (at-most s i true (targets (form .operands)) b)))
     where
       by : (o′ p : Result (List Place)) → Each Range o′ → Each Range p
           → RangedFootprint (footprintIn look (via (effectBy form o i)) s (andThen o′ (λ source. mapResult (planOn (effectBy form o i) source) p)))
@@ -163,6 +165,7 @@ module _ (s : State) (i : Instruction) where
       by (done ps) (refused n) h g = tt
       by (refused n) p h g = tt
 
-pub ranged : (s : State) (i : Instruction) → RangedFootprint (footprint i s)
+-- what is asked for, over floor 0
+pub ranged : (s : State) (i : Instruction) → RangedFootprint (footprint 0 i s)
 unfolding footprint effectOf
 ranged s i = ranged-form s i (formAt (i .second)) (operationAt (i .second) (i .operand .reg)) (form-passes oneEach refl refl (i .second))
