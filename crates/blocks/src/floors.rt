@@ -213,10 +213,10 @@ fn masks() {
 }
 
 fn low_masks() {
-    edge(
-        b"PEXTRW edi, mm0, 1, then MASKMOVQ mm0, mm1 at 0, no byte masked, floor 1: ",
-        b"\x0f\xc5\xf8\x01\x0f\xf7\xc1",
-        START,
+    in_quadword(
+        b"PEXTRW edi, mm0, 1, then MASKMOVQ mm1, mm0 at 0, mask 0, floor 1: ",
+        machine_with(0, START, false, false),
+        b"\x0f\xc5\xf8\x01\x0f\xf7\xc8",
         1,
     );
     in_quadword(

@@ -1,4 +1,4 @@
-// What is printed: numbers, answers, places, footprints.
+// What is printed: numbers, answers, what is left, places, footprints.
 use libc::STDOUT_FILENO;
 use machine::End;
 use machine::Footprint;

@@ -19,13 +19,13 @@ use Rattle.machine.proofs.laws.meetings.Ranges.{OneRange, RangedFootpri
 use Rattle.machine.proofs.laws.meetings.Masking.{byte-masked}
 use Rattle.machine.proofs.laws.meetings.Meeting.{meet-exactly}
 
-ranged-reading : (o : Result (Fetched Instruction)) (s : State) → RangedFootprint (andThen o (λ r. footprint 0 (r .instruction) s))
-ranged-reading (done r) s = ranged s (r .instruction)
-ranged-reading (refused n) s = tt
+ranged-reading : (floor : ℕ) (o : Result (Fetched Instruction)) (s : State) → RangedFootprint (andThen o (λ r. footprint floor (r .instruction) s))
+ranged-reading floor (done r) s = ranged floor s (r .instruction)
+ranged-reading floor (refused n) s = tt
 
-ranged-at : (code : List ℕ) (at : ℕ) (s : State) → RangedFootprint (footprintAt 0 code at s)
+ranged-at : (floor : ℕ) (code : List ℕ) (at : ℕ) (s : State) → RangedFootprint (footprintAt floor code at s)
 unfolding footprintAt
-ranged-at code at s = ranged-reading (instructionAt 0 code at s) s
+ranged-at floor code at s = ranged-reading floor (instructionAt floor code at s) s
 
 -- a byte lies in the range of these places
 abbrev pub Covers : Places → ℕ → Type 0
@@ -33,7 +33,7 @@ Covers p a = (p .start ≤ a) × (a < p .start + p .length)
 
 module _ (code : List ℕ) (at : ℕ) (s : State) (f : places.Footprint Place Kind) (e : footprintAt 0 code at s ≡ done f) where
   one-range : OneRange f
-  one-range = subst RangedFootprint e (ranged-at code at s)
+  one-range = subst RangedFootprint e (ranged-at 0 code at s)
 
   -- the ranges of what is read and of what is written cover the bytes that are, and no other
   pub reads-bytes : (a : ℕ) → Covers (masked f .reads) a ↔ In (byte a) (f .reads)
@@ -49,4 +49,4 @@ meet-at code code′ at at′ s s′ f g ef eg = meet-exactly f g (one-range cod
 
 -- and of the step that a run has come to
 pub ranged-run : (floor : ℕ) (code : List ℕ) (start : State) (k : ℕ) → RangedFootprint (footprintInRun floor code start k)
-ranged-run floor code start k = let answer = runOf floor code k start in ranged-at code (positionReached answer) (stateReached answer)
+ranged-run floor code start k = let answer = runOf floor code k start in ranged-at floor code (positionReached answer) (stateReached answer)

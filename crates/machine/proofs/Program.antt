@@ -13,7 +13,7 @@ use Rattle.manual.specs.State.{State}
 use Rattle.manual.specs.Places.{Place}
 use Rattle.manual.specs.Runs.{read, runOf}
 use Rattle.manual.specs.Footprints.{footprintAt, footprintInRun}
-use Rattle.manual.proofs.Demand3.{positionInRun, part, map-alike, has-footprint, rearranged-parts}
+use Rattle.manual.proofs.Demand3.{positionInRun, part, map-alike, footprint-asked, has-footprint, rearranged-parts}
 use Rattle.machine.specs.declared.Machine.{Machine}
 use Rattle.machine.specs.declared.Footprint.{Footprint}
 use Rattle.machine.specs.declared.Tracing.the-variants.{Traced}
@@ -49,8 +49,9 @@ module _ (machine : Machine) (code memory : List ℕ) (floor k : ℕ) (answer : 
   state-called : stateReached (runOf floor code k (stateOf machine memory)) ≡ stateOf (answer .machine) after
   state-called = ap stateReached called ∙ state-handed (answer .end) (answer .at) (answer .count) (stateOf (answer .machine) after)
 
-  -- so its footprint there is that of the instruction in the run
-  footprint-called : footprintInRun floor code (stateOf machine memory) k ≡ footprintAt 0 code (answer .at) (stateOf (answer .machine) after)
+  -- so the footprint that is asked for there is asked for on what it handed back
+  footprint-called : footprintAt 0 code (positionInRun floor code (stateOf machine memory) k) (stateReached (runOf floor code k (stateOf machine memory)))
+      ≡ footprintAt 0 code (answer .at) (stateOf (answer .machine) after)
   footprint-called = ap₂ (footprintAt 0 code) position-called state-called
 
 -- the program's test of two footprints is its test of what it handed out of them
@@ -90,7 +91,9 @@ module _ (machine : Machine) (code memory : List ℕ) (floor budget : ℕ) (whol
   masked-footprint : (k : ℕ) → k < whole .count → mapResult masked (footprintInRun floor code start k) ≡ done (known .footprints k)
   unfolding maskedAt
   masked-footprint k b =
-      ap (mapResult masked) (footprint-called machine code memory floor k (known .runs k) (known .memories k) (known .run-of k (omega arith)))
+      ap (mapResult masked)
+      (footprint-asked floor code budget (whole .at) (whole .count) start (stateOf (whole .machine) after) finishes k b
+      ∙ footprint-called machine code memory floor k (known .runs k) (known .memories k) (known .run-of k (omega arith)))
       ∙ sym (footprint-says (known .runs k .machine) code (known .runs k .at) (known .memories k) (Traced (known .footprints k)) (known .footprint-of k b))
 
   same-block : (order : List ℕ) → NewOrder (whole .count) order → rearranged read code order ≡ moved order
@@ -141,7 +144,10 @@ module _ (machine : Machine) (code memory : List ℕ) (floor budget end total : 
       let (f, e) = has-footprint floor code budget end total (stateOf machine memory) final h k b in
       footprint-there (handed k .answer .machine) code (handed k .answer .at) (handed k .memory) _
       (ap (λ o. done (handedOut o)) e
-      ∙ ap (mapResult masked) (sym e ∙ footprint-called machine code memory floor k (handed k .answer) (handed k .memory) (handed-run k)))
+      ∙ ap (mapResult masked)
+      (sym e
+      ∙ footprint-asked floor code budget end total (stateOf machine memory) final h k b
+      ∙ footprint-called machine code memory floor k (handed k .answer) (handed k .memory) (handed-run k)))
 
   pub recorded : Recorded machine code memory floor budget (record { end = Done; at = end; count = total; machine = machineIn final }) (final .memory)
   recorded =

@@ -100,7 +100,7 @@ impl Machine {
         }
     }
 
-    // The instructions from position 0 on.
+    // The instructions from position 0 on, over a floor.
     pub fn run(self, code: &[u8], memory: &mut [u8], floor: usize, budget: u32) -> Ran
         ensures { λ r. ⌜ paperOfRun r (now (memory .exit)) ≡ runOf floor (now (code .entry)) budget (stateOf self (now (memory .entry))) ⌝ }
     {
@@ -131,7 +131,7 @@ impl Machine {
         self.run_from(code, 0, memory, floor, budget)
     }
 
-    // The instruction at a position.
+    // The instruction at a position, over a floor.
     pub fn step(self, code: &[u8], at: usize, memory: &mut [u8], floor: usize) -> Stepped
         ensures { λ r. ⌜ paperOfStep r (now (memory .exit)) ≡ stepAt floor (now (code .entry)) at (stateOf self (now (memory .entry))) ⌝ }
     {

@@ -25,9 +25,8 @@ use Rattle.manual.specs.Runs.{read, runOf}
 use Rattle.manual.specs.Footprints.{footprintAt, footprintInRun, Meets}
 use Rattle.manual.proofs.Laws.{laws, local}
 use Rattle.manual.proofs.Locality.{local-reader}
-use Rattle.manual.proofs.Turns.{of-run, instruction-here}
-use Rattle.manual.proofs.Refusals.{still-fits}
-use Rattle.manual.proofs.Floors.{fits-zero, footprint-zero}
+use Rattle.manual.proofs.Turns.{fits-zero, still-fits, of-run, instruction-here}
+use Rattle.manual.proofs.Floors.{footprint-zero}
 use Rattle.manual.proofs.Bounds.{Bounds, Bounded, run-bounded}
 use Rattle.manual.proofs.Uses.{completes-footprint}
 
@@ -66,19 +65,38 @@ module _ (floor : ℕ) (code : List ℕ) (budget end total : ℕ) (start final :
   unfolding runOf
   ran-to k b = let (fits, code-fits, ran) = fitting in simp (fits .memory-fits, fits .floor-fits, code-fits) (comes k b .ran)
 
-  -- its footprint is that of piece k of the code
-  footprint-along : (k : ℕ) → k < total → footprintInRun floor code start k ≡ footprintInCode read (execute floor) (footprint floor) code start k
-  unfolding footprintAt
-  footprint-along k b =
+  -- memory and floor fit where a run of k instructions comes to
+  fits-along : (k : ℕ) (b : k < total) → Fits floor (comes k b .state)
+  fits-along k b =
       let (fits, code-fits, ran) = fitting in
       let c = comes k b in
       let bounds : Bounds code k start (c .at) k (c .state) = subst (Bounded code k start) (ran-to k b) (run-bounded floor code k start) in
-      let state-fits = fits-zero floor (c .state) (still-fits floor start (c .state) (bounds .kept) fits) in
+      still-fits floor start (c .state) (bounds .kept) fits
+
+  -- the footprint there, over a floor that fits, is that of the instruction which stands there
+  footprint-there : (height k : ℕ) (b : k < total) → Fits height (comes k b .state)
+      → footprintAt height code (positionReached (runOf floor code k start)) (stateReached (runOf floor code k start))
+      ≡ footprint height (comes k b .found .instruction) (comes k b .state)
+  unfolding footprintAt
+  footprint-there height k b there-fits =
+      let (fits, code-fits, ran) = fitting in
+      let c = comes k b in
+      ap (λ a. footprintAt height code (positionReached a) (stateReached a)) (ran-to k b)
+      ∙ ap (λ o. andThen o (λ r. footprint height (r .instruction) (c .state))) (instruction-here height code (c .at) (c .state) there-fits code-fits ∙ c .stands)
+
+  -- its footprint is that of piece k of the code
+  footprint-along : (k : ℕ) → k < total → footprintInRun floor code start k ≡ footprintInCode read (execute floor) (footprint floor) code start k
+  footprint-along k b = footprint-there floor k b (fits-along k b) ∙ sym (comes k b .footprint-same)
+
+  -- and it is the one that is asked for, over floor 0
+  pub footprint-asked : (k : ℕ) → k < total
+      → footprintInRun floor code start k ≡ footprintAt 0 code (positionReached (runOf floor code k start)) (stateReached (runOf floor code k start))
+  footprint-asked k b =
+      let c = comes k b in
       let (t, does) = c .completes in
-      ap (λ a. footprintAt 0 code (positionReached a) (stateReached a)) (ran-to k b)
-      ∙ ap (λ o. andThen o (λ r. footprint 0 (r .instruction) (c .state))) (instruction-here 0 code (c .at) (c .state) state-fits code-fits ∙ c .stands)
-      ∙ footprint-zero floor (c .found .instruction) (c .state) t does
-      ∙ sym (c .footprint-same)
+      footprint-there floor k b (fits-along k b)
+      ∙ sym (footprint-zero floor (c .found .instruction) (c .state) t does)
+      ∙ sym (footprint-there 0 k b (fits-zero floor (c .state) (fits-along k b)))
 
   -- and it has one, since the step there completes
   pub has-footprint : (k : ℕ) → k < total → (f : Footprint Place Kind) × (footprintInRun floor code start k ≡ done f)

@@ -1,4 +1,5 @@
--- What an effect of each shape comes to once the control marks are passed, said by its operands' numbers: by cases on where the operands are.
+-- What an effect of each shape comes to over a floor, once the control marks are passed, said by its operands' numbers: by cases on where the operands
+-- are.
 use Rattle.basis.specs.Names.{_≡_, refl, Bool, true, false, cond, List, [], _∷_, _++_, ℕ, zero, suc, _+_, _/_, _%_, length, getD, take, sets}
 use Rattle.basis.proofs.Names.{sym, ap, ap₂, _∙_, append-nil, add-one, arith, take-all}
 use Rattle.words.specs.Number.{number, bytes}
@@ -10,14 +11,14 @@ use Rattle.codec.specs.declared.Kind.{Kind}
 use Rattle.codec.specs.declared.Kind.the-variants.{Ordinary}
 use Rattle.manual.specs.Refusals.{belowFloor}
 use Rattle.manual.specs.State.{State, withMemory}
-use Rattle.manual.specs.Places.{Place, mmx, integer, byte, look, put}
+use Rattle.manual.specs.Places.{Place, mmx, integer, byte, look, put, allWritable}
 use Rattle.manual.specs.Kinds.{marked, heeded}
 use Rattle.manual.specs.Addresses.{Address, address}
 use Rattle.manual.specs.Locations.{Location, mmxRegister, integerRegister, memory, bytesFrom, liesInside, missOf, placesOf}
 use Rattle.manual.specs.Effects.{Effect, placeCount, valueIn, contentsOf, unlessMarked, planOn, guarded, placedAbove, perform as performs}
 use Rattle.manual.specs.inner.Unmarked.{directly}
 use Rattle.manual.proofs.Marking.{past-marks}
-use Rattle.manual.proofs.Floors.{allWritable}
+use Rattle.manual.proofs.Floors.{past-test}
 use Rattle.manual.proofs.Shapes.{both, move, three}
 
 -- the places of a list of one operand
@@ -101,8 +102,7 @@ module _ (floor : ℕ) (s : State) where
   -- the floor's test goes first
   past-floor : (t : Bool) (p : Plan Place Kind)
       → perform look put marked s (cond t (done p) (refused belowFloor)) ≡ cond t (perform look put marked s (done p)) (refused belowFloor)
-  past-floor true p = refl
-  past-floor false p = refl
+  past-floor t p = past-test (perform look put marked s) t (done p) (refused belowFloor)
 
   moves : (f : ℕ → ℕ) (d x : Location) (u : Result ℕ) (ps qs : Result (List Place)) → Taken s x u ps → ((v : ℕ) → Given s floor d v (putAt s floor d v) qs)
       → opened (move f d x) (one ps) (one qs) ≡ andThen u (λ v. putAt s floor d (f v))

@@ -296,7 +296,7 @@ floorEdges =
     ∷ refuses 10 (runOver 8 (0x0f ∷ 0x7f ∷ 0x05 ∷ 1 ∷ 0 ∷ 0 ∷ 0 ∷ []))
     ∷ refuses 14 (runOver 8 (0x0f ∷ 0x7f ∷ 0x45 ∷ 0 ∷ []))
     ∷ refuses 21 (runOver 8 (0x0f ∷ 0x7e ∷ 0x45 ∷ 0 ∷ []))
-    -- and so are the control marks
+    -- 7 and 9 before 21
     ∷ refuses 7 (runOf 8 (0x0f ∷ 0x7f ∷ 0x05 ∷ 0 ∷ 0 ∷ 0 ∷ 0 ∷ []) 1 (start 0 0 true true true))
     ∷ refuses 9 (runOf 8 (0x0f ∷ 0x7f ∷ 0x05 ∷ 0 ∷ 0 ∷ 0 ∷ 0 ∷ []) 1 (start 0 0 false false true))
     -- in the second turn too: MOVD [4], MM0 stays done, and MOVD [0], MM0 is refused

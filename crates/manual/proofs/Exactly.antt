@@ -1,5 +1,5 @@
--- Each refusal of a step is given exactly when there is its reason: the tests stand in document 01's order, the operand test is the last of them, and
--- then comes the floor's.
+-- Each refusal of a step is given exactly when there is its reason: the tests stand in the order of documents 01 and 02, the operand test and then the
+-- floor's as the last.
 use Rattle.basis.specs.Names.{_≡_, refl, Bool, true, false, cond, List, [], _∷_, _++_, _&&_, List·Memᴰ as In, ℕ, zero, suc, _+_, leb, length}
 use Rattle.basis.proofs.Names.{sym, ap, ap₂, subst, _∙_, _↔_, inl, inr, ⊎-elim, false≢true, and-false, List·Memᴰ·head as here, List·Memᴰ·tail as there, leb-false, lt-leb, arith}
 use Rattle.reorder.specs.Result.{Result, done, refused, andThen, mapResult, caseOf}
@@ -10,7 +10,7 @@ use Rattle.codec.specs.declared.Instruction.{Instruction}
 use Rattle.codec.proofs.Exactly.{reading-exactly}
 use Rattle.manual.specs.Refusals.{memoryTooLong, outsideMemory, outsideByStack, floorTooHigh, belowFloor}
 use Rattle.manual.specs.State.{State, isTooLong, isTooHigh}
-use Rattle.manual.specs.Places.{Place, look, put}
+use Rattle.manual.specs.Places.{Place, look, put, allWritable}
 use Rattle.manual.specs.Kinds.{marked}
 use Rattle.manual.specs.Addresses.{Address, isStackBase, address}
 use Rattle.manual.specs.Locations.{Location, mmxRegister, integerRegister, memory, liesInside, bytesFrom, missOf, placesOf}
@@ -20,7 +20,7 @@ use Rattle.manual.specs.Instructions.{effectOf, execute}
 use Rattle.manual.specs.Steps.{refusedWith, resultOf, concluded, instructionAt, stepAt}
 use Rattle.manual.specs.Reasons.{Fits, Stands, stopsIt, Passes, Touches, Outside, Below, Reason, one, twenty, reading, seven, eight, nine, ten, fourteen, twentyOne}
 use Rattle.manual.proofs.Marking.{controlled}
-use Rattle.manual.proofs.Floors.{allWritable, writable-bytes, writable-both}
+use Rattle.manual.proofs.Floors.{writable-bytes, writable-both}
 use Rattle.manual.proofs.OneAddress.{pointed, one-address}
 
 -- Operands: the only refusal is that of a miss, and it is given exactly where an operand is outside

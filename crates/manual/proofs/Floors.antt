@@ -1,7 +1,6 @@
--- A floor keeps the bytes below it: no step and no run changes one, whatever the block does. It does nothing but refuse, and over floor 0 it refuses
--- nothing.
-use Rattle.basis.specs.Names.{_≡_, refl, _⊎_, Bool, true, false, cond, _&&_, List, [], _∷_, _++_, map, ℕ, zero, suc, _+_, _<_, _≤_, leb, length, getD, take, drop}
-use Rattle.basis.proofs.Names.{sym, ap, _∙_, inl, inr, false≢true, arith, and-true, le-leb, le-ltb, leb-true, take-set-le}
+-- A floor keeps the bytes below it: no step and no run changes one, whatever the block does. And a step over it is the step over floor 0, or refused.
+use Rattle.basis.specs.Names.{_≡_, refl, _⊎_, Bool, true, false, cond, _&&_, List, [], _∷_, _++_, ℕ, zero, suc, _+_, _<_, _≤_, leb, getD, take, drop}
+use Rattle.basis.proofs.Names.{sym, ap, _∙_, inl, inr, false≢true, arith, and-true, le-leb, leb-true, take-set-le}
 use Rattle.words.proofs.Laws.{and-both}
 use Rattle.reorder.specs.Result.{Result, done, refused, caseOf, andThen}
 use Rattle.reorder.specs.Plan.{Plan, puts, perform as performed}
@@ -10,28 +9,23 @@ use Rattle.reorder.specs.Run.{Fetched, Answer, stateReached, runFrom}
 use Rattle.reorder.proofs.Swapping.{completed as planned}
 use Rattle.reorder.proofs.Endings.{by-turns}
 use Rattle.codec.specs.Reads.{readAt}
-use Rattle.codec.specs.Fits.{all}
 use Rattle.codec.specs.declared.Instruction.{Instruction}
 use Rattle.codec.specs.declared.Kind.{Kind}
 use Rattle.codec.specs.declared.Kind.the-variants.{Ordinary, Emms, Silent}
 use Rattle.manual.specs.Refusals.{floorTooHigh, belowFloor}
-use Rattle.manual.specs.State.{State, longestMemory, isTooLong, isTooHigh}
-use Rattle.manual.specs.Places.{Place, mmx, integer, byte, look, put, isWritable}
+use Rattle.manual.specs.State.{State, isTooLong, isTooHigh}
+use Rattle.manual.specs.Places.{Place, mmx, integer, byte, look, put, isWritable, allWritable}
 use Rattle.manual.specs.Kinds.{marked, heeded}
 use Rattle.manual.specs.Locations.{bytesFrom}
 use Rattle.manual.specs.Effects.{Effect, placed, guarded, placedAbove, via, plan}
 use Rattle.manual.specs.Instructions.{effectOf, execute, footprint}
 use Rattle.manual.specs.Steps.{Outcome, completed, refusedWith, resultOf, concluded, instructionAt, stepAt}
-use Rattle.manual.specs.Reasons.{Fits}
 use Rattle.manual.specs.Runs.{read, runOf}
 use Rattle.manual.proofs.Marking.{by-marks}
-use Rattle.manual.proofs.Turns.{of-run}
+use Rattle.manual.proofs.Turns.{fits-zero, of-run}
 use Rattle.manual.proofs.Refusals.{refused-step, step-executed}
 
 -- Places that may be written
-
-abbrev pub allWritable : ℕ → List Place → Bool
-allWritable floor ps = all (map (isWritable floor) ps)
 
 -- over floor 0 all may
 all-zero : (ps : List Place) → allWritable 0 ps ≡ true
@@ -62,6 +56,11 @@ writable-both floor (p ∷ ps) qs = by (isWritable floor p) (writable-both floor
     by false e = refl
 
 -- The floor does nothing but refuse
+
+-- what is made of a test's two answers
+pub past-test : {A B : Type 0} (f : A → B) (t : Bool) (x y : A) → f (cond t x y) ≡ cond t (f x) (f y)
+past-test f true x y = refl
+past-test f false x y = refl
 
 guarded-zero : (p : Plan Place Kind) → guarded 0 p ≡ done p
 guarded-zero p = ap (λ (t : Bool). cond t (done p) (refused belowFloor)) (all-zero (p .target))
@@ -96,15 +95,6 @@ footprint-zero floor i s t e = by (plan-or-below floor (effectOf i) s)
         → footprintIn look (via (effectOf i)) s (plan 0 (effectOf i) s) ≡ footprintIn look (via (effectOf i)) s (plan floor (effectOf i) s)
     by (inl same) = ap (footprintIn look (via (effectOf i)) s) (sym same)
     by (inr below) = absurd (false≢true (cc (ap (performed look put marked s) below)))
-
--- memory and floor within their limits
-pub within-limits : (floor : ℕ) (s : State) → length (s .memory) ≤ longestMemory → floor ≤ length (s .memory) → Fits floor s
-within-limits floor s memory-fits floor-fits =
-    record { memory-fits = le-ltb longestMemory (length (s .memory)) memory-fits; floor-fits = le-ltb (length (s .memory)) floor floor-fits }
-
--- floor 0 fits where another does
-pub fits-zero : (floor : ℕ) (s : State) → Fits floor s → Fits 0 s
-fits-zero floor s fits = record { memory-fits = fits .memory-fits; floor-fits = le-ltb (length (s .memory)) 0 (omega arith) }
 
 -- a step over a floor is the step over floor 0, or it is refused by 20 or 21
 pub step-or-refused : (floor : ℕ) (code : List ℕ) (at : ℕ) (s : State)
@@ -196,7 +186,7 @@ pub step-keeps : (floor : ℕ) (code : List ℕ) (at : ℕ) (s : State) → take
 step-keeps floor code at s = by (stepAt floor code at s) refl
   where
     by : (o : Outcome) → stepAt floor code at s ≡ o → take floor (stateAfter o .memory) ≡ take floor (s .memory)
-    by (completed next t) e = let (r, er, ex, en) = step-executed floor code at next s t e in execute-keeps floor (r .instruction) s t ex
+    by (completed next t) e = let (r, ex) = step-executed floor code at next s t e in execute-keeps floor (r .instruction) s t ex
     by (refusedWith n at′ t) e = ap (λ (u : State). take floor (u .memory)) (refused-step floor code at n at′ s t e .1)
 
 -- nor by a run, whatever the block, the budget and the state

@@ -1,4 +1,4 @@
--- The table of footprints: for each form of instruction, which places its step reads and writes; and the footprints of instructions in a run.
+-- The table of footprints: for each form of instruction, which places its step reads and writes; footprints over floors, and of instructions in a run.
 use Rattle.basis.specs.Names.{true, false, List, [], _∷_, _++_, ℕ, replicate}
 use Rattle.reorder.specs.Result.{Result, done, refused}
 use Rattle.reorder.specs.Footprint.{Footprint}
@@ -117,6 +117,6 @@ inRuns =
     ∷ (0, 0x0f ∷ 0x77 ∷ [], 9, refused 3)
     -- code that is too long is 2, wherever it is asked about
     ∷ (0, replicate 4097 0x90, 0, refused 2)
-    -- where the floor refuses MOVQ [0], MM0, a run does not come to the EMMS behind it; and footprints are asked for over floor 0
-    ∷ (1, 0x0f ∷ 0x7f ∷ 0x05 ∷ 0 ∷ 0 ∷ 0 ∷ 0 ∷ 0x0f ∷ 0x77 ∷ [], 1, done (record { reads = mmx 0 ∷ []; writes = bytesFrom 0 8; kind = Ordinary }))
+    -- where the floor refuses MOVQ [0], MM0, a run does not come to the EMMS behind it
+    ∷ (1, 0x0f ∷ 0x7f ∷ 0x05 ∷ 0 ∷ 0 ∷ 0 ∷ 0 ∷ 0x0f ∷ 0x77 ∷ [], 1, refused 21)
     ∷ []

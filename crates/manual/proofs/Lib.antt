@@ -1,5 +1,5 @@
--- The laws of the manuals' rules: the places obey the laws of lists, reading is local, and so demand 3; a run is its steps; what refusals keep;
--- what a footprint says, and which meet; examples that the definitions compute; document 01's and manual 000's tables of opcodes.
+-- The laws of the manuals' rules: the places obey the laws of lists, reading is local, and so demand 3; a run is its steps; what refusals and a floor
+-- keep; what a footprint says, and which meet; examples that the definitions compute; document 01's and manual 000's tables of opcodes.
 pub mod Lists
 pub mod Marking
 pub mod Shapes

@@ -32,23 +32,24 @@ pub record PointedAt (inEdi : Bool) (i : Instruction) (n : ℕ) (a : Address) (s
   pub sized : size ≡ n
   pub by-rm : inEdi ≡ false → i .operand .mode ≡ 3 → ⊥
 
-module _ (i : Instruction) (a : Address) (size : ℕ) where
-  pub no-register : (file : File) (k : ℕ) → memory a size ≡ registerIn file k → ⊥
-  no-register mmxFile k e = false≢true (cc)
-  no-register integerFile k e = false≢true (cc)
+-- an operand in memory is no register
+pub no-register : (a : Address) (size : ℕ) (file : File) (k : ℕ) → memory a size ≡ registerIn file k → ⊥
+no-register a size mmxFile k e = false≢true (cc)
+no-register a size integerFile k e = false≢true (cc)
 
+module _ (i : Instruction) (a : Address) (size : ℕ) where
   pub at-rm : (file : File) (n : ℕ) → memory a size ≡ rmOf file n (i .operand) → PointedAt false i n a size
   unfolding rmOf
   at-rm file n e = by (eqb (i .operand .mode) 3) refl e
     where
       by : (t : Bool) → eqb (i .operand .mode) 3 ≡ t → memory a size ≡ cond t (registerIn file (i .operand .rm)) (memory (addressOf (i .operand)) n) → PointedAt false i n a size
-      by true t e = absurd (no-register file (i .operand .rm) e)
+      by true t e = absurd (no-register a size file (i .operand .rm) e)
       by false t e = record { same = cc; sized = cc; by-rm = λ h. eqb-false (i .operand .mode) 3 t }
 
   at-slot : (inEdi : Bool) (n : ℕ) (x : Slot) → isAt inEdi n x ≡ true → memory a size ≡ locate i x → PointedAt inEdi i n a size
-  at-slot inEdi n (reg file) h e = absurd (no-register file (i .operand .reg) e)
-  at-slot inEdi n (rm file) h e = absurd (no-register file (i .operand .rm) e)
-  at-slot inEdi n (fixed k) h e = absurd (no-register mmxFile k e)
+  at-slot inEdi n (reg file) h e = absurd (no-register a size file (i .operand .reg) e)
+  at-slot inEdi n (rm file) h e = absurd (no-register a size file (i .operand .rm) e)
+  at-slot inEdi n (fixed k) h e = absurd (no-register a size mmxFile k e)
   at-slot false n (rm/mem file m) h e = subst (λ (k : ℕ). PointedAt false i k a size) (eqb-true m n h) (at-rm file m e)
   at-slot false n (mem m) h e = subst (λ (k : ℕ). PointedAt false i k a size) (eqb-true m n h) (at-rm mmxFile m e)
   at-slot true n (edi m) h e = let same : size ≡ m = cc in record { same = cc; sized = same ∙ eqb-true m n h; by-rm = λ z. absurd (false≢true (sym z)) }

@@ -7,7 +7,7 @@ use Rattle.reorder.proofs.Places.{leaves-frozen}
 use Rattle.reorder.proofs.Swapping.{completed as planned}
 use Rattle.codec.specs.Reads.{longestCode}
 use Rattle.codec.specs.declared.Instruction.{Instruction}
-use Rattle.manual.specs.State.{State, Frozen, frozen, longestMemory}
+use Rattle.manual.specs.State.{State, frozen}
 use Rattle.manual.specs.Places.{look, put}
 use Rattle.manual.specs.Kinds.{marked, KindsMeet}
 use Rattle.manual.specs.Effects.{via, plan}
@@ -16,7 +16,7 @@ use Rattle.manual.specs.Steps.{Outcome, completed, refusedWith, conclude
 use Rattle.manual.specs.Reasons.{Fits}
 use Rattle.manual.specs.Runs.{read, runOf}
 use Rattle.manual.proofs.Laws.{laws}
-use Rattle.manual.proofs.Turns.{onward, of-run, turn}
+use Rattle.manual.proofs.Turns.{onward, still-fits, of-run, turn}
 
 -- "A refused step returns the number with the state and position it was given and changes no memory byte."
 pub refused-step : (floor : ℕ) (code : List ℕ) (at n at′ : ℕ) (s t : State) → stepAt floor code at s ≡ refusedWith n at′ t → (at′ ≡ at) × (t ≡ s)
@@ -40,35 +40,25 @@ execute-frozen floor i s t e =
     let (pl, vs, ep, em, et) = planned look put marked via (plan floor) (effectOf i) s t e in
     ap frozen et ∙ leaves-frozen look put marked frozen KindsMeet laws pl s vs
 
--- a completed step is an instruction that stands there and completes
+-- a completed step is an instruction that completes
 pub step-executed : (floor : ℕ) (code : List ℕ) (at next : ℕ) (s t : State) → stepAt floor code at s ≡ completed next t
-    → (r : Fetched Instruction) × (instructionAt floor code at s ≡ done r) × (execute floor (r .instruction) s ≡ done t) × (next ≡ at + r .size)
+    → (r : Fetched Instruction) × (execute floor (r .instruction) s ≡ done t)
 unfolding stepAt
-step-executed floor code at next s t e = reading (instructionAt floor code at s) refl e
+step-executed floor code at next s t e = reading (instructionAt floor code at s) e
   where
-    Goal : Type 0
-    Goal = (r : Fetched Instruction) × (instructionAt floor code at s ≡ done r) × (execute floor (r .instruction) s ≡ done t) × (next ≡ at + r .size)
+    executing : (r : Fetched Instruction) (o : Result State) → execute floor (r .instruction) s ≡ o → concluded at (at + r .size) s o ≡ completed next t
+        → (q : Fetched Instruction) × (execute floor (q .instruction) s ≡ done t)
+    executing r (refused m) x h = absurd (false≢true (cc))
+    executing r (done u) x h = (r, cc)
 
-    executing : (r : Fetched Instruction) → instructionAt floor code at s ≡ done r → (o : Result State) → execute floor (r .instruction) s ≡ o
-        → concluded at (at + r .size) s o ≡ completed next t → Goal
-    executing r e (refused m) x h = absurd (false≢true (cc))
-    executing r e (done u) x h = (r, e, (cc), (cc))
-
-    reading : (o : Result (Fetched Instruction)) → instructionAt floor code at s ≡ o
-        → caseOf o (λ m. refusedWith m at s) (λ r. concluded at (at + r .size) s (execute floor (r .instruction) s)) ≡ completed next t → Goal
-    reading (refused m) e h = absurd (false≢true (cc))
-    reading (done r) e h = executing r e (execute floor (r .instruction) s) refl h
+    reading : (o : Result (Fetched Instruction))
+        → caseOf o (λ m. refusedWith m at s) (λ r. concluded at (at + r .size) s (execute floor (r .instruction) s)) ≡ completed next t
+        → (q : Fetched Instruction) × (execute floor (q .instruction) s ≡ done t)
+    reading (refused m) h = absurd (false≢true (cc))
+    reading (done r) h = executing r (execute floor (r .instruction) s) refl h
 
 pub step-frozen : (floor : ℕ) (code : List ℕ) (at next : ℕ) (s t : State) → stepAt floor code at s ≡ completed next t → frozen t ≡ frozen s
-step-frozen floor code at next s t e = let (r, er, ex, en) = step-executed floor code at next s t e in execute-frozen floor (r .instruction) s t ex
-
--- so memory and floor still fit
-pub still-fits : (floor : ℕ) (s t : State) → frozen t ≡ frozen s → Fits floor s → Fits floor t
-still-fits floor s t same fits =
-    record {
-      memory-fits = ap (λ (f : Frozen). ltb longestMemory (f .memory)) same ∙ fits .memory-fits;
-      floor-fits = ap (λ (f : Frozen). ltb (f .memory) floor) same ∙ fits .floor-fits;
-    }
+step-frozen floor code at next s t e = let (r, ex) = step-executed floor code at next s t e in execute-frozen floor (r .instruction) s t ex
 
 module _ (floor : ℕ) (code : List ℕ) (code-fits : ltb longestCode (length code) ≡ false) (n end total : ℕ) (t : State) where
   -- a run that stops has come, by as many steps as it counts, to a step that is refused

@@ -1,5 +1,5 @@
--- Refusal 21 in the customer's words: a store whose first byte is below the floor, and whose last one is in the memory. The stores are 7E, 7F and E7
--- where r/m names no register, and F7, whatever its mask.
+-- Refusal 21 in the customer's words: a store with a byte below the floor, so with its first one, and with all in the memory. The stores are 7E, 7F and
+-- E7 where r/m names no register, and F7, whatever its mask.
 use Rattle.basis.specs.Names.{_≡_, refl, Bool, true, false, _||_, List, [], _∷_, map, List·Memᴰ as In, ℕ, _+_, _<_, _≤_, eqb, length}
 use Rattle.basis.proofs.Names.{sym, ap, subst, subst₂, _∙_, _↔_, inr, false≢true, or-false, List·Memᴰ·head as here, List·Memᴰ·tail as there, List·Memᴰ·eq-of-singleton as eq-of-singleton, arith, decLt, eqb-true, ne-eqb}
 use Rattle.codec.specs.Forms.{File, mmxFile, integerFile, Slot, reg, rm, rm/mem, mem, edi, fixed, absent, isAmong}
@@ -55,12 +55,12 @@ module _ (i : Instruction) where
           let same : isAmong (x .second) storeBytes ≡ false = ap (λ (k : ℕ). isAmong k storeBytes) (sym (eqb-true (i .second) (x .second) e)) ∙ h in
           sym (or-false _) ∙ (ap (λ (t : Bool). allPass isRegister (targets (x .form .operands)) || t) (sym same) ∙ g)
 
-  -- and the rest, in memory
+  -- so that it has none
   module _ (a : Address) (size : ℕ) where
     no-memory : (xs : List Slot) → allPass isRegister xs ≡ true → In (memory a size) (map (locate i) xs) → ⊥
-    no-memory (reg file ∷ xs) h (here e) = no-register i a size file (i .operand .reg) e
-    no-memory (rm file ∷ xs) h (here e) = no-register i a size file (i .operand .rm) e
-    no-memory (fixed k ∷ xs) h (here e) = no-register i a size mmxFile k e
+    no-memory (reg file ∷ xs) h (here e) = no-register a size file (i .operand .reg) e
+    no-memory (rm file ∷ xs) h (here e) = no-register a size file (i .operand .rm) e
+    no-memory (fixed k ∷ xs) h (here e) = no-register a size mmxFile k e
     no-memory (rm/mem file n ∷ xs) h m = false≢true h
     no-memory (mem n ∷ xs) h m = false≢true h
     no-memory (edi n ∷ xs) h m = false≢true h

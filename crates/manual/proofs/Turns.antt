@@ -1,13 +1,14 @@
 -- A run is its steps: at its start it is refused by 1, 20 or 2 where its first step is; each turn of it is a step at its position, and the position
 -- after that is the one that the step gives.
-use Rattle.basis.specs.Names.{_≡_, refl, Bool, true, false, cond, List, ℕ, suc, _+_, eqb, ltb, length, drop}
+use Rattle.basis.specs.Names.{_≡_, refl, Bool, true, false, cond, List, ℕ, suc, _+_, _≤_, eqb, ltb, length, drop}
+use Rattle.basis.proofs.Names.{ap, _∙_, arith, le-ltb}
 use Rattle.reorder.specs.Result.{Result, done, refused, caseOf}
 use Rattle.reorder.specs.Run.{Fetched, Answer, stopped, runFrom, run}
 use Rattle.codec.specs.Refusals.{codeTooLong}
 use Rattle.codec.specs.Reads.{longestCode, readAt}
 use Rattle.codec.specs.declared.Instruction.{Instruction}
 use Rattle.manual.specs.Refusals.{memoryTooLong, floorTooHigh}
-use Rattle.manual.specs.State.{State, isTooLong, isTooHigh}
+use Rattle.manual.specs.State.{State, Frozen, frozen, longestMemory, isTooLong, isTooHigh}
 use Rattle.manual.specs.Instructions.{execute}
 use Rattle.manual.specs.Steps.{Outcome, completed, refusedWith, concluded, instructionAt, stepAt}
 use Rattle.manual.specs.Reasons.{Fits}
@@ -17,6 +18,23 @@ use Rattle.manual.specs.Runs.{read, runOf}
 abbrev pub onward : (ℕ → ℕ → State → Answer State) → ℕ → Outcome → Answer State
 onward further count (completed at t) = further at (suc count) t
 onward further count (refusedWith n at t) = stopped n at count t
+
+-- memory and floor within their limits
+pub within-limits : (floor : ℕ) (s : State) → length (s .memory) ≤ longestMemory → floor ≤ length (s .memory) → Fits floor s
+within-limits floor s memory-fits floor-fits =
+    record { memory-fits = le-ltb longestMemory (length (s .memory)) memory-fits; floor-fits = le-ltb (length (s .memory)) floor floor-fits }
+
+-- floor 0 fits where another does
+pub fits-zero : (floor : ℕ) (s : State) → Fits floor s → Fits 0 s
+fits-zero floor s fits = record { memory-fits = fits .memory-fits; floor-fits = le-ltb (length (s .memory)) 0 (omega arith) }
+
+-- where nothing frozen has changed, they still fit
+pub still-fits : (floor : ℕ) (s t : State) → frozen t ≡ frozen s → Fits floor s → Fits floor t
+still-fits floor s t same fits =
+    record {
+      memory-fits = ap (λ (f : Frozen). ltb longestMemory (f .memory)) same ∙ fits .memory-fits;
+      floor-fits = ap (λ (f : Frozen). ltb (f .memory) floor) same ∙ fits .floor-fits;
+    }
 
 -- what holds of runs past the tests of their start, and of those that are refused there, as the step is, holds of a block's runs, by their budget
 pub of-run : (floor : ℕ) (code : List ℕ) (s : State) (P : (ℕ → Answer State) → Type 0)

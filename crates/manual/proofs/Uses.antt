@@ -179,7 +179,7 @@ emms-leaves floor i s e =
     ap (λ (second : ℕ). perform floor (effectBy (formAt second) (operationAt second (i .operand .reg)) i) s) e
     ∙ past-marks (performed look put marked s) (λ n. refl) (s .marks) (done (planOn (bare Emms) [] []))
 
--- prefetches and SFENCE touch nothing, not even tags, ignore the control marks, never give 10 or 14, and have an empty footprint
+-- prefetches and SFENCE touch nothing, not even tags, ignore the control marks, never give 10, 14 or 21, and have an empty footprint
 pub silent-passes : (floor : ℕ) (i : Instruction) (s : State) → isSilent (i .second) ≡ true
     → (execute floor i s ≡ done s) × (footprint floor i s ≡ done (record { reads = []; writes = []; kind = Silent }))
 unfolding execute footprint effectOf formAt

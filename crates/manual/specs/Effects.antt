@@ -5,12 +5,11 @@ use Rattle.words.specs.Number.{number, bytes}
 use Rattle.reorder.specs.Result.{Result, done, refused, andThen, mapResult}
 use Rattle.reorder.specs.Plan.{Plan, execBy}
 use Rattle.reorder.specs.Footprint.{Footprint, footprintBy}
-use Rattle.codec.specs.Fits.{all}
 use Rattle.codec.specs.declared.Kind.{Kind}
 use Rattle.manual.specs.declared.Marks.{Marks}
 use Rattle.manual.specs.Refusals.{invalidOpcode, notAvailable, isPending, belowFloor}
 use Rattle.manual.specs.State.{State}
-use Rattle.manual.specs.Places.{Place, integer, look, put, isWritable}
+use Rattle.manual.specs.Places.{Place, integer, look, put, allWritable}
 use Rattle.manual.specs.Kinds.{marked, heeded}
 use Rattle.manual.specs.Locations.{Location, mmxRegister, integerRegister, memory, placesOf, registersBehind}
 
@@ -78,7 +77,7 @@ placed e s = andThen (placesOfAll s (e .takes)) (λ source. mapResult (planOn e 
 
 -- a plan over a floor: 21 where it would write a byte below
 abbrev pub guarded : ℕ → Plan Place Kind → Result (Plan Place Kind)
-guarded floor plan = cond (all (map (isWritable floor) (plan .target))) (done plan) (refused belowFloor)
+guarded floor plan = cond (allWritable floor (plan .target)) (done plan) (refused belowFloor)
 
 -- the effect on its operands' places, over a floor, which is tested after the operands
 abbrev pub placedAbove : ℕ → Effect → State → Result (Plan Place Kind)

@@ -16,9 +16,9 @@ unfoldable pub footprintAt : ℕ → List ℕ → ℕ → State → Result (plac
 footprintAt floor code at s = andThen (instructionAt floor code at s) (λ read. footprint floor (read .instruction) s)
 
 -- the footprint of instruction k of a block, in the state where it runs over a floor in the original order: that of the step which a run of k
--- instructions has come to (over floor 0, as footprints are asked for; a step that completes over another has the same)
+-- instructions has come to
 abbrev pub footprintInRun : ℕ → List ℕ → State → ℕ → Result (places.Footprint Place Kind)
-footprintInRun floor code start k = let answer = runOf floor code k start in footprintAt 0 code (positionReached answer) (stateReached answer)
+footprintInRun floor code start k = let answer = runOf floor code k start in footprintAt floor code (positionReached answer) (stateReached answer)
 
 -- one writes a place that the other reads or writes, or their kinds meet: either is EMMS, and neither a prefetch or SFENCE
 abbrev pub Meets : Result (places.Footprint Place Kind) → Result (places.Footprint Place Kind) → Type 0

@@ -1,5 +1,6 @@
 -- The places that steps read and write: MMX registers, integer registers, single memory bytes.
-use Rattle.basis.specs.Names.{Bool, true, ℕ, leb, getD, set}
+use Rattle.basis.specs.Names.{Bool, true, List, map, ℕ, leb, getD, set}
+use Rattle.codec.specs.Fits.{all}
 use Rattle.manual.specs.State.{State, withMmx, withInteger, withMemory}
 
 pub data Place : Type 0 where
@@ -22,3 +23,6 @@ abbrev pub isWritable : ℕ → Place → Bool
 isWritable floor (mmx k) = true
 isWritable floor (integer k) = true
 isWritable floor (byte a) = leb floor a
+
+abbrev pub allWritable : ℕ → List Place → Bool
+allWritable floor ps = all (map (isWritable floor) ps)

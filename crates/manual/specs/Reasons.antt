@@ -17,7 +17,7 @@ pub record Fits (floor : ℕ) (s : State) : Type 0 where
   pub memory-fits : isTooLong (s .memory) ≡ false
   pub floor-fits : isTooHigh floor (s .memory) ≡ false
 
--- the instruction at a position, of so many bytes: nor is one of 2 to 6
+-- the instruction at a position, of so many bytes: none of 1, 20 and 2 to 6 is due
 pub record Stands (floor : ℕ) (code : List ℕ) (at : ℕ) (s : State) (i : Instruction) (size : ℕ) : Type 0 where
   pub fits : Fits floor s
   pub read : readAt code at ≡ good i size
@@ -26,7 +26,7 @@ pub record Stands (floor : ℕ) (code : List ℕ) (at : ℕ) (s : State) (i : In
 abbrev pub stopsIt : Instruction → Bool → Bool
 stopsIt i mark = stops (effectOf i .kind) mark
 
--- no control mark stops it: nor is one of 7 to 9
+-- the instruction at a position, which no control mark stops: none of 1, 20 and 2 to 9 is due
 pub record Passes (floor : ℕ) (code : List ℕ) (at : ℕ) (s : State) (i : Instruction) (size : ℕ) : Type 0 where
   pub stands : Stands floor code at s i size
   pub em : stopsIt i (s .marks .em) ≡ false
@@ -44,12 +44,12 @@ pub record Outside (s : State) (x : Location) : Type 0 where
   pub operand : x ≡ memory at size
   pub past : length (s .memory) < address (s .integers) at + size
 
--- none of its operands is: neither 10 nor 14 is due
+-- the same, where none of its operands is outside: nor is 10 or 14
 pub record Reaches (floor : ℕ) (code : List ℕ) (at : ℕ) (s : State) (i : Instruction) (size : ℕ) : Type 0 where
   pub passes : Passes floor code at s i size
   pub inside : (x : Location) → Touches i x → ¬ Outside s x
 
--- a byte of an operand in memory is below the floor
+-- a byte of an operand in memory, `which` from 0 on, is below the floor
 pub record Below (floor : ℕ) (s : State) (x : Location) : Type 0 where
   pub at : Address
   pub size : ℕ

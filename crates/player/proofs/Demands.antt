@@ -11,8 +11,8 @@ pub use Rattle.printout.proofs.Allowed.{buffer-one, report-one, refusal-one}
 pub use Rattle.player.proofs.Allowed.{play-one}
 pub use Rattle.player.proofs.Whole.{whole}
 -- "Bad input is refused by the numbers in document 01": 2 to 6 of reading, 11 and 12 of writing, 1 to 10 of a step, 13 of a file, each given exactly when
--- document 01 says, 14 of a step, when document 02's Req 04 says, and 20 and 21, when Req 08 does; and whichever function is asked, the number is the
--- same.
+-- document 01 says, 14 of a step, when document 02's Req 04 says, and 20 and 21, when Req 08 does; and whichever function is asked, the number is
+-- the same.
 pub use Rattle.codec.proofs.Exactly.{reading-exactly, twelve-exactly}
 pub use Rattle.codec.proofs.Sixes.{six-in-words}
 pub use Rattle.codec.proofs.Theorems.{eleven-exactly}
@@ -40,11 +40,12 @@ pub use Rattle.manual.proofs.Uses.{tag-after, emms-leaves, silent-passes, goes-
 -- 3. "Put its instructions in any other order that keeps, for each pair whose footprints meet in that run, the earlier one earlier. .. the new block also
 -- runs to its end, in as many instructions, and leaves exactly the registers, tag mark and memory." Over the definitions, and over calls of the
 -- program's own functions; such calls can be had; and which instructions meet: EMMS every other but prefetches and SFENCE, which meet none.
-pub use Rattle.manual.proofs.Demand3.{demand-3, rearranged-parts}
+pub use Rattle.manual.proofs.Demand3.{demand-3, footprint-asked, rearranged-parts}
 pub use Rattle.manual.proofs.Meeting.{meets-exactly, meeting-symmetric, silent-meets-none}
 pub use Rattle.machine.proofs.Positions.{meet-at}
 pub use Rattle.machine.proofs.Program.{demand-3-run, recorded}
--- Document 02, Req 08: "no byte below it may be written, though all may be read". None is changed, by a step or by a run, over the definitions and in the
--- memory that is lent to the program's own; and a floor does nothing but refuse.
+-- Document 02, Req 08: "no byte below it may be written, though all may be read". None is changed, by a step or by a run, over the definitions and in
+-- the memory that is lent to the program; a step over a floor is the step over floor 0, or refused; and over floor 0 neither 20 nor 21 is given.
 pub use Rattle.manual.proofs.Floors.{step-keeps, run-keeps, step-or-refused}
+pub use Rattle.manual.proofs.Bounds.{step-zero, run-zero}
 pub use Rattle.machine.proofs.Floors.{step-keeps-memory, run-keeps-memory}

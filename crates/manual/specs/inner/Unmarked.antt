@@ -1,4 +1,4 @@
--- The step of an effect whose control marks have been tested.
+-- The step of an effect over a floor, whose control marks have been tested.
 use Rattle.basis.specs.Names.{ℕ}
 use Rattle.reorder.specs.Result.{Result}
 use Rattle.reorder.specs.Plan.{execBy}

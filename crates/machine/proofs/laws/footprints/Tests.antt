@@ -22,7 +22,8 @@ use Rattle.manual.specs.Instructions.{effectOf, footprint}
 use Rattle.manual.specs.Steps.{resultOf, instructionAt}
 use Rattle.manual.specs.Footprints.{footprintAt}
 use Rattle.manual.proofs.Marking.{past-marks}
-use Rattle.manual.proofs.Floors.{within-limits, placed-zero}
+use Rattle.manual.proofs.Turns.{within-limits}
+use Rattle.manual.proofs.Floors.{placed-zero}
 use Rattle.machine.specs.declared.Footprint.{Footprint}
 use Rattle.machine.specs.declared.Machine.{Machine}
 use Rattle.machine.specs.declared.Tracing.{Tracing}

@@ -22,8 +22,7 @@ use Rattle.manual.specs.inner.Unmarked.{directly}
 use Rattle.manual.specs.Instructions.{effectOf, execute}
 use Rattle.manual.specs.Steps.{concluded, refusedWith, resultOf, stepAt}
 use Rattle.manual.specs.Runs.{read}
-use Rattle.manual.proofs.Turns.{instruction-here}
-use Rattle.manual.proofs.Floors.{within-limits}
+use Rattle.manual.proofs.Turns.{within-limits, instruction-here}
 use Rattle.manual.proofs.Direct.{marks-first}
 use Rattle.machine.specs.declared.gathering.Work.{Work}
 use Rattle.machine.specs.State.{stateOf}

@@ -23,7 +23,7 @@ use Rattle.manual.specs.Locations.{Location, mmxRegister, integerRegister, memo
 use Rattle.manual.specs.inner.Unmarked.{directly}
 use Rattle.manual.specs.Instructions.{keptBy, effectBy}
 use Rattle.manual.specs.Steps.{completed, refusedWith, concluded}
-use Rattle.manual.proofs.Floors.{writable-bytes}
+use Rattle.manual.proofs.Floors.{past-test, writable-bytes}
 use Rattle.manual.proofs.Direct.{valueAt, putAt, move-direct, both-direct, three-direct}
 use Rattle.machine.specs.declared.gathering.Work.{Work}
 use Rattle.machine.specs.declared.operands.Spot.{Spot}
@@ -128,14 +128,10 @@ module _ (registers integers m : List ℕ) (next : ℕ) where
   -- the floor's test stands before what is left
   tested : (floor a at : ℕ) (here left : State)
       → cond (leb floor a) (completed next left) (refusedWith belowFloor at here) ≡ concluded at next here (cond (leb floor a) (done left) (refused belowFloor))
-  tested floor a at here left = by (leb floor a)
-    where
-      by : (t : Bool) → cond t (completed next left) (refusedWith belowFloor at here) ≡ concluded at next here (cond t (done left) (refused belowFloor))
-      by true = refl
-      by false = refl
+  tested floor a at here left = sym (past-test (concluded at next here) (leb floor a) (done left) (refused belowFloor))
 
   -- for the operand of r/m, whatever it is
-  module _ (size : ℕ) (w : Operand) (some : 0 < size) (few : size ≤ 8) where
+  module _ (size : ℕ) (w : Operand) (few : size ≤ 8) where
     abbrev spot : Location → Spot
     spot x = spotOf integers (length m) x
 
@@ -146,12 +142,12 @@ module _ (registers integers m : List ℕ) (next : ℕ) where
     abbrev Puts : ℕ → File → Location → Type 0
     Puts v f x = bytes size (keptBy (rm/mem f size) v) ≡ bytes size v → Leaves (putWork (spot x) v next) (λ floor s. putAt s floor x (keptBy (rm/mem f size) v))
 
-    puts : (file : File) (v : ℕ) → Puts v file (rmOf file size w)
+    puts : 0 < size → (file : File) (v : ℕ) → Puts v file (rmOf file size w)
     unfolding performed operate
-    puts file v = by-place (Puts v) file size w (λ e floor marks at. refl) (λ e floor marks at. refl) (λ f. inside f room refl)
+    puts any file v = by-place (Puts v) file size w (λ e floor marks at. refl) (λ e floor marks at. refl) (λ f. inside f room refl)
       where
         inside : (f : File) (u : Bool) → room ≡ u → Puts v f (memory (addressOf w) size)
-        inside f true h e floor marks at = simp (h, stored-bytewise, le-leb size 8 few, e, writable-bytes floor size (address integers (addressOf w)) some) (tested floor _ at _ _)
+        inside f true h e floor marks at = simp (h, stored-bytewise, le-leb size 8 few, e, writable-bytes floor size (address integers (addressOf w)) any) (tested floor _ at _ _)
         inside f false h e floor marks at = simp h
 
     -- an operation with the number that is there
@@ -313,7 +309,7 @@ module _ (registers integers m : List ℕ) (entry : ℕ) (i : Instruction) (next
           (of-work (takeWork registers integers m (entry % 256) (w .reg) here next) (λ floor s. computedAs floor s named i formIn (operationOf (entry % 256)) form)
           (sound-take registers integers m (entry % 256) (w .reg) here next (r .reg) here-named)
           (λ floor s. after floor s ∙ ap (λ (o : Operation). computedAs floor s named i formIn o form) (plain (its .past)))
-          (takes registers integers m next size w (its .any) (its .most) file (entry % 256) (w .reg)))
+          (takes registers integers m next size w (its .most) file (entry % 256) (w .reg)))
 
     pub does-store : (x : Spot) → y ≡ Stores → x ≡ here → work ≡ putWork x (getD registers (w .reg) 0) next → Does work registers integers m (effectIn entry i) next
     does-store x e found made =
@@ -322,7 +318,7 @@ module _ (registers integers m : List ℕ) (entry : ℕ) (i : Instruction) (next
         (of-work (putWork here v next) (λ floor s. putAt s floor (otherOf formIn w) (keptBy (rm/mem file size) (getD (s .mmx) (w .reg) 0)))
         (sound-put here v next here-named)
         (λ floor s. stored-by floor s named i formIn form (goes entry l y Stores way e) (moves Stores e refl))
-        (puts registers integers m next size w (its Stores e refl .any) (its Stores e refl .most) file v (its Stores e refl .kept v)))
+        (puts registers integers m next size w (its Stores e refl .most) (its Stores e refl .any) file v (its Stores e refl .kept v)))
 
     pub does-load : y ≡ Loads → work ≡ takeWork registers integers m (entry % 256) (w .reg) here next → Does work registers integers m (effectIn entry i) next
     does-load e = take Loads e refl (λ floor s. loaded-by floor s named i formIn form (goes entry l y Loads way e) (moves Loads e refl))
@@ -340,7 +336,7 @@ module _ (registers integers m : List ℕ) (entry : ℕ) (i : Instruction) (next
         (of-work (pickedWork formIn old (i .immediate) (takeWork registers integers m (entry % 256) (w .reg) here next)) (λ floor s. pickedAs floor s named i formIn form)
         (sound-picked formIn old (i .immediate) registers integers m (entry % 256) (w .reg) here next (r .reg) here-named)
         after
-        (picks registers integers m next size w (its z e two .any) (its z e two .most) file formIn (entry % 256) (w .reg) (i .immediate)))
+        (picks registers integers m next size w (its z e two .most) file formIn (entry % 256) (w .reg) (i .immediate)))
 
     pub does-insert : y ≡ Inserts → work ≡ pickedWork formIn (getD registers (w .reg) 0) (i .immediate) (takeWork registers integers m (entry % 256) (w .reg) here next)
         → Does work registers integers m (effectIn entry i) next

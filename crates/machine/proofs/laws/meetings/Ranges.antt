@@ -11,16 +11,16 @@ use Rattle.codec.specs.Opcodes.{formAt, operationAt}
 use Rattle.codec.specs.declared.Instruction.{Instruction}
 use Rattle.codec.specs.declared.Kind.{Kind}
 use Rattle.codec.proofs.Bytes.{form-passes}
+use Rattle.manual.specs.Refusals.{belowFloor}
 use Rattle.manual.specs.State.{State}
-use Rattle.manual.specs.Places.{Place, integer, look}
+use Rattle.manual.specs.Places.{Place, integer, look, allWritable}
 use Rattle.manual.specs.Addresses.{address, addressOf}
 use Rattle.manual.specs.declared.Marks.{Marks}
 use Rattle.manual.specs.Kinds.{heeded}
 use Rattle.manual.specs.Locations.{registerIn, rmOf, atEdi, locate, bytesFrom, liesInside, missOf, placesOf}
-use Rattle.manual.specs.Effects.{placesOfAll, addressRegistersOf, unlessMarked, planOn, via, footprintOf}
+use Rattle.manual.specs.Effects.{placesOfAll, addressRegistersOf, unlessMarked, planOn, placed, guarded, via, footprintOf}
 use Rattle.manual.specs.Instructions.{sources, targets, effectBy, effectOf, footprint}
 use Rattle.manual.proofs.Marking.{by-marks}
-use Rattle.manual.proofs.Floors.{placed-zero}
 use Rattle.machine.specs.Footprints.{byteNumber, bytesOf}
 use Rattle.machine.proofs.laws.operands.Locating.{by-place}
 
@@ -146,16 +146,25 @@ RangedFootprint (refused n) = Unit {0}
 abbrev oneEach : Form → Bool
 oneEach form = atMost true (sources (form .operands)) && atMost true (targets (form .operands))
 
-module _ (s : State) (i : Instruction) where
+module _ (floor : ℕ) (s : State) (i : Instruction) where
   unmarked : (marks : Marks) (vs : List Place) (o : Result (Plan Place Kind)) → RangedFootprint (footprintIn look vs s o)
       → RangedFootprint (footprintIn look vs s (unlessMarked marks o))
   unmarked marks vs o h = by-marks (λ a b. RangedFootprint (footprintIn look vs s a)) (λ n. tt) marks o o h
 
-  ranged-form : (form : Form) (o : Operation) → oneEach form ≡ true → RangedFootprint (footprintOf 0 (effectBy form o i) s)
+  -- the floor's test
+  above : (vs : List Place) (o : Result (Plan Place Kind)) → RangedFootprint (footprintIn look vs s o) → RangedFootprint (footprintIn look vs s (andThen o (guarded floor)))
+  above vs (refused n) h = tt
+  above vs (done p) h = by (allWritable floor (p .target))
+    where
+      by : (t : Bool) → RangedFootprint (footprintIn look vs s (cond t (done p) (refused belowFloor)))
+      by true = h
+      by false = tt
+
+  ranged-form : (form : Form) (o : Operation) → oneEach form ≡ true → RangedFootprint (footprintOf floor (effectBy form o i) s)
   ranged-form form o e =
       let (a, b) = and-both (atMost true (sources (form .operands))) _ e in
       unmarked (heeded (form .kind) (s .marks)) (via (effectBy form o i)) _
-      (subst (λ p. RangedFootprint (footprintIn look (via (effectBy form o i)) s p)) (sym (placed-zero (effectBy form o i) s))
+      (above (via (effectBy form o i)) (placed (effectBy form o i) s)
       (by (places s i (sources (form .operands))) (places s i (targets (form .operands))) (at-most s i true (sources (form .operands)) a) (at-most s i true (targets (form .operands)) b)))
     where
       by : (o′ p : Result (List Place)) → Each Range o′ → Each Range p
@@ -165,7 +174,6 @@ module _ (s : State) (i : Instruction) where
       by (done ps) (refused n) h g = tt
       by (refused n) p h g = tt
 
--- what is asked for, over floor 0
-pub ranged : (s : State) (i : Instruction) → RangedFootprint (footprint 0 i s)
+pub ranged : (floor : ℕ) (s : State) (i : Instruction) → RangedFootprint (footprint floor i s)
 unfolding footprint effectOf
-ranged s i = ranged-form s i (formAt (i .second)) (operationAt (i .second) (i .operand .reg)) (form-passes oneEach refl refl (i .second))
+ranged floor s i = ranged-form floor s i (formAt (i .second)) (operationAt (i .second) (i .operand .reg)) (form-passes oneEach refl refl (i .second))

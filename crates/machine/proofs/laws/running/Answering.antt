@@ -10,8 +10,7 @@ use Rattle.manual.specs.Instructions.{execute}
 use Rattle.manual.specs.Steps.{Outcome, completed, refusedWith, instructionAt, stepAt}
 use Rattle.manual.specs.Reasons.{Fits}
 use Rattle.manual.specs.Runs.{read}
-use Rattle.manual.proofs.Turns.{onward, turn}
-use Rattle.manual.proofs.Floors.{within-limits}
+use Rattle.manual.proofs.Turns.{within-limits, onward, turn}
 use Rattle.machine.specs.declared.Taken.{Taken}
 use Rattle.machine.specs.declared.Taken.the-variants.{Completed, Refused}
 use Rattle.machine.specs.declared.End.{End}

@@ -11,8 +11,7 @@ use Rattle.manual.specs.Instructions.{execute}
 use Rattle.manual.specs.Steps.{completed, refusedWith, stepAt}
 use Rattle.manual.specs.Reasons.{Fits}
 use Rattle.manual.specs.Runs.{read, runOf}
-use Rattle.manual.proofs.Turns.{onward, turn}
-use Rattle.manual.proofs.Floors.{within-limits}
+use Rattle.manual.proofs.Turns.{within-limits, onward, turn}
 use Rattle.manual.proofs.Bounds.{step-within}
 use Rattle.machine.specs.declared.End.the-variants.{Done, Spent, Refused}
 use Rattle.machine.specs.declared.Machine.{Machine}
