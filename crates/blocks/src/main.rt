@@ -1,5 +1,6 @@
 // Blocks through `run`: the customer's example, the edges of documents 01 and 02; single steps; blocks and steps over a floor; footprints and
 // meetings; and then the block on standard input.
+mod floor_steps;
 mod floors;
 mod footprints;
 mod machines;
@@ -22,6 +23,7 @@ fn main() {
     runs::all();
     steps::all();
     floors::all();
+    floor_steps::all();
     footprints::all();
     meetings::all();
     let mut space = io::buffer();

@@ -1,7 +1,7 @@
 -- A run stays within its bounds: its position within the code, its count within the budget, its refusal's number of at most two digits; and it changes
 -- nothing that is frozen. By its turns: so does each step. Over floor 0 neither 20 nor 21 is given.
-use Rattle.basis.specs.Names.{_≡_, refl, Bool, true, false, cond, List, ℕ, zero, suc, _+_, _≤_, _<_, eqb, ltb, length, drop}
-use Rattle.basis.proofs.Names.{sym, ap, subst, _∙_, false≢true, arith, ltb-true, length-drop}
+use Rattle.basis.specs.Names.{_≡_, refl, _⊎_, Bool, true, false, cond, List, ℕ, zero, suc, _+_, _≤_, _<_, eqb, ltb, length, drop}
+use Rattle.basis.proofs.Names.{sym, ap, subst, _∙_, inl, inr, ⊎-elim, false≢true, arith, ltb-true, length-drop}
 use Rattle.reorder.specs.Result.{Result, done, refused, caseOf}
 use Rattle.reorder.specs.Run.{Answer, finished, spent, stopped, runFrom}
 use Rattle.codec.specs.Refusals.{notAllowed}
@@ -10,7 +10,7 @@ use Rattle.codec.specs.Reasons as codec
 use Rattle.codec.specs.Answers.{Decoded}
 use Rattle.codec.specs.Answers as decoded
 use Rattle.codec.proofs.Theorems.{reading-is-local}
-use Rattle.manual.specs.Refusals.{outsideByStack}
+use Rattle.manual.specs.Refusals.{outsideByStack, belowFloor}
 use Rattle.manual.specs.State.{State, frozen}
 use Rattle.manual.specs.Instructions.{execute}
 use Rattle.manual.specs.Steps.{Outcome, concluded, completed, refusedWith, resultOf, stepAt}
@@ -35,17 +35,20 @@ pub reading-small : (code : List ℕ) (at n : ℕ) → codec.ReasonAt code at n 
 reading-small code at n (codec.two h) = omega arith
 reading-small code at n (codec.reading h r) = part-small (drop at code) n r
 
--- and so has a step's
+-- a step's is 14 at most, or the floor's, which is above 0
+reason-number : (floor : ℕ) (code : List ℕ) (at : ℕ) (s : State) (n : ℕ) → Reason floor code at s n → (n ≤ outsideByStack) ⊎ ((n ≤ belowFloor) × (0 < floor))
+reason-number floor code at s n (one h) = inl (omega arith)
+reason-number floor code at s n (twenty h g) = inr (omega arith, omega (arith, ltb-true (length (s .memory)) floor g))
+reason-number floor code at s n (reading h r) = inl (omega (arith, reading-small code at n r))
+reason-number floor code at s n (seven i size h em) = inl (omega arith)
+reason-number floor code at s n (eight i size h em ts) = inl (omega arith)
+reason-number floor code at s n (nine i size h em ts pending) = inl (omega arith)
+reason-number floor code at s n (ten i size h x touches o based) = inl (omega arith)
+reason-number floor code at s n (fourteen i size h x touches o based) = inl (omega arith)
+reason-number floor code at s n (twentyOne i size h x given b) = inr (omega arith, omega (arith, b .low))
+
 reason-small : (floor : ℕ) (code : List ℕ) (at : ℕ) (s : State) (n : ℕ) → Reason floor code at s n → n ≤ greatestRefusal
-reason-small floor code at s n (one h) = omega arith
-reason-small floor code at s n (twenty h g) = omega arith
-reason-small floor code at s n (reading h r) = omega (arith, reading-small code at n r)
-reason-small floor code at s n (seven i size h em) = omega arith
-reason-small floor code at s n (eight i size h em ts) = omega arith
-reason-small floor code at s n (nine i size h em ts pending) = omega arith
-reason-small floor code at s n (ten i size h x touches o based) = omega arith
-reason-small floor code at s n (fourteen i size h x touches o based) = omega arith
-reason-small floor code at s n (twentyOne i size h x given b) = omega arith
+reason-small floor code at s n r = ⊎-elim (λ h. omega arith) (λ (h, above). omega arith) (reason-number floor code at s n r)
 
 module _ (floor : ℕ) (code : List ℕ) (code-fits : ltb longestCode (length code) ≡ false) where
   -- a completed step leaves a position of the code
@@ -122,19 +125,8 @@ run-bounded floor code budget s =
 
 -- Over floor 0 a refusal's number is at most 14: neither 20 nor 21 is given
 
-reason-zero : (code : List ℕ) (at : ℕ) (s : State) (n : ℕ) → Reason 0 code at s n → n ≤ outsideByStack
-reason-zero code at s n (one h) = omega arith
-reason-zero code at s n (twenty h g) = absurd (omega (arith, ltb-true (length (s .memory)) 0 g))
-reason-zero code at s n (reading h r) = omega (arith, reading-small code at n r)
-reason-zero code at s n (seven i size h em) = omega arith
-reason-zero code at s n (eight i size h em ts) = omega arith
-reason-zero code at s n (nine i size h em ts pending) = omega arith
-reason-zero code at s n (ten i size h x touches o based) = omega arith
-reason-zero code at s n (fourteen i size h x touches o based) = omega arith
-reason-zero code at s n (twentyOne i size h x given b) = absurd (omega (arith, b .low))
-
 pub step-zero : (code : List ℕ) (at n : ℕ) (s : State) → stepAt 0 code at s ≡ refusedWith n at s → n ≤ outsideByStack
-step-zero code at n s e = reason-zero code at s n (step-exactly 0 code at s n .0 e)
+step-zero code at n s e = ⊎-elim (λ h. h) (λ (h, above). absurd (omega arith)) (reason-number 0 code at s n (step-exactly 0 code at s n .0 e))
 
 pub run-zero : (code : List ℕ) (budget n at count : ℕ) (s t : State) → runOf 0 code budget s ≡ stopped n at count t → n ≤ outsideByStack
 run-zero code budget n at count s t e = step-zero code at n t (refused-run 0 code budget n at count s t e .0)
