@@ -4,7 +4,7 @@ from collections import Counter, defaultdict
 import edges
 import illustrations
 from emulator import Emulator, instruction_at
-from opcodes import MODRMS, PACKED, SECOND_BYTE, SECOND_BYTES, WITH_IMMEDIATE, registers
+from opcodes import FIRST_BYTES, JUMP, MODRMS, PACKED, SECOND_BYTE, SECOND_BYTES, WITH_IMMEDIATE, registers
 from pagefile import Page
 
 # How many pairs of second byte and ModRM byte there are, EMMS counted as one: of 004's, and of 000's.
@@ -14,13 +14,19 @@ assert PAIRS == 1 + sum(map(len, MODRMS.values()))
 
 class Coverage:
     def __init__(self):
-        self.folders, self.answers, self.seconds = Counter(), Counter(), Counter()
+        self.folders, self.answers, self.seconds, self.firsts, self.jumps = Counter(), Counter(), Counter(), Counter(), Counter()
         self.modrms, self.sibs, self.steps = set(), set(), 0
         self.immediates = defaultdict(set)
         self.told_apart = 0
 
-    def step(self, instruction):
+    def step(self, instruction, distance):
+        """A completed instruction, and how far from its start the next one is."""
         self.steps += 1
+        if instruction.bytes[0] in FIRST_BYTES:
+            self.firsts[instruction.bytes[0]] += 1
+            if instruction.bytes[0] == JUMP:
+                self.jumps['back' if distance < instruction.size else 'on' if distance == instruction.size else 'ahead'] += 1
+            return
         self.seconds[instruction.bytes[1]] += 1
         self.modrms.add(bytes(instruction.bytes[1:3]))
         if len(instruction.bytes) > 3 and instruction.bytes[2] < 0xC0 and instruction.bytes[2] & 7 == 4:
@@ -42,6 +48,9 @@ class Coverage:
                f'each at least {min(self.seconds.values())} times; {len(self.modrms)} of {PAIRS} pairs of second byte and ModRM byte; '
                f'{len(self.sibs)} of 768 pairs of mod and SIB byte')
         yield ', '.join(f'{len(immediates)} immediates of {second:02X}' for second, immediates in sorted(self.immediates.items()))
+        yield (f'{sum(self.firsts.values())} of loops: {len(self.firsts)} of {len(FIRST_BYTES)} first bytes, '
+               f'each at least {min(self.firsts.values())} times; '
+               f'{self.jumps["back"]} jumps back, {self.jumps["ahead"]} ahead, {self.jumps["on"]} on to what follows')
         yield f'{self.told_apart} pages leave sixteen registers that all differ'
 
 

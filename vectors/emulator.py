@@ -3,7 +3,7 @@ from capstone import CS_ARCH_X86, CS_MODE_32, CS_OP_IMM, CS_OP_MEM, Cs
 from unicorn import UC_ARCH_X86, UC_MODE_32, Uc
 from unicorn import x86_const as registers
 
-from pagefile import VALID
+from pagefile import VALID, ZERO
 
 # 004's 47 headings and the 19 instructions of 000's headings, four of which are prefetches. Which bytes they have is capstone's knowledge.
 HEADINGS = set('''
@@ -14,13 +14,17 @@ HEADINGS = set('''
     PSADBW PSHUFW SFENCE'''.lower().split())
 assert len(HEADINGS) == 47 + 19
 
+# Req 07's four, by capstone's names, and the first bytes that they are bought with; of ADD's forms the one of a register.
+LOOPS = {'mov': range(0xB8, 0xC0), 'add': (0x83,), 'dec': range(0x48, 0x50), 'jne': (0x75,)}
+
 INTEGERS = 'eax ecx edx ebx esp ebp esi edi'.split()
 INTEGER_NUMBERS = [getattr(registers, 'UC_X86_REG_' + name.upper()) for name in INTEGERS]
 
 # The lent memory is at 0, the code and a place for LEA far above it. Unicorn reads eight bytes for an operand of four, so there is
-# room behind the memory, filled with what no result may show.
+# room behind the memory, filled with what no result may show. A jump may lead before the code and behind it.
 ROOM, FILL = 0x9000, b'\xA5'
-CODE, LEA = 0x40000000, 0x50000000
+CODE, LEA, BESIDE = 0x40000000, 0x50000000, 0x1000
+ZERO_FLAG, ALWAYS_SET = 0x40, 0x02
 
 LONGEST_INSTRUCTION = 15
 
@@ -29,15 +33,26 @@ disassembler.detail = True
 
 
 def instruction_at(code):
-    """The instruction that these bytes start with, or None where they start with none of the manuals'."""
-    if code[:1] != b'\x0F':
-        return None
+    """The instruction that these bytes start with, or None where they start with none of the manuals' and of the loops'."""
     found = next(disassembler.disasm(bytes(code[:LONGEST_INSTRUCTION]), 0, 1), None)
-    return found if found is not None and found.mnemonic in HEADINGS else None
+    if found is None:
+        return None
+    if code[0] == 0x0F:
+        return found if found.mnemonic in HEADINGS else None
+    return found if code[0] in LOOPS.get(found.mnemonic, ()) and memory_operand(found) is None else None
 
 
 def memory_operand(instruction):
     return next((operand.mem for operand in instruction.operands if operand.type == CS_OP_MEM), None)
+
+
+def ends(at, instruction):
+    """Where the run may go on after the instruction at a position: behind it, and at a jump's target, which may lie before 0."""
+    behind = at + instruction.size
+    if instruction.mnemonic != 'jne':
+        return {behind}
+    target = instruction.operands[0].imm  # of the same jump at 0, modulo 2^32
+    return {behind, at + (target ^ 2 ** 31) - 2 ** 31}
 
 
 def immediate_size(instruction):
@@ -49,7 +64,7 @@ class Emulator:
         self.length = len(page.memory)
         self.uc = Uc(UC_ARCH_X86, UC_MODE_32)
         self.uc.mem_map(0, ROOM)
-        self.uc.mem_map(CODE, 0x2000)
+        self.uc.mem_map(CODE - BESIDE, 0x3000)
         self.uc.mem_map(LEA, 0x1000)
         self.uc.mem_write(0, page.memory + FILL * (ROOM - self.length))
         self.uc.mem_write(CODE, page.code)
@@ -57,6 +72,7 @@ class Emulator:
             self.uc.reg_write(registers.UC_X86_REG_FP0 + k, (page.mmx[k], 0xFFFF))  # MMk is the low part of the register FPk
             self.uc.reg_write(INTEGER_NUMBERS[k], page.integers[k])
         self.uc.reg_write(registers.UC_X86_REG_FPTAG, 0 if page.marks & VALID else 0xFFFF)
+        self.uc.reg_write(registers.UC_X86_REG_EFLAGS, ALWAYS_SET | (ZERO_FLAG if page.marks & ZERO else 0))
 
     def mmx(self):
         return tuple(self.uc.reg_read(registers.UC_X86_REG_FP0 + k)[0] for k in range(8))
@@ -72,15 +88,18 @@ class Emulator:
         assert tags == {3} or 3 not in tags, 'the eight tags differ'
         return tags != {3}
 
+    def is_zero(self):
+        return bool(self.uc.reg_read(registers.UC_X86_REG_EFLAGS) & ZERO_FLAG)
+
     def perform(self, place, length):
-        """Runs the one instruction at a place, and hands back where it ends."""
+        """Runs the one instruction at a place, and hands back where the next one is."""
         self.uc.emu_start(place, place + length, count=1)
         return self.uc.reg_read(registers.UC_X86_REG_EIP)
 
     def step(self, at, instruction):
         """Runs the code's instruction at a position, and hands back the next position."""
         end = self.perform(CODE + at, instruction.size) - CODE
-        assert end == at + instruction.size, 'Unicorn and capstone differ in a length'
+        assert end in ends(at, instruction), 'Unicorn and capstone differ in a length or a target'
         return end
 
     def address(self, instruction):

@@ -28,6 +28,9 @@ def shapes(dice):
             yield f'field-{tag}-of-{wrong}', field(tag, bytes(wrong))
     yield 'marks-0F', b''.join(good[:4]) + field(MARKS, b'\x0F')
     yield 'marks-10', b''.join(good[:4]) + field(MARKS, b'\x10')
+    yield 'marks-1F', b''.join(good[:4]) + field(MARKS, b'\x1F')
+    yield 'marks-20', b''.join(good[:4]) + field(MARKS, b'\x20')
+    yield 'marks-40', b''.join(good[:4]) + field(MARKS, b'\x40')
     yield 'marks-88', b''.join(good[:4]) + field(MARKS, b'\x88')
     yield 'ends-in-heading', whole + b'\x05'
     yield 'ends-in-length', b''.join(good[:4]) + b'\x05\x01'
@@ -47,7 +50,7 @@ def limits(dice):
     yield 'code-4096', pagefile.write(Page(EMMS_CODE * (LONGEST_CODE // 2)))
     yield 'code-4097', pagefile.write(Page(EMMS_CODE * (LONGEST_CODE // 2) + b'\x0F'))
     yield 'code-4097-memory-32769', pagefile.write(Page(EMMS_CODE * (LONGEST_CODE // 2) + b'\x0F', memory))
-    yield 'memory-32769-marks-10', pagefile.write(Page(EMMS_CODE, memory)) + field(MARKS, b'\x10')
+    yield 'memory-32769-marks-20', pagefile.write(Page(EMMS_CODE, memory)) + field(MARKS, b'\x20')
     for length in (LONGEST_FILE, LONGEST_FILE + 1):
         yield f'file-{length}', field(CODE, EMMS_CODE) + field(MEMORY, bytes(length - 8))
 

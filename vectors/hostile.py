@@ -3,15 +3,17 @@ import struct
 
 import rules
 from dice import Dice
+from opcodes import ADD, DECREMENT, JUMP, MOVE
 from pagefile import CODE, INTEGERS, LONGEST_FILE, MARKS, MEMORY, MMX, field
 from rules import LONGEST_CODE, LONGEST_MEMORY
 
-ROOM, SHORT, RARITY, MARK_SIDES, INSTRUCTIONS = LONGEST_FILE + 1, 1024, 32, 17, 12
+ROOM, SHORT, RARITY, MARK_SIDES, INSTRUCTIONS = LONGEST_FILE + 1, 1024, 32, 33, 12
+TO_DECREMENT, FURTHER, DISTANCES, SORTS = 0xFD, 3, 4, 4
 SECOND_BYTES = bytes.fromhex('''
     60 61 62 63 67 6B 64 65 66 68 69 6A 6E 7E 6F 7F 71 72 73 74 75 76 77 D1 D2 D3 E1 E2 F1 F2 F3
     D5 E5 F5 D8 D9 DC DD E8 E9 EC ED DB DF EB EF F8 F9 FA FC FD FE
     F7 E7 E0 E3 C5 C4 EE DE EA DA D7 E4 18 F6 70 AE''')
-NAMES = ['done'] + [f'refused {number}' for number in range(1, 15)] + ['spent', 'none of these']
+NAMES = ['done'] + [f'refused {number}' for number in range(1, 20)] + ['spent', 'none of these']
 
 
 def random_field(dice, tag, count):
@@ -34,12 +36,31 @@ def small(dice, count):
     return (dice.some_bytes(1) + bytes(4))[:count]
 
 
-def instruction(dice):
+def distance(dice):
+    return dice.roll(256) if dice.one_in(RARITY) else TO_DECREMENT - FURTHER * dice.roll(DISTANCES)
+
+
+def loop_instruction(dice):
+    register, sort = dice.roll(8), dice.roll(SORTS)
+    if sort == 0:
+        return bytes([MOVE + register]) + small(dice, 4)
+    if sort == 1:
+        return bytes([ADD, 0xC0 + register, dice.roll(256)])
+    if sort == 2:
+        return bytes([DECREMENT + register])
+    return bytes([DECREMENT + register, JUMP, distance(dice)])
+
+
+def listed(dice):
     first = dice.roll(256) if dice.one_in(RARITY) else 0x0F
     second = dice.roll(256) if dice.one_in(RARITY) else dice.choice(SECOND_BYTES)
     modrm = dice.roll(256)
     following = (0, 1, 4, 0)[modrm >> 6] + (modrm < 0xC0 and modrm & 7 == 4)
     return bytes([first, second, modrm]) + small(dice, following)
+
+
+def instruction(dice):
+    return loop_instruction(dice) if dice.one_in(2) else listed(dice)
 
 
 def plain(dice):

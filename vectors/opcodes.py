@@ -37,6 +37,10 @@ OTHERS = (MASKMOVQ, MOVNTQ, PEXTRW, PINSRW, PMOVMSKB, PREFETCH, PSHUFW, SFENCE) 
 PREFETCHES = ('PREFETCHNTA', 'PREFETCHT0', 'PREFETCHT1', 'PREFETCHT2')
 OF_SFENCE = bytes([0x0F, SFENCE, 0xF8])
 
+# The first bytes of loops. MOVE and DECREMENT name a register in their low bits.
+MOVE, ADD, DECREMENT, JUMP = 0xB8, 0x83, 0x48, 0x75
+FIRST_BYTES = [*range(MOVE, MOVE + 8), ADD, *range(DECREMENT, DECREMENT + 8), JUMP]
+
 WITH_OPERAND = [second for second, _, _ in PACKED_004] + list(MOVES)
 SECOND_BYTES_004 = WITH_OPERAND + [0x71, 0x72, 0x73, EMMS]
 SECOND_BYTES_000 = [second for second, _, _ in PACKED_000] + list(OTHERS)
@@ -72,9 +76,29 @@ def shift(name, rm, count):
     return bytes([0x0F, second, 0xC0 | digit << 3 | rm, count])
 
 
+def move(register, number):
+    return bytes([MOVE + register]) + (number % 2 ** 32).to_bytes(4, 'little')
+
+
+def add(register, number):
+    return bytes([ADD, 0xC0 | register, number % 256])
+
+
+def decrement(register):
+    return bytes([DECREMENT + register])
+
+
+def jump(distance):
+    """To so many bytes behind the jump, or before that place where it is below 0."""
+    return bytes([JUMP, distance % 256])
+
+
 for _second, _name, _ in PACKED:
     assert instruction_at(registers(_second, 0, 1)).mnemonic == _name.lower()
 for _name in SHIFTS:
     assert instruction_at(shift(_name, 0, 1)).mnemonic == _name.lower()
 for _digit, _name in enumerate(PREFETCHES):
     assert instruction_at(at_address(PREFETCH, _digit, 0)).mnemonic == _name.lower()
+for _register in range(8):
+    assert [instruction_at(_make(_register, *_rest)).mnemonic for _make, *_rest in ((move, 1), (add, 1), (decrement,))] == ['mov', 'add', 'dec']
+assert instruction_at(jump(0)).mnemonic == 'jne'

@@ -5,7 +5,7 @@ from dataclasses import dataclass
 LONGEST_FILE = 65536
 CODE, MEMORY, MMX, INTEGERS, MARKS = 1, 2, 3, 4, 5
 LENGTHS = {MMX: 64, INTEGERS: 32, MARKS: 1}
-EM, TS, PENDING, VALID = 1, 2, 4, 8
+EM, TS, PENDING, VALID, ZERO = 1, 2, 4, 8, 16
 
 
 @dataclass
@@ -53,7 +53,7 @@ def read(file):
             return None
         contents[tag] = file[at:at + length]
         last, at = tag, at + length
-    if contents[MARKS][0] >= 16:
+    if contents[MARKS][0] >= 32:
         return None
     return Page(contents[CODE], contents[MEMORY], struct.unpack('<8Q', contents[MMX]), struct.unpack('<8I', contents[INTEGERS]),
                 contents[MARKS][0])

@@ -1,7 +1,7 @@
 """What is printed of a page file. The emulator knows what an instruction does; what stands here is what no emulator knows: 01's and 02's
 refusal numbers with their order, 01's run, and the layout of its text."""
 import pagefile
-from emulator import INTEGERS, Emulator, instruction_at, memory_operand
+from emulator import INTEGERS, LOOPS, Emulator, instruction_at, memory_operand
 
 LONGEST_MEMORY, LONGEST_CODE, BUDGET = 32768, 4096, 4096
 PREFIXES = bytes.fromhex('26 2E 36 3E 64 65 66 67 F0 F2 F3')
@@ -11,8 +11,8 @@ EDI = INTEGERS.index('edi')
 STACK = ('esp', 'ebp')  # the base registers of an operand whose miss is 14
 
 # With one of these behind it, what can be completed to an instruction is one: EMMS; a register form, a listed digit of 71 to 73,
-# or any SIB byte, displacement and immediate; a memory form; SFENCE.
-COMPLETIONS = (b'\x77', b'\xD0' * 12, bytes(12), b'\xF8')
+# or any SIB byte, displacement and immediate; a memory form; SFENCE; the register form of 83.
+COMPLETIONS = (b'\x77', b'\xD0' * 12, bytes(12), b'\xF8', b'\xC0\x00')
 
 
 def is_start(code):
@@ -28,12 +28,13 @@ def reading_refusal(rest):
         return 4
     if is_start(rest):
         return 3
-    return 6 if is_start(rest[:2]) else 5
+    opcode = rest[:2] if rest[0] == 0x0F else rest[:1]
+    return 6 if is_start(opcode) else 5
 
 
 def mark_refusal(marks, instruction):
     """7 to 9."""
-    if instruction.mnemonic in SILENT:
+    if instruction.mnemonic in SILENT or instruction.mnemonic in LOOPS:
         return None
     return 7 if marks & pagefile.EM else 8 if marks & pagefile.TS else 9 if marks & pagefile.PENDING else None
 
@@ -53,7 +54,8 @@ def operand_refusal(emulator, instruction):
 
 
 def run(page, watch=None):
-    """The run's answer, its count and its position, and the emulator as the run leaves it. Each completed step is shown to `watch`."""
+    """The run's answer, its count and its position, and the emulator as the run leaves it. `watch` is shown each completed step: the instruction, and
+    how far from its start the next one is."""
     emulator = Emulator(page)
     at = count = 0
     while at != len(page.code):
@@ -67,10 +69,13 @@ def run(page, watch=None):
             refusal = mark_refusal(page.marks, instruction) or operand_refusal(emulator, instruction)
         if refusal:
             return f'refused {refusal}', count, at, emulator
-        at = emulator.step(at, instruction)
-        count += 1
+        end = emulator.step(at, instruction)
+        if not 0 <= end <= len(page.code):
+            return 'refused 19', count, at, emulator
         if watch:
-            watch(instruction)
+            watch(instruction, end - at)
+        at = end
+        count += 1
     return 'done', count, at, emulator
 
 
@@ -92,6 +97,6 @@ def text(file, watch=None):
     lines = [f'{answer} {count} at {at}']
     lines += [f'mm{k} {value:016X}' for k, value in enumerate(emulator.mmx())]
     lines += [f'{name} {value:08X}' for name, value in zip(INTEGERS, emulator.integers())]
-    lines += ['tags valid' if emulator.is_valid() else 'tags empty', f'memory {len(memory)}']
+    lines += ['tags valid' if emulator.is_valid() else 'tags empty', f'zero {int(emulator.is_zero())}', f'memory {len(memory)}']
     lines += [memory[k:k + 16].hex(' ').upper() for k in range(0, len(memory), 16)]
     return '\n'.join(lines) + '\n'

@@ -1,10 +1,10 @@
--- What is found in a list: what every line passes is passed by the line found. So it is said of every second byte, and of every form's number. And
--- what is among the numbers of a list.
+-- What is found in a list: what every line passes is passed by the line found. So it is said of every second byte, of every first byte, and of every
+-- form's number. And what is among the numbers of a list.
 use Rattle.basis.specs.Names.{ℕ, _≤_, _≡_, refl, Bool, true, false, cond, _&&_, _||_, List, [], _∷_, eqb, ltb}
 use Rattle.basis.proofs.Names.{sym, subst, false≢true, arith, ltb-true, le-ltb, eqb-true}
 use Rattle.codec.specs.Forms.{Form, absent, mmreg1·mmreg2/mem64, forms, isAmong}
-use Rattle.codec.specs.Contents.{lines}
-use Rattle.codec.specs.Opcodes.{find, formAt}
+use Rattle.codec.specs.Contents.{lines, loops}
+use Rattle.codec.specs.Opcodes.{find, isOf, formAt, formOfFirst, formFor, escape}
 use Rattle.codec.specs.Table.{formOf}
 use Rattle.words.proofs.Laws.{and-both}
 
@@ -12,22 +12,50 @@ abbrev pub allPass : {A : Type 0} → (A → Bool) → List A → Bool
 allPass test [] = true
 allPass test (x ∷ xs) = test x && allPass test xs
 
--- what holds of everything in the list that may be found, and of what there is of none, holds of what is found
+abbrev Each : {A : Type 0} → (A → Type 0) → List A → Type 0
+Each P [] = Unit {0}
+Each P (x ∷ xs) = P x × Each P xs
+
+-- what holds of each in the list that may be found, one after the other, and of what there is of none, holds of what is found
+pub found-each : {A B : Type 0} (part : A → B) (default : B) (Q : B → Type 0) (passes : A → Bool) → Q default
+    → (xs : List A) → Each (λ x. passes x ≡ true → Q (part x)) xs → Q (find passes part default xs)
+found-each part default Q passes none [] h = none
+found-each part default Q passes none (x ∷ xs) (h, hs) = by (passes x) refl (found-each part default Q passes none xs hs)
+  where
+    by : (t : Bool) → passes x ≡ t → Q (find passes part default xs) → Q (cond t (part x) (find passes part default xs))
+    by true e q = h e
+    by false e q = q
+
+-- and so does what holds of all that pass a test, where all of them do
 module _ {A B : Type 0} (part : A → B) (default : B) (Q : B → Type 0) (passes test : A → Bool) (none : Q default)
     (one : (x : A) → passes x ≡ true → test x ≡ true → Q (part x)) where
+  each-passed : (xs : List A) → allPass test xs ≡ true → Each (λ x. passes x ≡ true → Q (part x)) xs
+  each-passed [] h = tt
+  each-passed (x ∷ xs) h = let (a, b) = and-both (test x) (allPass test xs) h in (λ e. one x e a, each-passed xs b)
+
   pub found-has : (xs : List A) → allPass test xs ≡ true → Q (find passes part default xs)
-  found-has [] h = none
-  found-has (x ∷ xs) h = let (a, b) = and-both (test x) (allPass test xs) h in by (passes x) refl a (found-has xs b)
-    where
-      by : (t : Bool) → passes x ≡ t → test x ≡ true → Q (find passes part default xs) → Q (cond t (part x) (find passes part default xs))
-      by true e h q = one x e h
-      by false e h q = q
+  found-has xs h = found-each part default Q passes none xs (each-passed xs h)
 
 -- the form of a second byte passes a test of forms
 pub form-passes : (test : Form → Bool) → test absent ≡ true → allPass (λ x. test (x .form)) lines ≡ true → (second : ℕ) → test (formAt second) ≡ true
 unfolding formAt
 form-passes test z h second =
     found-has (λ x. x .form) absent (λ f. test f ≡ true) (λ x. eqb second (x .second)) (λ x. test (x .form)) z (λ x e q. q) lines h
+
+-- and so does that of a first byte
+pub first-passes : (test : Form → Bool) → test absent ≡ true → allPass (λ x. test (x .form)) loops ≡ true → (first : ℕ) → test (formOfFirst first) ≡ true
+unfolding formOfFirst
+first-passes test z h first =
+    found-has (λ x. x .form) absent (λ f. test f ≡ true) (λ x. isOf x first) (λ x. test (x .form)) z (λ x e q. q) loops h
+
+-- and that of both opcode bytes
+pub opcode-passes : (test : Form → Bool) → test absent ≡ true → allPass (λ x. test (x .form)) lines ≡ true → allPass (λ x. test (x .form)) loops ≡ true
+    → (first second : ℕ) → test (formFor first second) ≡ true
+opcode-passes test z h g first second = by (eqb first escape)
+  where
+    by : (t : Bool) → test (cond t (formAt second) (formOfFirst first)) ≡ true
+    by true = form-passes test z h second
+    by false = first-passes test z g first
 
 -- the form of a number from `first` on passes a test
 pub number-passes : (test : Form → Bool) (first n : ℕ) → first ≤ n → test mmreg1·mmreg2/mem64 ≡ true

@@ -1,16 +1,16 @@
 -- The writer's tests, from what the code has found: rules for the functions that say whether a record has bytes.
 use Rattle.basis.specs.Names.{ℕ, zero, suc, _^_, _<_, _≡_, refl, Bool, true, false, eqb, ltb}
 use Rattle.basis.proofs.Names.{sym, ap, _∙_, and-true, arith, needs, lt-ltb, eq-eqb, ne-eqb, le-ltb}
-use Rattle.codec.specs.Forms.{Form, allows, immediateSize}
-use Rattle.codec.specs.Opcodes.{formAt, escape}
+use Rattle.codec.specs.Forms.{Form, hasOperand, allows, immediateSize}
+use Rattle.codec.specs.Opcodes.{formFor, escape}
 use Rattle.codec.specs.Table.{formOf}
 use Rattle.codec.specs.Operands.{hasSib, displacementSize}
 use Rattle.codec.specs.inner.Fields.{Sized}
-use Rattle.codec.specs.Fits.{fits, sibFits, operandFits, operandIsZero, partsFit, hasBytes}
+use Rattle.codec.specs.Fits.{fits, sibFits, operandFits, operandIsZero, partsFit, opcodeFits, hasBytes}
 use Rattle.codec.specs.declared.Operand.{Operand}
 use Rattle.codec.specs.declared.Instruction.{Instruction}
 use Rattle.codec.proofs.Tests.{tests}
-use Rattle.codec.proofs.FormNumbers.{with-operand}
+use Rattle.codec.proofs.FormNumbers.{form-there}
 
 -- a field of no bytes
 zero-fits : (v : ℕ) → eqb v 0 ≡ ltb v 1
@@ -52,39 +52,50 @@ module _ (n : ℕ) (w : Operand) (v : ℕ) where
   unfolding partsFit
   parts-absent e = simp e
 
-  pub zero-no : (x : Bool) → n ≡ 1 → x ≡ operandIsZero w → x ≡ false → false ≡ partsFit (formOf n) w v
-  unfolding partsFit
-  zero-no x e g h = simp (e, ← g, h)
-
-  pub zero-yes : (x : Bool) → n ≡ 1 → x ≡ operandIsZero w → x ≡ true → eqb v 0 ≡ partsFit (formOf n) w v
-  unfolding partsFit
-  zero-yes x e g h = simp (e, ← g, h, and-true) (zero-fits v)
-
-  module _ (a : n ≡ 0 → ⊥) (b : n ≡ 1 → ⊥) (t : Bool) (g : t ≡ allows (formOf n) (w .mode) (w .reg) (w .rm)) where
-    pub parts-stop : t ≡ false → false ≡ partsFit (formOf n) w v
-    unfolding partsFit
-    parts-stop h = simp (with-operand n a b .0, with-operand n a b .1, ← g, h)
-
-    module _ (y : t ≡ true) (x : Bool) (z : x ≡ operandFits w) where
-      pub parts-no : x ≡ false → false ≡ partsFit (formOf n) w v
+  module _ (a : n ≡ 0 → ⊥) (o : Bool) (has : o ≡ hasOperand (formOf n)) where
+    -- no operand
+    module _ (b : o ≡ false) (x : Bool) (z : x ≡ operandIsZero w) where
+      pub zero-no : x ≡ false → false ≡ partsFit (formOf n) w v
       unfolding partsFit
-      parts-no h = simp (with-operand n a b .0, with-operand n a b .1, ← g, y, ← z, h)
+      zero-no h = simp (form-there n a, ← has, b, ← z, h)
 
-      pub parts-yes : (r : Bool) (k : ℕ) → x ≡ true → k ≡ immediateSize (formOf n) → r ≡ fits k v → r ≡ partsFit (formOf n) w v
+      pub zero-yes : (r : Bool) (k : ℕ) → x ≡ true → k ≡ immediateSize (formOf n) → r ≡ fits k v → r ≡ partsFit (formOf n) w v
       unfolding partsFit
-      parts-yes r k h d f =
-          simp (with-operand n a b .0, with-operand n a b .1, ← g, y, ← z, h, ← d, and-true) f
+      zero-yes r k h d f = simp (form-there n a, ← has, b, ← z, h, ← d, and-true) f
 
--- the record
-pub has-no : (i : Instruction) → (i .first ≡ escape → ⊥) → false ≡ hasBytes i
-unfolding hasBytes
-has-no i h = simp (ne-eqb (i .first) escape h)
+    module _ (b : o ≡ true) (t : Bool) (g : t ≡ allows (formOf n) (w .mode) (w .reg) (w .rm)) where
+      pub parts-stop : t ≡ false → false ≡ partsFit (formOf n) w v
+      unfolding partsFit
+      parts-stop h = simp (form-there n a, ← has, b, ← g, h)
 
-pub has-parts : (i : Instruction) (n : ℕ) (r : Bool) → formOf n ≡ formAt (i .second) → i .first ≡ escape → i .second < 256
-    → r ≡ partsFit (formOf n) (i .operand) (i .immediate) → r ≡ hasBytes i
-unfolding hasBytes
-has-parts i n r e g h f =
-    simp (eq-eqb (i .first) escape g, lt-ltb (i .second) 256 h, and-true)
-    (f ∙ ap (λ (x : Form). partsFit x (i .operand) (i .immediate)) e)
+      module _ (y : t ≡ true) (x : Bool) (z : x ≡ operandFits w) where
+        pub parts-no : x ≡ false → false ≡ partsFit (formOf n) w v
+        unfolding partsFit
+        parts-no h = simp (form-there n a, ← has, b, ← g, y, ← z, h)
 
-pub ruleset checks = (needs, tests, field-0, field-1, field-4, operand-no, operand-yes, parts-absent, zero-no, zero-yes, parts-stop, parts-no, parts-yes, has-no, has-parts)
+        pub parts-yes : (r : Bool) (k : ℕ) → x ≡ true → k ≡ immediateSize (formOf n) → r ≡ fits k v → r ≡ partsFit (formOf n) w v
+        unfolding partsFit
+        parts-yes r k h d f = simp (form-there n a, ← has, b, ← g, y, ← z, h, ← d, and-true) f
+
+-- the opcode bytes
+module _ (first second : ℕ) where
+  pub opcode-two : first ≡ escape → second < 256 → true ≡ opcodeFits first second
+  unfolding opcodeFits
+  opcode-two e h = simp (eq-eqb first escape e, lt-ltb second 256 h)
+
+  pub opcode-one : (first ≡ escape → ⊥) → first < 256 → eqb second 0 ≡ opcodeFits first second
+  unfolding opcodeFits
+  opcode-one e h = simp (ne-eqb first escape e, lt-ltb first 256 h)
+
+-- the record, by the number n of its form
+module _ (i : Instruction) (t : Bool) (g : t ≡ opcodeFits (i .first) (i .second)) where
+  pub has-no : t ≡ false → false ≡ hasBytes i
+  unfolding hasBytes
+  has-no h = simp (← g, h)
+
+  pub has-parts : (n : ℕ) (r : Bool) → formOf n ≡ formFor (i .first) (i .second) → t ≡ true → r ≡ partsFit (formOf n) (i .operand) (i .immediate)
+      → r ≡ hasBytes i
+  unfolding hasBytes
+  has-parts n r e h f = simp (← g, h, and-true) (f ∙ ap (λ (x : Form). partsFit x (i .operand) (i .immediate)) e)
+
+pub ruleset checks = (needs, tests, field-0, field-1, field-4, operand-no, operand-yes, parts-absent, zero-no, zero-yes, parts-stop, parts-no, parts-yes, opcode-two, opcode-one, has-no, has-parts)

@@ -1,14 +1,16 @@
--- Our table says of each second byte what the list says: a computation for the 256 bytes.
-use Rattle.basis.specs.Names.{[], ℕ, zero, suc, _+_, _/_, _^_, _≤_, _<_, _≡_, refl, Bool, true, false, cond, eqb, ltb, length, getD, _%_}
-use Rattle.basis.proofs.Names.{sym, ap, subst, _∙_, arith, zero-add, add-zero, ltb-true, ltb-false, List·getD-eq-default}
+-- Our table says of each second byte what the list says: a computation for the 256 bytes. And the number of a first byte's form names that form.
+use Rattle.basis.specs.Names.{[], ℕ, zero, suc, _+_, _/_, _^_, _≤_, _<_, _≡_, refl, Bool, true, false, cond, _&&_, eqb, leb, ltb, length, getD, _%_}
+use Rattle.basis.proofs.Names.{sym, ap, subst, _∙_, arith, needs, zero-add, add-zero, leb-true, ltb-true, ltb-false, eq-eqb, ne-eqb, List·getD-eq-default}
 use Rattle.lanes.specs.Operations.{described, KEEP}
-use Rattle.codec.specs.Opcodes.{formAt, operationAt, escape}
+use Rattle.codec.specs.Contents.{OneByte, loops}
+use Rattle.codec.specs.Opcodes.{formAt, operationAt, isOf, formOfFirst, formFor, escape}
 use Rattle.codec.specs.Table.{formOf, entryAt, listed, opcodeTable, formIn}
 use Rattle.codec.specs.inner.Entries.{shiftOf, operationIn}
 use Rattle.codec.specs.Forms.{absent, memorySize}
-use Rattle.codec.specs.Reader.{refuse, byte}
-use Rattle.codec.specs.Reads.{formReader, secondReader, instructionReader, refusalOf}
-use Rattle.codec.proofs.Bytes.{form-beyond}
+use Rattle.codec.specs.Reader.{byte}
+use Rattle.codec.specs.Reads.{formReader, secondReader, firstReader, instructionReader}
+use Rattle.codec.proofs.Bytes.{found-each, form-beyond}
+use Rattle.codec.proofs.FormNumbers.{in-range}
 
 -- a list of what a function gives, at a place
 getD-listed : {A : Type 0} (f : ℕ → A) (z : A) (from count k : ℕ) → k < count → getD (listed f from count) k z ≡ f (from + k)
@@ -81,4 +83,55 @@ operation-is second digit h g =
 pub same-reader : instructionReader (formIn opcodeTable) ≡ instructionReader formAt
 unfolding instructionReader secondReader
 same-reader =
-    λ i. byte (λ first. cond (eqb first escape) (byte (λ second. formReader (form-is second i) first second)) (refuse (refusalOf first)))
+    λ i. byte (λ first. cond (eqb first escape) (byte (λ second. formReader (form-is second i) first second)) (firstReader first))
+
+-- the number of a first byte's form, from what the code has found
+module _ (first : ℕ) where
+  -- a byte that an instruction has not
+  outside : (low count : ℕ) → (low ≤ first → first < low + count → ⊥) → (leb low first && ltb first (low + count)) ≡ false
+  outside low count h = by (leb low first) (ltb first (low + count)) refl refl
+    where
+      by : (a b : Bool) → leb low first ≡ a → ltb first (low + count) ≡ b → (a && b) ≡ false
+      by true true p q = absurd (h (leb-true low first p) (ltb-true first (low + count) q))
+      by true false p q = refl
+      by false b p q = refl
+
+  pub first-set : first / 8 ≡ 0x17 → 10 ≡ formOfFirst first .number
+  unfolding formOfFirst
+  first-set e =
+      in-range (λ k. 10 ≡ formOfFirst k .number) 0xb8 8 first (omega arith) (omega arith) (refl, (refl, (refl, (refl, (refl, (refl, (refl, (refl, tt))))))))
+
+  pub first-add : first ≡ 0x83 → 11 ≡ formOfFirst first .number
+  unfolding formOfFirst
+  first-add e = simp e
+
+  pub first-decrement : first / 8 ≡ 0x09 → 12 ≡ formOfFirst first .number
+  unfolding formOfFirst
+  first-decrement e =
+      in-range (λ k. 12 ≡ formOfFirst k .number) 0x48 8 first (omega arith) (omega arith) (refl, (refl, (refl, (refl, (refl, (refl, (refl, (refl, tt))))))))
+
+  pub first-jump : first ≡ 0x75 → 13 ≡ formOfFirst first .number
+  unfolding formOfFirst
+  first-jump e = simp e
+
+  pub first-absent : (first / 8 ≡ 0x17 → ⊥) → (first ≡ 0x83 → ⊥) → (first / 8 ≡ 0x09 → ⊥) → (first ≡ 0x75 → ⊥) → 0 ≡ formOfFirst first .number
+  unfolding formOfFirst
+  first-absent a b c d =
+      simp (outside 0x83 1 (λ p q. b (omega arith)), outside 0x48 8 (λ p q. c (omega arith)), outside 0x75 1 (λ p q. d (omega arith)), outside 0xb8 8 (λ p q. a (omega arith)))
+
+pub ruleset first-forms = (needs, first-set, first-add, first-decrement, first-jump, first-absent)
+
+-- the form of a first byte comes back from its number
+pub first-form-is : (first : ℕ) → formOf (formOfFirst first .number) ≡ formOfFirst first
+unfolding formOfFirst
+first-form-is first =
+    found-each (λ (x : OneByte). x .form) absent (λ f. formOf (f .number) ≡ f) (λ x. isOf x first) refl loops
+    (λ e. refl, (λ e. refl, (λ e. refl, (λ e. refl, tt))))
+
+-- the form of the opcode bytes
+module _ (first second : ℕ) where
+  pub form-two : first ≡ escape → formAt second ≡ formFor first second
+  form-two e = simp (eq-eqb first escape e)
+
+  pub form-one : (n : ℕ) → (first ≡ escape → ⊥) → n ≡ formOfFirst first .number → formOf n ≡ formFor first second
+  form-one n e h = ap formOf h ∙ first-form-is first ∙ simp (ne-eqb first escape e)

@@ -6,18 +6,20 @@ use Rattle.words.specs.Number.{AllBytes, number}
 use Rattle.words.proofs.Numbers.{all-none, all-cons, all-append}
 use Rattle.codec.specs.Refusals.{codeTooLong, codeEnds, prefixed, notListed, notAllowed, noBytes, bufferEnds}
 use Rattle.codec.specs.Forms.{Form, isAmong, isAbsent, hasOperand, allows}
-use Rattle.codec.specs.Opcodes.{formAt, escape, prefixes}
+use Rattle.codec.specs.Opcodes.{formAt, formOfFirst, formFor, opcodeBytes, escape, prefixes}
 use Rattle.codec.specs.Operands.{upper, middle, lower, hasSib, noOperand}
 use Rattle.codec.specs.Reader.{Reader, whole, refuse, byte, field, reads}
-use Rattle.codec.specs.Reads.{immediateReader, displacementReader, sibReader, modrmReader, formReader, secondReader, instructionReader, refusalOf, readPart, longestCode, readAt}
+use Rattle.codec.specs.Reads.{immediateReader, displacementReader, sibReader, modrmReader, formReader, secondReader, firstReader, instructionReader, refusalOf, readPart, longestCode, readAt}
 use Rattle.codec.specs.Reasons.{EndsInside, StartsPrefixed, StartsOther, StartsUnlisted, StartsNotAllowed, Reason, three, four, five, six, ReasonAt, two, reading}
 use Rattle.codec.specs.Fits.{hasBytes}
 use Rattle.codec.specs.Writes.{bytesOf, writeTo}
 use Rattle.codec.specs.declared.Operand.{Operand}
 use Rattle.codec.specs.declared.Instruction.{Instruction}
 use Rattle.codec.specs.Answers.{Decoded, good, refused, wrote, refusedWith}
-use Rattle.codec.proofs.Bytes.{form-passes}
+use Rattle.codec.proofs.Bytes.{opcode-passes, among}
 use Rattle.codec.proofs.Readers.{field-reads, reads-yes, reads-no}
+use Rattle.codec.proofs.Given.{partsReader}
+use Rattle.codec.proofs.ReadingBack.{secondOf, opcode-reads}
 use Rattle.codec.proofs.Theorems.{reading-is-local}
 
 -- A refusal other than 3 stays, whatever follows
@@ -128,30 +130,43 @@ is-inside s x = by (readPart s) refl
             let still = stays (instructionReader formAt) 0 s (x .more) n e (eqb-false n codeEnds t) in
             absurd (false≢true (cc (x .found)))
 
+-- a first byte that starts no instruction
+reads-refused : (first : ℕ) (rest : List ℕ) → eqb first escape ≡ false → isAbsent (formOfFirst first) ≡ true
+    → readPart (first ∷ rest) ≡ refused (refusalOf first)
+unfolding instructionReader firstReader
+reads-refused first rest other apart = reads-no (eqb first escape) _ _ 1 rest other ∙ reads-yes (isAbsent (formOfFirst first)) _ _ 1 rest apart
+
+-- no prefix is 0F or starts an instruction of loops
+prefix-alone : (first : ℕ) → isAmong first prefixes ≡ true → (eqb first escape ≡ false) × (isAbsent (formOfFirst first) ≡ true)
+unfolding formOfFirst
+prefix-alone first h =
+    among (λ k. (eqb k escape ≡ false) × (isAbsent (formOfFirst k) ≡ true)) first prefixes h
+    (refl, refl) (refl, refl) (refl, refl) (refl, refl) (refl, refl) (refl, refl) (refl, refl) (refl, refl) (refl, refl) (refl, refl) (refl, refl)
+
 pub is-prefixed : (s : List ℕ) → StartsPrefixed s → readPart s ≡ refused prefixed
-unfolding instructionReader refusalOf
-is-prefixed s (first, (rest, e), among) = ap readPart e ∙ by (eqb first escape) refl
-  where
-    by : (t : Bool) → eqb first escape ≡ t → readPart (first ∷ rest) ≡ refused prefixed
-    by true t = let none : isAmong first prefixes ≡ false = ap (λ (b : ℕ). isAmong b prefixes) (eqb-true first escape t) in absurd (false≢true (cc))
-    by false t = reads-no (eqb first escape) _ _ 1 rest t ∙ ap (λ (b : Bool). refused (cond b prefixed notListed)) among
+unfolding refusalOf
+is-prefixed s (first, (rest, e), among) =
+    let (other, apart) = prefix-alone first among in
+    ap readPart e ∙ reads-refused first rest other apart ∙ ap (λ (b : Bool). refused (cond b prefixed notListed)) among
 
 pub is-other : (s : List ℕ) → StartsOther s → readPart s ≡ refused notListed
-unfolding instructionReader refusalOf
-is-other s (first, (rest, e), other, plain) =
-    ap readPart e ∙ reads-no (eqb first escape) _ _ 1 rest other ∙ ap (λ (b : Bool). refused (cond b prefixed notListed)) plain
+unfolding refusalOf
+is-other s (first, (rest, e), other, apart, plain) =
+    ap readPart e ∙ reads-refused first rest other apart ∙ ap (λ (b : Bool). refused (cond b prefixed notListed)) plain
 
 pub is-unlisted : (s : List ℕ) → StartsUnlisted s → readPart s ≡ refused notListed
 unfolding instructionReader secondReader formReader
 is-unlisted s (second, (rest, e), unlisted) = ap readPart e ∙ reads-yes (isAbsent (formAt second)) _ _ 2 rest unlisted
 
 pub is-not-allowed : (s : List ℕ) → StartsNotAllowed s → readPart s ≡ refused notAllowed
-unfolding instructionReader secondReader formReader modrmReader
-is-not-allowed s (second, modrm, (rest, e), there, has, barred) =
-    ap readPart e
-    ∙ reads-no (isAbsent (formAt second)) _ _ 2 (modrm ∷ rest) there
-    ∙ reads-yes (hasOperand (formAt second)) _ _ 2 (modrm ∷ rest) has
-    ∙ reads-no (allows (formAt second) (upper modrm) (middle modrm) (lower modrm)) _ _ 3 rest barred
+unfolding modrmReader
+is-not-allowed s (first, second, modrm, (rest, e), there, has, barred) =
+    let form = formFor first second in
+    let opcode = opcodeBytes first second in
+    ap readPart (e ∙ append-assoc opcode (modrm ∷ []) rest)
+    ∙ opcode-reads first second (modrm ∷ rest) there
+    ∙ reads-yes (hasOperand form) _ _ (length opcode) (modrm ∷ rest) has
+    ∙ reads-no (allows form (upper modrm) (middle modrm) (lower modrm)) _ _ (length opcode + 1) rest barred
 
 pub is-given : (s : List ℕ) (n : ℕ) → Reason s n → readPart s ≡ refused n
 is-given s n (three x) = is-inside s x
@@ -177,68 +192,81 @@ inside s more i n b e = by (leb n (length s)) refl
         readable i n (ap readPart (sym (take-append-drop n s)) ∙ (rw take-append-le at again))
     by false t = refusal codeEnds (three (record { more = more; are-bytes = b; instruction = i; size = n; found = e; longer = leb-false n (length s) t }))
 
--- a ModRM byte that a form allows: registers, shifted right; else memory; else SFENCE's
+-- a ModRM byte that a form allows: registers, shifted right or added to; else memory; else SFENCE's
 sample : Form → ℕ
-sample form = cond (allows form 3 2 0) 0xd0 (cond (allows form 0 0 0) 0x00 0xf8)
+sample form = cond (allows form 3 2 0) 0xd0 (cond (allows form 3 0 0) 0xc0 (cond (allows form 0 0 0) 0x00 0xf8))
 
-allowed : (second : ℕ) → let modrm = sample (formAt second) in (modrm < 256) × (allows (formAt second) (upper modrm) (middle modrm) (lower modrm) ≡ true)
+allowed : (first second : ℕ)
+    → let modrm = sample (formFor first second) in (modrm < 256) × (allows (formFor first second) (upper modrm) (middle modrm) (lower modrm) ≡ true)
 unfolding sample allows
-allowed second = (
-  ltb-true _ _ (form-passes (λ f. ltb (sample f) 256) refl refl second),
-  form-passes (λ f. allows f (upper (sample f)) (middle (sample f)) (lower (sample f))) refl refl second,
+allowed first second = (
+  ltb-true _ _ (opcode-passes (λ f. ltb (sample f) 256) refl refl refl first second),
+  opcode-passes (λ f. allows f (upper (sample f)) (middle (sample f)) (lower (sample f))) refl refl refl first second,
 )
 
--- after 0F and a second byte that is in the table
-module _ (second : ℕ) (there : isAbsent (formAt second) ≡ false) where
+-- after the opcode bytes of a form that is there
+module _ (first second : ℕ) (there : isAbsent (formFor first second) ≡ false) where
+  abbrev form : Form
+  form = formFor first second
+
+  abbrev opcode : List ℕ
+  opcode = opcodeBytes first second
+
+  -- what follows them can be completed, or ends inside
+  due-after : (s more : List ℕ) (i : Instruction) (n : ℕ) → AllBytes more → readPart (opcode ++ (s ++ more)) ≡ good i n → Due (opcode ++ s)
+  due-after s more i n b e = inside (opcode ++ s) more i n b (ap readPart (append-assoc opcode s more) ∙ e)
+
   -- no ModRM byte
-  due-bare : (s : List ℕ) → hasOperand (formAt second) ≡ false → Due (escape ∷ second ∷ s)
-  unfolding instructionReader secondReader formReader
+  due-bare : (s : List ℕ) → hasOperand form ≡ false → Due (opcode ++ s)
   due-bare s bare =
-      let form = formAt second in
-      let c = completed (immediateReader form escape second noOperand) (immediate-ends form escape second noOperand) 2 s in
-      inside (escape ∷ second ∷ s) (c .more) (c .instruction) (c .size) (c .are-bytes)
-      (reads-no _ _ _ 2 (s ++ c .more) there ∙ reads-no _ _ _ 2 (s ++ c .more) bare ∙ c .found)
+      let other = secondOf first second in
+      let c = completed (immediateReader form first other noOperand) (immediate-ends form first other noOperand) (length opcode) s in
+      due-after s (c .more) (c .instruction) (c .size) (c .are-bytes)
+      (opcode-reads first second (s ++ c .more) there ∙ reads-no _ _ _ (length opcode) (s ++ c .more) bare ∙ c .found)
 
   -- a ModRM byte that is allowed can be completed
-  module _ (modrm : ℕ) (has : hasOperand (formAt second) ≡ true)
-      (passes : allows (formAt second) (upper modrm) (middle modrm) (lower modrm) ≡ true) where
-    modrm-completed : (s : List ℕ) → Completed (instructionReader formAt) 0 (escape ∷ second ∷ modrm ∷ s)
-    unfolding instructionReader secondReader formReader modrmReader
+  module _ (modrm : ℕ) (has : hasOperand form ≡ true) (passes : allows form (upper modrm) (middle modrm) (lower modrm) ≡ true) where
+    modrm-completed : (s : List ℕ) → Completed (partsReader form first (secondOf first second)) (length opcode) (modrm ∷ s)
+    unfolding modrmReader
     modrm-completed s =
-        let form = formAt second in
-        let c = completed (sibReader form escape second modrm) (sib-ends form escape second modrm) 3 s in
+        let other = secondOf first second in
+        let c = completed (sibReader form first other modrm) (sib-ends form first other modrm) (length opcode + 1) s in
         record {
           more = c .more;
           are-bytes = c .are-bytes;
           instruction = c .instruction;
           size = c .size;
-          found = reads-no _ _ _ 2 (modrm ∷ s ++ c .more) there
-              ∙ reads-yes _ _ _ 2 (modrm ∷ s ++ c .more) has
-              ∙ reads-yes _ _ _ 3 (s ++ c .more) passes
-              ∙ c .found;
+          found = reads-yes _ _ _ (length opcode) (modrm ∷ s ++ c .more) has ∙ reads-yes _ _ _ (length opcode + 1) (s ++ c .more) passes ∙ c .found;
         }
 
-    due-modrm : (s : List ℕ) → Due (escape ∷ second ∷ modrm ∷ s)
+    due-modrm : (s : List ℕ) → Due (opcode ++ modrm ∷ s)
     due-modrm s =
         let c = modrm-completed s in
-        inside (escape ∷ second ∷ modrm ∷ s) (c .more) (c .instruction) (c .size) (c .are-bytes) (c .found)
+        due-after (modrm ∷ s) (c .more) (c .instruction) (c .size) (c .are-bytes) (opcode-reads first second (modrm ∷ s ++ c .more) there ∙ c .found)
 
-  due-listed : (s : List ℕ) → Due (escape ∷ second ∷ s)
-  due-listed s = by (hasOperand (formAt second)) refl s
+  due-form : (s : List ℕ) → Due (opcode ++ s)
+  due-form s = by (hasOperand form) refl s
     where
-      tested : (modrm : ℕ) (s : List ℕ) → hasOperand (formAt second) ≡ true
-          → (t : Bool) → allows (formAt second) (upper modrm) (middle modrm) (lower modrm) ≡ t → Due (escape ∷ second ∷ modrm ∷ s)
+      tested : (modrm : ℕ) (s : List ℕ) → hasOperand form ≡ true
+          → (t : Bool) → allows form (upper modrm) (middle modrm) (lower modrm) ≡ t → Due (opcode ++ modrm ∷ s)
       tested modrm s has true t = due-modrm modrm has t s
-      tested modrm s has false t = refusal notAllowed (six (second, modrm, (s, refl), there, has, t))
+      tested modrm s has false t =
+          refusal notAllowed (six (first, second, modrm, (s, sym (append-assoc opcode (modrm ∷ []) s)), there, has, t))
 
-      by : (t : Bool) → hasOperand (formAt second) ≡ t → (s : List ℕ) → Due (escape ∷ second ∷ s)
+      by : (t : Bool) → hasOperand form ≡ t → (s : List ℕ) → Due (opcode ++ s)
       by false bare s = due-bare s bare
       by true has [] =
-          let modrm = sample (formAt second) in
-          let (fits, passes) = allowed second in
+          let modrm = sample form in
+          let (fits, passes) = allowed first second in
           let c = modrm-completed modrm has passes [] in
-          inside (escape ∷ second ∷ []) (modrm ∷ c .more) (c .instruction) (c .size) (all-cons modrm (c .more) fits (c .are-bytes)) (c .found)
-      by true has (modrm ∷ s) = tested modrm s has (allows (formAt second) (upper modrm) (middle modrm) (lower modrm)) refl
+          due-after [] (modrm ∷ c .more) (c .instruction) (c .size) (all-cons modrm (c .more) fits (c .are-bytes))
+          (opcode-reads first second (modrm ∷ c .more) there ∙ c .found)
+      by true has (modrm ∷ s) = tested modrm s has (allows form (upper modrm) (middle modrm) (lower modrm)) refl
+
+-- by whether the first is 0F
+due-listed : (first second : ℕ) (t : Bool) → eqb first escape ≡ t → isAbsent (cond t (formAt second) (formOfFirst first)) ≡ false
+    → (s : List ℕ) → Due (cond t (first ∷ second ∷ []) (first ∷ []) ++ s)
+due-listed first second t e there s = rw (← e) (due-form first second (rw (← e) at there) s)
 
 emms-byte : AllBytes (0x77 ∷ [])
 emms-byte = all-cons 0x77 [] (omega arith) all-none
@@ -248,18 +276,22 @@ unfolding formAt instructionReader secondReader formReader immediateReader
 due [] = inside [] (escape ∷ 0x77 ∷ []) _ 2 (all-cons escape (0x77 ∷ []) (omega arith) emms-byte) refl
 due (first ∷ s) = by (eqb first escape) refl s
   where
-    prefix : eqb first escape ≡ false → (s : List ℕ) (t : Bool) → isAmong first prefixes ≡ t → Due (first ∷ s)
-    prefix other s true t = refusal prefixed (four (first, (s, refl), t))
-    prefix other s false t = refusal notListed (five (inl (first, (s, refl), other, t)))
+    prefix : eqb first escape ≡ false → isAbsent (formOfFirst first) ≡ true → (s : List ℕ) (t : Bool) → isAmong first prefixes ≡ t → Due (first ∷ s)
+    prefix other apart s true t = refusal prefixed (four (first, (s, refl), t))
+    prefix other apart s false t = refusal notListed (five (inl (first, (s, refl), other, apart, t)))
 
-    listed : (second : ℕ) (s : List ℕ) (t : Bool) → isAbsent (formAt second) ≡ t → Due (escape ∷ second ∷ s)
-    listed second s true t = refusal notListed (five (inr (second, (s, refl), t)))
-    listed second s false t = due-listed second t s
+    single : eqb first escape ≡ false → (s : List ℕ) (t : Bool) → isAbsent (formOfFirst first) ≡ t → Due (first ∷ s)
+    single other s true t = prefix other t s (isAmong first prefixes) refl
+    single other s false t = due-listed first 0 false other t s
+
+    listed : eqb first escape ≡ true → (second : ℕ) (s : List ℕ) (t : Bool) → isAbsent (formAt second) ≡ t → Due (first ∷ second ∷ s)
+    listed e second s true t = refusal notListed (five (inr (second, (s, ap (λ (b : ℕ). b ∷ second ∷ s) (eqb-true first escape e)), t)))
+    listed e second s false t = due-listed first second true e t s
 
     by : (t : Bool) → eqb first escape ≡ t → (s : List ℕ) → Due (first ∷ s)
-    by false t s = prefix t s (isAmong first prefixes) refl
+    by false t s = single t s (isAbsent (formOfFirst first)) refl
     by true t [] = rw (eqb-true first escape t) (inside (escape ∷ []) (0x77 ∷ []) _ 2 emms-byte refl)
-    by true t (second ∷ s) = rw (eqb-true first escape t) (listed second s (isAbsent (formAt second)) refl)
+    by true t (second ∷ s) = listed t second s (isAbsent (formAt second)) refl
 
 -- A number is given exactly when there is its reason.
 pub given-exactly : (s : List ℕ) (n : ℕ) → (readPart s ≡ refused n) ↔ Reason s n

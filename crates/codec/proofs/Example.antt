@@ -1,14 +1,20 @@
--- What the writer leaves, computed: in a buffer that is longer than the instruction, as long, and shorter; and of a record without bytes.
+-- What the writer leaves, computed: in a buffer that is longer than the instruction, as long, and shorter; and of a record without bytes. What the
+-- reader and the writer give of loops.
 use Rattle.basis.specs.Names.{_≡_, refl, [], _∷_, ℕ}
 use Rattle.codec.specs.declared.Instruction.{Instruction}
+use Rattle.codec.specs.declared.Operand.{Operand}
 use Rattle.codec.specs.declared.Writing.the-variants.{Wrote, Refused}
-use Rattle.codec.specs.Answers.{wrote, refusedWith, paperOfWriting}
+use Rattle.codec.specs.Answers.{good, refused, wrote, refusedWith, paperOfWriting}
 use Rattle.codec.specs.Forms.{allows}
-use Rattle.codec.specs.Opcodes.{formAt}
-use Rattle.codec.specs.Operands.{hasSib, displacementSize}
-use Rattle.codec.specs.Reads.{instructionOf}
-use Rattle.codec.specs.Fits.{sibFits, operandFits, operandIsZero, partsFit, hasBytes}
+use Rattle.codec.specs.Opcodes.{formAt, formOfFirst}
+use Rattle.codec.specs.Operands.{hasSib, displacementSize, noOperand}
+use Rattle.codec.specs.Reads.{instructionOf, immediateReader, displacementReader, sibReader, modrmReader, formReader, firstReader, secondReader, instructionReader, readPart}
+use Rattle.codec.specs.Fits.{sibFits, operandFits, operandIsZero, partsFit, opcodeFits, hasBytes}
 use Rattle.codec.specs.Writes.{sibBytes, displacementBytes, operandBytes, partsBytes, bytesOf, writeTo}
+
+-- the operand of two registers, or of a digit and a register
+abbrev registers : ℕ → ℕ → Operand
+registers reg rm = record { mode = 3; reg = reg; rm = rm; scale = 0; index = 0; base = 0; displacement = 0 }
 
 -- MOVQ MM1, [EBX + ESI * 4 - 16], and the same with another number in reg
 abbrev load : ℕ → Instruction
@@ -18,7 +24,7 @@ load reg =
 -- PSRLD MM2, 5
 abbrev shift : Instruction
 shift =
-    instructionOf 0x0f 0x72 (record { mode = 3; reg = 2; rm = 2; scale = 0; index = 0; base = 0; displacement = 0 }) 5
+    instructionOf 0x0f 0x72 (registers 2 2) 5
 
 pub record WrittenExamples : Type 0 where
   -- the instruction at the buffer's start, with its length; what stands after it stays
@@ -32,5 +38,47 @@ pub record WrittenExamples : Type 0 where
   pub paper : (paperOfWriting (Refused 11) (1 ∷ []) ≡ refusedWith 11 (1 ∷ [])) × (paperOfWriting (Wrote 4) (1 ∷ []) ≡ wrote 4 (1 ∷ []))
 
 pub written : WrittenExamples
-unfolding allows formAt hasSib displacementSize sibFits operandFits operandIsZero partsFit hasBytes sibBytes displacementBytes operandBytes partsBytes bytesOf writeTo
+unfolding allows formAt hasSib displacementSize sibFits operandFits operandIsZero partsFit opcodeFits hasBytes sibBytes displacementBytes operandBytes partsBytes bytesOf writeTo
 written = record { longer = refl; as-long = refl; shorter = refl; no-bytes = refl; paper = (refl, refl) }
+
+-- MOV EAX, 12345678 hex
+abbrev move : Instruction
+move = instructionOf 0xb8 0 noOperand 0x12345678
+
+pub record LoopExamples : Type 0 where
+  -- the immediate's bytes are the lowest first, and all four must be there
+  pub moves : readPart (0xb8 ∷ 0x78 ∷ 0x56 ∷ 0x34 ∷ 0x12 ∷ 0x90 ∷ []) ≡ good move 5
+  pub move-ends : readPart (0xb8 ∷ 0 ∷ 0 ∷ 0 ∷ []) ≡ refused 3
+  -- ADD ECX, -1; another mod and another digit are barred before the immediate is looked for
+  pub adds : readPart (0x83 ∷ 0xc1 ∷ 0xff ∷ []) ≡ good (instructionOf 0x83 0 (registers 0 1) 0xff) 3
+  pub add-ends : (readPart (0x83 ∷ []) ≡ refused 3) × (readPart (0x83 ∷ 0xc0 ∷ []) ≡ refused 3)
+  pub add-barred : (readPart (0x83 ∷ 0x00 ∷ []) ≡ refused 6) × (readPart (0x83 ∷ 0xc8 ∷ []) ≡ refused 6)
+  -- DEC ECX is one byte
+  pub decrements : readPart (0x49 ∷ []) ≡ good (instructionOf 0x49 0 noOperand 0) 1
+  pub jumps : readPart (0x75 ∷ 0xfe ∷ []) ≡ good (instructionOf 0x75 0 noOperand 0xfe) 2
+  pub jump-ends : readPart (0x75 ∷ []) ≡ refused 3
+  -- after 0F, 75 is PCMPEQW's byte, and 83 is none
+  pub escaped : readPart (0x0f ∷ 0x75 ∷ 0xc0 ∷ []) ≡ good (instructionOf 0x0f 0x75 (registers 0 0) 0) 3
+  pub not-listed : readPart (0x0f ∷ 0x83 ∷ 0xc0 ∷ 0 ∷ []) ≡ refused 5
+  -- written back; with another second byte than 0 a record has no bytes
+  pub moved : writeTo move (1 ∷ 2 ∷ 3 ∷ 4 ∷ 5 ∷ 6 ∷ []) ≡ wrote 5 (0xb8 ∷ 0x78 ∷ 0x56 ∷ 0x34 ∷ 0x12 ∷ 6 ∷ [])
+  pub decremented : writeTo (instructionOf 0x49 0 noOperand 0) (1 ∷ []) ≡ wrote 1 (0x49 ∷ [])
+  pub no-second : writeTo (instructionOf 0x49 1 noOperand 0) (1 ∷ 2 ∷ []) ≡ refusedWith 11 (1 ∷ 2 ∷ [])
+
+pub of-loops : LoopExamples
+unfolding allows formAt formOfFirst hasSib displacementSize immediateReader displacementReader sibReader modrmReader formReader firstReader secondReader instructionReader operandFits operandIsZero partsFit opcodeFits hasBytes sibBytes displacementBytes operandBytes partsBytes bytesOf writeTo
+of-loops = record {
+  moves = refl;
+  move-ends = refl;
+  adds = refl;
+  add-ends = (refl, refl);
+  add-barred = (refl, refl);
+  decrements = refl;
+  jumps = refl;
+  jump-ends = refl;
+  escaped = refl;
+  not-listed = refl;
+  moved = refl;
+  decremented = refl;
+  no-second = refl;
+}

@@ -1,16 +1,15 @@
 -- The writer's tests as facts: all of a list of tests is true exactly where each of them is.
 use Rattle.basis.specs.Names.{ℕ, _^_, _<_, _≡_, refl, Bool, true, false, not, cond, _&&_, List, [], _∷_, eqb, ltb}
-use Rattle.basis.proofs.Names.{sym, ap, _∙_, false≢true, lt-ltb, ltb-true, eqb-true, eq-eqb, not-true}
+use Rattle.basis.proofs.Names.{sym, ap, _∙_, false≢true, lt-ltb, ltb-true, eqb-true, not-true}
 use Rattle.codec.specs.Forms.{Form, isAbsent, hasOperand, allows, immediateSize}
-use Rattle.codec.specs.Opcodes.{formAt, escape}
+use Rattle.codec.specs.Opcodes.{formFor, escape}
 use Rattle.codec.specs.Table.{formOf}
 use Rattle.codec.specs.Operands.{hasSib, displacementSize, noOperand}
 use Rattle.codec.specs.inner.Fields.{Fields}
-use Rattle.codec.specs.Fits.{all, fits, sibFits, operandFits, operandIsZero, partsFit, hasBytes}
+use Rattle.codec.specs.Fits.{all, fits, sibFits, operandFits, operandIsZero, partsFit, opcodeFits, hasBytes}
 use Rattle.codec.specs.declared.Operand.{Operand}
 use Rattle.codec.specs.declared.Instruction.{Instruction}
 use Rattle.words.proofs.Laws.{and-both}
-use Rattle.codec.proofs.FormNumbers.{not-emms}
 
 abbrev All : List Bool → Type 0
 All [] = Unit {0}
@@ -128,40 +127,44 @@ unfolding partsFit
 parts-true form w v p =
     true-all (partTests form w v) (ap not (p .listed), (p .operand, (lt-ltb _ _ (p .immediate), tt)))
 
+-- opcode bytes: 0F and another, or one alone
+pub data Opcoded (first second : ℕ) : Type 0 where
+  two : eqb first escape ≡ true → second < 256 → Opcoded first second
+  one : eqb first escape ≡ false → first < 256 → second ≡ 0 → Opcoded first second
+
+pub opcoded : (first second : ℕ) → opcodeFits first second ≡ true → Opcoded first second
+unfolding opcodeFits
+opcoded first second e = by (eqb first escape) refl e
+  where
+    by : (t : Bool) → eqb first escape ≡ t → cond t (fits 1 second) (fits 1 first && eqb second 0) ≡ true → Opcoded first second
+    by true t e = two t (ltb-true second 256 e)
+    by false t e = let (a, b) = and-both (fits 1 first) (eqb second 0) e in one t (ltb-true first 256 a) (eqb-true second 0 b)
+
 -- a record that has bytes
 pub record Bytewise (i : Instruction) : Type 0 where
-  pub first : i .first ≡ escape
-  pub second : i .second < 256
-  pub parts : Parts (formAt (i .second)) (i .operand) (i .immediate)
+  pub opcode : opcodeFits (i .first) (i .second) ≡ true
+  pub parts : Parts (formFor (i .first) (i .second)) (i .operand) (i .immediate)
 
 abbrev recordTests : Instruction → List Bool
 recordTests i =
-    eqb (i .first) escape ∷ fits 1 (i .second) ∷ partsFit (formAt (i .second)) (i .operand) (i .immediate) ∷ []
+    opcodeFits (i .first) (i .second) ∷ partsFit (formFor (i .first) (i .second)) (i .operand) (i .immediate) ∷ []
 
 pub bytewise : (i : Instruction) → hasBytes i ≡ true → Bytewise i
 unfolding hasBytes
 bytewise i e =
     let h = all-true (recordTests i) e in
-    record {
-      first = eqb-true (i .first) escape (h .0);
-      second = ltb-true (i .second) 256 (h .1 .0);
-      parts = parts (formAt (i .second)) (i .operand) (i .immediate) (h .1 .1 .0);
-    }
+    record { opcode = h .0; parts = parts (formFor (i .first) (i .second)) (i .operand) (i .immediate) (h .1 .0) }
 
 pub bytewise-true : (i : Instruction) → Bytewise i → hasBytes i ≡ true
 unfolding hasBytes
 bytewise-true i b =
-    true-all (recordTests i)
-    (eq-eqb (i .first) escape (b .first), (lt-ltb (i .second) 256 (b .second), (parts-true (formAt (i .second)) (i .operand) (i .immediate) (b .parts), tt)))
+    true-all (recordTests i) (b .opcode, (parts-true (formFor (i .first) (i .second)) (i .operand) (i .immediate) (b .parts), tt))
 
--- its form, by the form's number, is there
-pub present : (i : Instruction) (n : ℕ) → formOf n ≡ formAt (i .second) → hasBytes i ≡ true → isAbsent (formOf n) ≡ false
-present i n g e = ap isAbsent g ∙ bytewise i e .parts .listed
-
-pub bytes-operand : (i : Instruction) (n : ℕ) → formOf n ≡ formAt (i .second) → (n ≡ 1 → ⊥) → hasBytes i ≡ true
-    → operandFits (i .operand) ≡ true
-bytes-operand i n g h e =
-    let f = formAt (i .second) in
+-- its operand fits, where its form, by the form's number, has one
+pub bytes-operand : (i : Instruction) (n : ℕ) → formOf n ≡ formFor (i .first) (i .second) → (o : Bool) → o ≡ hasOperand (formOf n) → o ≡ true
+    → hasBytes i ≡ true → operandFits (i .operand) ≡ true
+bytes-operand i n g o h y e =
+    let f = formFor (i .first) (i .second) in
     let w = i .operand in
-    let p : hasOperand f ≡ true = ap hasOperand (sym g) ∙ not-emms n (present i n g e) h in
+    let p : hasOperand f ≡ true = ap hasOperand (sym g) ∙ sym h ∙ y in
     and-both (allows f (w .mode) (w .reg) (w .rm)) (operandFits w) (simp p at (bytewise i e .parts .operand)) .1

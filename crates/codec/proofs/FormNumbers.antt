@@ -2,10 +2,10 @@
 use Rattle.basis.specs.Names.{ℕ, zero, suc, _+_, _≤_, _<_, _≡_, refl, Bool, true, false, not, _&&_, List, [], _∷_, eqb, ltb}
 use Rattle.basis.proofs.Names.{sym, subst, _∙_, and-true, or-false, false≢true, arith, needs, ne-eqb, eqb-true, eqb-false, ltb-true, ltb-false, not-true}
 use Rattle.words.proofs.Laws.{and-both}
-use Rattle.codec.specs.Forms.{Use, Slot, reg, rm, rm/mem, mem, edi, fixed, Form, alone/7, isAbsent, hasOperand, isAmong, slotAllows, slotsAllow, digitAmong, allows, immediateSize}
+use Rattle.codec.specs.Forms.{Use, Slot, reg, rm, rm/mem, mem, edi, fixed, opcode, zeroSlot, Form, alone/7, isAbsent, hasOperand, isAmong, slotAllows, slotsAllow, digitAmong, allows, immediateSize}
 use Rattle.codec.specs.Table.{formOf}
 use Rattle.codec.proofs.Bytes.{number-passes}
-use Rattle.codec.proofs.Sizes.{sized-0, sized-1}
+use Rattle.codec.proofs.Sizes.{sized-0, sized-1, sized-4}
 
 -- a form that allows everything
 abbrev isFreeSlot : Slot → Bool
@@ -15,6 +15,8 @@ isFreeSlot (rm/mem file size) = true
 isFreeSlot (mem size) = false
 isFreeSlot (edi size) = true
 isFreeSlot (fixed k) = false
+isFreeSlot (opcode file) = true
+isFreeSlot zeroSlot = true
 
 abbrev areFree : List (Use × Slot) → Bool
 areFree [] = true
@@ -34,6 +36,8 @@ slot-free (rm/mem file size) t other e = refl
 slot-free (mem size) t other e = absurd (false≢true e)
 slot-free (edi size) t other e = refl
 slot-free (fixed k) t other e = absurd (false≢true e)
+slot-free (opcode file) t other e = refl
+slot-free zeroSlot t other e = refl
 
 slots-free : (xs : List (Use × Slot)) (t : Bool) (other : ℕ) (rest : Bool) → areFree xs ≡ true → rest ≡ true → slotsAllow xs t other rest ≡ true
 slots-free [] t other rest e h = h
@@ -52,11 +56,11 @@ free-allows form mode digit other e =
     slots-free (form .operands) (eqb mode 3) other _ a (digits-free (form .digits) digit b)
 
 -- what holds of so many numbers from one on, each
-abbrev Each : (ℕ → Type 0) → ℕ → ℕ → Type 0
+abbrev pub Each : (ℕ → Type 0) → ℕ → ℕ → Type 0
 Each P first zero = Unit {0}
 Each P first (suc count) = P first × Each P (suc first) count
 
-in-range : (P : ℕ → Type 0) (first count n : ℕ) → first ≤ n → n < first + count → Each P first count → P n
+pub in-range : (P : ℕ → Type 0) (first count n : ℕ) → first ≤ n → n < first + count → Each P first count → P n
 in-range P first zero n p q h = absurd (omega arith)
 in-range P first (suc count) n p q (h, hs) = by (eqb n first) refl (in-range P (suc first) count n)
   where
@@ -73,20 +77,25 @@ below-four k = by (ltb k 4) refl
         let h : 4 ≤ k = ltb-false k 4 e in
         simp (ne-eqb k 0 (λ z. omega arith), ne-eqb k 1 (λ z. omega arith), ne-eqb k 2 (λ z. omega arith), ne-eqb k 3 (λ z. omega arith))
 
-two-up : (n : ℕ) → (n ≡ 0 → ⊥) → (n ≡ 1 → ⊥) → 2 ≤ n
-two-up zero p q = absurd (p refl)
-two-up (suc zero) p q = absurd (q refl)
-two-up (suc (suc k)) p q = omega arith
+-- every number but 0 names a form that is there
+pub form-there : (n : ℕ) → (n ≡ 0 → ⊥) → isAbsent (formOf n) ≡ false
+form-there n p = not-true _ (number-passes (λ f. not (isAbsent f)) 1 n (omega (arith, p)) refl refl)
 
--- the second byte is in the table, and an operand follows it
-pub with-operand : (n : ℕ) → (n ≡ 0 → ⊥) → (n ≡ 1 → ⊥) → (isAbsent (formOf n) ≡ false) × (hasOperand (formOf n) ≡ true)
-with-operand n p q =
-    let (a, b) = and-both _ _ (number-passes (λ f. not (isAbsent f) && hasOperand f) 2 n (two-up n p q) refl refl) in
-    (not-true _ a, b)
+-- which of them have a ModRM byte
+module _ (n : ℕ) where
+  pub operand-past : 13 < n → true ≡ hasOperand (formOf n)
+  operand-past h = sym (number-passes hasOperand 14 n h refl refl)
 
-pub not-emms : (n : ℕ) → isAbsent (formOf n) ≡ false → (n ≡ 1 → ⊥) → hasOperand (formOf n) ≡ true
-not-emms zero l q = absurd (false≢true (sym l))
-not-emms (suc n) l q = with-operand (suc n) (λ e. omega arith) q .1
+  pub operand-before : n < 2 → false ≡ hasOperand (formOf n)
+  operand-before h = in-range (λ k. false ≡ hasOperand (formOf k)) 0 2 n (omega arith) h (refl, (refl, tt))
+
+  pub operand-there : 2 ≤ n → n < 10 → true ≡ hasOperand (formOf n)
+  operand-there p q =
+      in-range (λ k. true ≡ hasOperand (formOf k)) 2 8 n p q (refl, (refl, (refl, (refl, (refl, (refl, (refl, (refl, tt))))))))
+
+  -- of loops, ADD alone
+  pub operand-loop : 10 ≤ n → n ≤ 13 → eqb n 11 ≡ hasOperand (formOf n)
+  operand-loop p q = in-range (λ k. eqb k 11 ≡ hasOperand (formOf k)) 10 4 n p (omega arith) (refl, (refl, (refl, (refl, tt))))
 
 module _ (n mode reg rm : ℕ) where
   pub allowed-past : 15 < n → true ≡ allows (formOf n) mode reg rm
@@ -124,9 +133,21 @@ module _ (n mode reg rm : ℕ) where
     pub allowed-fence : (t : Bool) → n ≡ 9 → t ≡ allows alone/7 mode reg rm → t ≡ allows (formOf n) mode reg rm
     allowed-fence t e h = rw e h
 
-    pub allowed-unused : 8 < n → (n ≡ 9 → ⊥) → n < 14 → true ≡ allows (formOf n) mode reg rm
+    -- ADD
+    pub add-memory : n ≡ 11 → (mode ≡ 3 → ⊥) → false ≡ allows (formOf n) mode reg rm
     unfolding allows
-    allowed-unused a b c = in-range (λ k. true ≡ allows (formOf k) mode reg rm) 10 4 n (omega (arith, b)) c (refl, (refl, (refl, (refl, tt))))
+    add-memory e h = simp (e, ne-eqb mode 3 h)
+
+    pub add-digit : n ≡ 11 → mode ≡ 3 → eqb reg 0 ≡ allows (formOf n) mode reg rm
+    unfolding allows
+    add-digit e h = simp (e, h) (sym (or-false (eqb reg 0)))
+
+    -- the others of loops
+    pub allowed-loop : 8 < n → (n ≡ 9 → ⊥) → (n ≡ 11 → ⊥) → n < 14 → true ≡ allows (formOf n) mode reg rm
+    unfolding allows
+    allowed-loop a b c d =
+        in-range (λ k. (k ≡ 11 → ⊥) → true ≡ allows (formOf k) mode reg rm) 10 4 n (omega (arith, b)) d
+        (λ h. refl, (λ h. absurd (h refl), (λ h. refl, (λ h. refl, tt)))) c
 
     -- MOVNTQ and the prefetches
     module _ (q : 14 ≤ n) (h : n ≤ 15) where
@@ -186,8 +207,8 @@ module _ (n reg : ℕ) (p : 2 ≤ n) (q : n ≤ 3) where
   digit-none a b c =
       shift-by (λ k. false ≡ isAmong reg (formOf k .digits)) (simp (ne-eqb reg 2 a, ne-eqb reg 4 b, ne-eqb reg 6 c)) (simp (ne-eqb reg 2 a, ne-eqb reg 6 c))
 
-pub immediate-past : (n : ℕ) → 6 < n → 0 ≡ immediateSize (formOf n)
-immediate-past n h = sym (eqb-true _ _ (number-passes (λ f. eqb (immediateSize f) 0) 7 n h refl refl))
+pub immediate-past : (n : ℕ) → 13 < n → 0 ≡ immediateSize (formOf n)
+immediate-past n h = sym (eqb-true _ _ (number-passes (λ f. eqb (immediateSize f) 0) 14 n h refl refl))
 
 pub immediate-before : (n : ℕ) → n < 2 → 0 ≡ immediateSize (formOf n)
 immediate-before n h = in-range (λ k. 0 ≡ immediateSize (formOf k)) 0 2 n (omega arith) h (refl, (refl, tt))
@@ -195,4 +216,21 @@ immediate-before n h = in-range (λ k. 0 ≡ immediateSize (formOf k)) 0 2 n (om
 pub immediate-there : (n : ℕ) → n ≤ 6 → 2 ≤ n → 1 ≡ immediateSize (formOf n)
 immediate-there n p q = in-range (λ k. 1 ≡ immediateSize (formOf k)) 2 5 n q (omega arith) (refl, (refl, (refl, (refl, (refl, tt)))))
 
-pub ruleset form-rules = (needs, sized-0, sized-1, allowed-past, allowed-before, allowed-memory, allowed-digit, allowed-both, allowed-register, allowed-fence, allowed-unused, allowed-never, allowed-stream, allowed-prefetch, fence-memory, fence-other, fence-digit, digit-2, digit-6, digit-4, digit-none, immediate-past, immediate-before, immediate-there)
+-- PMOVMSKB, MASKMOVQ and SFENCE
+pub immediate-none : (n : ℕ) → 6 < n → n < 10 → 0 ≡ immediateSize (formOf n)
+immediate-none n p q = in-range (λ k. 0 ≡ immediateSize (formOf k)) 7 3 n p q (refl, (refl, (refl, tt)))
+
+-- loops
+module _ (n : ℕ) where
+  pub immediate-set : n ≡ 10 → 4 ≡ immediateSize (formOf n)
+  immediate-set e = simp e
+
+  pub immediate-decrement : n ≡ 12 → 0 ≡ immediateSize (formOf n)
+  immediate-decrement e = simp e
+
+  pub immediate-loop : 10 ≤ n → (n ≡ 10 → ⊥) → (n ≡ 12 → ⊥) → n ≤ 13 → 1 ≡ immediateSize (formOf n)
+  immediate-loop p a b q =
+      in-range (λ k. (k ≡ 10 → ⊥) → (k ≡ 12 → ⊥) → 1 ≡ immediateSize (formOf k)) 10 4 n p (omega arith)
+      (λ g h. absurd (g refl), (λ g h. refl, (λ g h. absurd (h refl), (λ g h. refl, tt)))) a b
+
+pub ruleset form-rules = (needs, sized-0, sized-1, sized-4, operand-past, operand-before, operand-there, operand-loop, allowed-past, allowed-before, allowed-memory, allowed-digit, allowed-both, allowed-register, allowed-fence, add-memory, add-digit, allowed-loop, allowed-never, allowed-stream, allowed-prefetch, fence-memory, fence-other, fence-digit, digit-2, digit-6, digit-4, digit-none, immediate-past, immediate-before, immediate-there, immediate-none, immediate-set, immediate-decrement, immediate-loop)

@@ -1,8 +1,9 @@
--- The list has 47 headings of manual 004 with 57 lines, and 16 of manual 000 with 19, and each line is found by its bytes: by computation.
-use Rattle.basis.specs.Names.{_≡_, refl, Bool, false, not, _&&_, cond, List, [], _∷_, map, flatten, Option, none, some, ℕ, zero, suc, eqb, length}
-use Rattle.codec.specs.Forms.{isAbsent}
-use Rattle.codec.specs.Contents.{Line, contents, extensions, linesOf, lines}
-use Rattle.codec.specs.Opcodes.{formAt, operationAt}
+-- The list has 47 headings of manual 004 with 57 lines, and 16 of manual 000 with 19, and each line is found by its bytes; the four instructions of
+-- loops have 18 first bytes, and are found by them: by computation.
+use Rattle.basis.specs.Names.{_≡_, refl, Bool, false, not, _&&_, cond, List, [], _∷_, map, flatten, Option, none, some, ℕ, zero, suc, eqb, length, replicate}
+use Rattle.codec.specs.Forms.{isAbsent, isAmong}
+use Rattle.codec.specs.Contents.{Line, contents, extensions, linesOf, lines, OneByte, loops}
+use Rattle.codec.specs.Opcodes.{prefixes, escape, formAt, operationAt, isOf, formOfFirst}
 use Rattle.codec.specs.Table.{listed}
 
 -- what stands in reg: the digit, or anything, as 0
@@ -28,6 +29,13 @@ abbrev filter : (ℕ → Bool) → ℕ → ℕ → List ℕ
 filter test from zero = []
 filter test from (suc count) = cond (test from) (from ∷ filter test (suc from) count) (filter test (suc from) count)
 
+-- the first bytes of an instruction of one opcode byte
+abbrev bytesOf : OneByte → List ℕ
+bytesOf x = filter (isOf x) 0 256
+
+abbrev firstBytes : List ℕ
+firstBytes = flatten (map bytesOf loops)
+
 pub record Complete : Type 0 where
   pub headings : length contents ≡ 47
   pub in-lines : length (linesOf contents) ≡ 57
@@ -40,7 +48,14 @@ pub record Complete : Type 0 where
   pub operations : map (λ x. operationAt (x .second) (regOf (x .digit))) lines ≡ map (λ (x : Line). x .operation) lines
   -- and its form has the digits of the lines with its second byte
   pub digits : map (λ x. digitsAt (x .second)) lines ≡ map (λ (x : Line). x .form .digits) lines
+  -- ADD, DEC, JNZ and MOV have 1, 8, 1 and 8 first bytes, and no other byte has a form
+  pub loop-bytes : map (λ x. length (bytesOf x)) loops ≡ 1 ∷ 8 ∷ 1 ∷ 8 ∷ []
+  pub first-bytes : length (filter (λ first. not (isAbsent (formOfFirst first))) 0 256) ≡ 18
+  -- no instruction is hidden by another: its first bytes have its form
+  pub loop-forms : map (λ x. map formOfFirst (bytesOf x)) loops ≡ map (λ x. map (λ b. x .form) (bytesOf x)) loops
+  -- and none of them is 0F or a prefix
+  pub apart : map (λ first. isAmong first (escape ∷ prefixes)) firstBytes ≡ replicate 18 false
 
 pub complete : Complete
-unfolding flatten formAt operationAt
-complete = record { headings = refl; in-lines = refl; extension-headings = refl; extension-lines = refl; second-bytes = refl; forms = refl; operations = refl; digits = refl }
+unfolding flatten formAt operationAt formOfFirst
+complete = record { headings = refl; in-lines = refl; extension-headings = refl; extension-lines = refl; second-bytes = refl; forms = refl; operations = refl; digits = refl; loop-bytes = refl; first-bytes = refl; loop-forms = refl; apart = refl }

@@ -3,10 +3,10 @@
 pub mod Tests
 pub mod Joined
 pub mod Sizes
+pub mod Bytes
 pub mod FormNumbers
 pub mod Readers
 pub mod Given
-pub mod Bytes
 pub mod Entries
 pub mod Steps
 pub mod OurTable

@@ -1,11 +1,11 @@
 -- What the writer's stores leave, part by part: rules for the functions that put bytes.
-use Rattle.basis.specs.Names.{ℕ, suc, _+_, _/_, _%_, _≤_, _<_, _≡_, Bool, true, false, List, [], _∷_, _++_, length, set, drop, sets}
-use Rattle.basis.proofs.Names.{sym, ap, ap₂, _∙_, towards-suc, arith, needs, le-leb, lt-leb, length-append, length-set, sets-eq}
+use Rattle.basis.specs.Names.{ℕ, suc, _+_, _/_, _%_, _≤_, _<_, _≡_, Bool, true, false, cond, List, [], _∷_, _++_, eqb, length, set, drop, sets}
+use Rattle.basis.proofs.Names.{sym, ap, ap₂, _∙_, towards-suc, arith, needs, le-leb, lt-leb, eq-eqb, ne-eqb, length-append, length-set, sets-eq}
 use Rattle.words.specs.Number.{bytes}
 use Rattle.codec.specs.Refusals.{noBytes, bufferEnds}
 use Rattle.codec.specs.Answers.{wrote, refusedWith}
-use Rattle.codec.specs.Forms.{Form, immediateSize}
-use Rattle.codec.specs.Opcodes.{formAt}
+use Rattle.codec.specs.Forms.{Form, hasOperand, immediateSize}
+use Rattle.codec.specs.Opcodes.{formFor, opcodeBytes, escape}
 use Rattle.codec.specs.Table.{formOf}
 use Rattle.codec.specs.Operands.{joined, hasSib, displacementSize}
 use Rattle.codec.specs.inner.Fields.{Sized}
@@ -17,8 +17,7 @@ use Rattle.codec.specs.declared.Instruction.{Instruction}
 use Rattle.words.proofs.Numbers.{length-bytes}
 use Rattle.words.proofs.Laws.{sets-append}
 use Rattle.codec.proofs.Sizes.{byte-there}
-use Rattle.codec.proofs.FormNumbers.{not-emms}
-use Rattle.codec.proofs.Facts.{modrm-fields, sib-fields, bytes-operand, present}
+use Rattle.codec.proofs.Facts.{modrm-fields, sib-fields, bytes-operand}
 
 -- stores at the start of a buffer that has room for them
 sets-start : (l vs : List ℕ) → length vs ≤ length l → sets l 0 vs ≡ vs ++ drop (length vs) l
@@ -90,67 +89,113 @@ operand-put at next k w l l1 l2 b e d p q r =
     let s : at + 1 ≡ suc at = omega arith in
     simp (r, q, e, d, p, s, sets-append)
 
+-- the opcode bytes
+module _ (first second : ℕ) where
+  abbrev opcode : List ℕ
+  opcode = opcodeBytes first second
+
+  pub opcode-room : (l : List ℕ) → length opcode ≤ length l → 0 < length l
+  opcode-room l = by (eqb first escape)
+    where
+      by : (t : Bool) → length (cond t (first ∷ second ∷ []) (first ∷ [])) ≤ length l → 0 < length l
+      by true h = omega arith
+      by false h = omega arith
+
+  -- 0F and another
+  module _ (e : first ≡ escape) where
+    pub two-size : 2 ≡ length opcode
+    two-size = simp (eq-eqb first escape e)
+
+    pub second-room : (l : List ℕ) (at v : ℕ) → length opcode ≤ length l → 1 < length (set l at v)
+    second-room l at v h = omega (arith, two-size, length-set l at v)
+
+    pub two-put : (l : List ℕ) → set (set l 0 first) 1 second ≡ sets l 0 opcode
+    two-put l = simp (eq-eqb first escape e)
+
+  -- one alone
+  module _ (e : first ≡ escape → ⊥) where
+    pub one-size : 1 ≡ length opcode
+    one-size = simp (ne-eqb first escape e)
+
+    pub one-put : (l : List ℕ) → set l 0 first ≡ sets l 0 opcode
+    one-put l = simp (ne-eqb first escape e)
+
 -- the record, by the number n of its form
-module _ (i : Instruction) (n : ℕ) (g : formOf n ≡ formAt (i .second)) where
-  bytes-are : bytesOf i ≡ i .first ∷ i .second ∷ partsBytes (formOf n) (i .operand) (i .immediate)
+module _ (i : Instruction) (n : ℕ) (g : formOf n ≡ formFor (i .first) (i .second)) where
+  abbrev start : List ℕ
+  start = opcodeBytes (i .first) (i .second)
+
+  bytes-are : bytesOf i ≡ start ++ partsBytes (formOf n) (i .operand) (i .immediate)
   unfolding bytesOf
-  bytes-are = ap (λ (f : Form). i .first ∷ i .second ∷ partsBytes f (i .operand) (i .immediate)) (sym g)
+  bytes-are = ap (λ (f : Form). start ++ partsBytes f (i .operand) (i .immediate)) (sym g)
 
-  bare-bytes : n ≡ 1 → bytesOf i ≡ i .first ∷ i .second ∷ []
-  unfolding partsBytes
-  bare-bytes e = bytes-are ∙ ap (λ (k : ℕ). i .first ∷ i .second ∷ partsBytes (formOf k) (i .operand) (i .immediate)) e
+  pub opcode-fits : (l : List ℕ) → length (bytesOf i) ≤ length l → length (opcodeBytes (i .first) (i .second)) ≤ length l
+  opcode-fits l h = omega (arith, ap length bytes-are, length-append start (partsBytes (formOf n) (i .operand) (i .immediate)))
 
-  pub bare-size : n ≡ 1 → 2 ≡ length (bytesOf i)
-  bare-size e = ap length (sym (bare-bytes e))
+  module _ (o : Bool) (has : o ≡ hasOperand (formOf n)) (j : ℕ) (after : j ≡ length (opcodeBytes (i .first) (i .second))) where
+    -- no operand
+    module _ (m : o ≡ false) where
+      bare-bytes : bytesOf i ≡ start ++ bytes (immediateSize (formOf n)) (i .immediate)
+      unfolding partsBytes
+      bare-bytes = bytes-are ∙ simp (← has, m)
 
-  pub bare-put : (l : List ℕ) → n ≡ 1 → set (set l 0 (i .first)) 1 (i .second) ≡ sets l 0 (bytesOf i)
-  bare-put l e = ap (sets l 0) (sym (bare-bytes e))
+      bare-length : length (bytesOf i) ≡ j + immediateSize (formOf n)
+      bare-length =
+          let k = immediateSize (formOf n) in
+          omega (arith, ap length bare-bytes, length-append start (bytes k (i .immediate)), length-bytes k (i .immediate))
 
-  module _ (m : n ≡ 1 → ⊥) (has : hasBytes i ≡ true) where
-    whole-bytes : bytesOf i ≡ i .first ∷ i .second ∷ (operandBytes (i .operand) ++ bytes (immediateSize (formOf n)) (i .immediate))
-    unfolding partsBytes
-    whole-bytes = bytes-are ∙ simp (not-emms n (present i n g has) m)
+      module _ (k : ℕ) (d : k ≡ immediateSize (formOf n)) where
+        pub bare-size : j + k ≡ length (bytesOf i)
+        bare-size = omega (arith, bare-length)
 
-    whole-length : length (bytesOf i) ≡ 2 + operandSize (i .operand) + immediateSize (formOf n)
-    whole-length =
-        let k = immediateSize (formOf n) in
-        let w = i .operand in
-        omega (arith, ap length whole-bytes, length-append (operandBytes w) (bytes k (i .immediate)), operand-length w, length-bytes k (i .immediate))
+        pub bare-room : (l l1 : List ℕ) → length l1 ≡ length l → length (bytesOf i) ≤ length l → j + k ≤ length l1
+        bare-room l l1 q h = omega (arith, bare-length)
 
-    pub operand-room : (l : List ℕ) → length (bytesOf i) ≤ length l → 2 + operandSize (i .operand) ≤ length l
-    operand-room l h = omega (arith, whole-length)
+        pub bare-put : (l l1 l2 : List ℕ) → l1 ≡ sets l 0 (opcodeBytes (i .first) (i .second)) → l2 ≡ sets l1 j (bytes k (i .immediate))
+            → l2 ≡ sets l 0 (bytesOf i)
+        bare-put l l1 l2 q r =
+            let s : j ≡ 0 + length start = omega arith in
+            r ∙ simp (q, s, d, sets-append, bare-bytes)
 
-    module _ (next k : ℕ) (l l1 : List ℕ) (p : next ≡ 2 + operandSize (i .operand)) (d : k ≡ immediateSize (formOf n)) where
-      pub immediate-room : (a b u v : ℕ) → length l1 ≡ length (set (set l a u) b v) → length (bytesOf i) ≤ length l → next + k ≤ length l1
-      immediate-room a b u v e h = omega (arith, whole-length, length-set l a u, length-set (set l a u) b v)
+    module _ (m : o ≡ true) where
+      whole-bytes : bytesOf i ≡ start ++ (operandBytes (i .operand) ++ bytes (immediateSize (formOf n)) (i .immediate))
+      unfolding partsBytes
+      whole-bytes = bytes-are ∙ simp (← has, m)
 
-      pub whole-put : (l2 : List ℕ) → l1 ≡ sets (set (set l 0 (i .first)) 1 (i .second)) 2 (operandBytes (i .operand))
-          → l2 ≡ sets l1 next (bytes k (i .immediate))
-          → l2 ≡ sets l 0 (bytesOf i)
-      whole-put l2 q r =
-          let s : next ≡ 2 + length (operandBytes (i .operand)) = omega (arith, operand-length (i .operand)) in
-          r ∙ simp (q, s, d, sets-append, whole-bytes)
+      whole-length : length (bytesOf i) ≡ j + operandSize (i .operand) + immediateSize (formOf n)
+      whole-length =
+          let k = immediateSize (formOf n) in
+          let w = i .operand in
+          let rest = operandBytes w ++ bytes k (i .immediate) in
+          omega (arith, ap length whole-bytes, length-append start rest, length-append (operandBytes w) (bytes k (i .immediate)), operand-length w, length-bytes k (i .immediate))
 
-    -- its length by the parts
-    module _ (k j : ℕ) (t : Bool) (a : k ≡ displacementSize (i .operand .mode) (i .operand .rm) (i .operand .base))
-        (b : j ≡ immediateSize (formOf n)) (s : t ≡ hasSib (i .operand .mode) (i .operand .rm)) where
-      pub sib-size : t ≡ true → 4 + (k + j) ≡ length (bytesOf i)
-      sib-size e = omega (arith, whole-length, sib-length-1 (i .operand) t s e)
+      pub operand-room : (l l1 : List ℕ) → length l1 ≡ length l → length (bytesOf i) ≤ length l → j + operandSize (i .operand) ≤ length l1
+      operand-room l l1 q h = omega (arith, whole-length)
 
-      pub plain-size : t ≡ false → 3 + (k + j) ≡ length (bytesOf i)
-      plain-size e = omega (arith, whole-length, sib-length-0 (i .operand) t s e)
+      module _ (next k : ℕ) (l l1 l2 : List ℕ) (p : next ≡ j + operandSize (i .operand)) (d : k ≡ immediateSize (formOf n)) where
+        pub immediate-room : length l1 ≡ length l → length l2 ≡ length l1 → length (bytesOf i) ≤ length l → next + k ≤ length l2
+        immediate-room e f h = omega (arith, whole-length)
 
-pub opcode-room : (i : Instruction) (l : List ℕ) (j : ℕ) → length (bytesOf i) ≤ length l → j < 2 → j < length l
-unfolding bytesOf
-opcode-room i l j h g = omega arith
+        pub whole-put : (l3 : List ℕ) → l1 ≡ sets l 0 (opcodeBytes (i .first) (i .second)) → l2 ≡ sets l1 j (operandBytes (i .operand))
+            → l3 ≡ sets l2 next (bytes k (i .immediate))
+            → l3 ≡ sets l 0 (bytesOf i)
+        whole-put l3 a q r =
+            let s : next ≡ 0 + length start + length (operandBytes (i .operand)) = omega (arith, operand-length (i .operand)) in
+            let t : j ≡ 0 + length start = omega arith in
+            r ∙ simp (q, a, s, t, d, sets-append, whole-bytes)
+
+      -- its length by the parts
+      module _ (k h : ℕ) (t : Bool) (a : k ≡ displacementSize (i .operand .mode) (i .operand .rm) (i .operand .base))
+          (b : h ≡ immediateSize (formOf n)) (s : t ≡ hasSib (i .operand .mode) (i .operand .rm)) where
+        pub sib-size : t ≡ true → j + 2 + (k + h) ≡ length (bytesOf i)
+        sib-size e = omega (arith, whole-length, sib-length-1 (i .operand) t s e)
+
+        pub plain-size : t ≡ false → j + 1 + (k + h) ≡ length (bytesOf i)
+        plain-size e = omega (arith, whole-length, sib-length-0 (i .operand) t s e)
 
 -- stores keep the length
 pub length-kept : (l l1 l2 : List ℕ) (a u : ℕ) → length l1 ≡ length (set l a u) → length l2 ≡ length l1 → length l2 ≡ length l
 length-kept l l1 l2 a u e h = h ∙ e ∙ length-set l a u
-
-pub length-kept-twice : (l l1 l2 : List ℕ) (a b u v : ℕ) → length l1 ≡ length (set (set l a u) b v) → length l2 ≡ length l1
-    → length l2 ≡ length l
-length-kept-twice l l1 l2 a b u v e h = h ∙ e ∙ simp length-set
 
 -- the writer
 pub has-so : (i : Instruction) (t : Bool) → t ≡ hasBytes i → t ≡ true → hasBytes i ≡ true
@@ -189,6 +234,13 @@ pub ruleset puts = (
   operand-put,
   bytes-operand,
   opcode-room,
+  two-size,
+  second-room,
+  two-put,
+  one-size,
+  one-put,
+  opcode-fits,
+  bare-room,
   operand-room,
   immediate-room,
   sib-start,

@@ -146,16 +146,6 @@ own (field k next) at s i n e =
           ∙ o .again (from + k) tail ∙ ap (good i) (add-assoc from k (o .size));
     }
 
-takes-one : (next : ℕ → Reader) (at : ℕ) (s : List ℕ) (i : Instruction) (n : ℕ) → reads (byte next) at s ≡ good i n → at < n
+pub takes-one : (next : ℕ → Reader) (at : ℕ) (s : List ℕ) (i : Instruction) (n : ℕ) → reads (byte next) at s ≡ good i n → at < n
 takes-one next at [] i n e = absurd (false≢true (cc))
 takes-one next at (b ∷ s) i n e = omega (arith, own (next b) (at + 1) s i n e .ends)
-
--- a byte, after which another is read or nothing: a good reading takes both
-pub takes-two : (t : ℕ → Bool) (next : ℕ → ℕ → Reader) (n : ℕ → ℕ) (at : ℕ) (s : List ℕ) (i : Instruction) (m : ℕ)
-    → reads (byte (λ b. cond (t b) (byte (next b)) (refuse (n b)))) at s ≡ good i m → at + 1 < m
-takes-two t next n at [] i m e = absurd (false≢true (cc))
-takes-two t next n at (b ∷ s) i m e = by (t b) e
-  where
-    by : (u : Bool) → reads (cond u (byte (next b)) (refuse (n b))) (at + 1) s ≡ good i m → at + 1 < m
-    by true e = takes-one (next b) (at + 1) s i m e
-    by false e = absurd (false≢true (cc))

@@ -1,12 +1,12 @@
 -- A record that has bytes is read from them, whatever follows: part by part, each reader finds the bytes of its part.
-use Rattle.basis.specs.Names.{ℕ, suc, _+_, _^_, _<_, _≡_, refl, Bool, true, false, cond, List, [], _∷_, _++_, length}
-use Rattle.basis.proofs.Names.{sym, ap, ap₂, _∙_, append-assoc, arith, add-zero, eq-eqb, length-append}
+use Rattle.basis.specs.Names.{ℕ, suc, _+_, _^_, _<_, _≡_, refl, Bool, true, false, cond, List, [], _∷_, _++_, eqb, length}
+use Rattle.basis.proofs.Names.{sym, ap, ap₂, _∙_, append-assoc, arith, add-zero, eqb-true, length-append}
 use Rattle.words.specs.Number.{AllBytes, bytes}
-use Rattle.codec.specs.Forms.{Form, hasOperand, allows, immediateSize}
-use Rattle.codec.specs.Opcodes.{formAt, escape}
+use Rattle.codec.specs.Forms.{Form, isAbsent, hasOperand, allows, immediateSize}
+use Rattle.codec.specs.Opcodes.{formAt, formOfFirst, formFor, opcodeBytes, escape}
 use Rattle.codec.specs.Operands.{upper, middle, lower, joined, hasSib, displacementSize, operandOf, noOperand}
 use Rattle.codec.specs.Reader.{Reader, whole, byte, field, reads}
-use Rattle.codec.specs.Reads.{instructionOf, immediateReader, displacementReader, sibReader, modrmReader, formReader, secondReader, instructionReader}
+use Rattle.codec.specs.Reads.{instructionOf, immediateReader, displacementReader, sibReader, modrmReader, formReader, secondReader, firstReader, instructionReader}
 use Rattle.codec.specs.Fits.{sibFits, operandFits, hasBytes}
 use Rattle.codec.specs.Writes.{sibBytes, displacementBytes, operandBytes, partsBytes, bytesOf}
 use Rattle.codec.specs.declared.Operand.{Operand}
@@ -16,7 +16,8 @@ use Rattle.words.proofs.Laws.{and-both}
 use Rattle.words.proofs.Numbers.{all-cons, all-append, all-none, all-bytes, length-bytes, number-fits}
 use Rattle.codec.proofs.Joined.{upper-joined, middle-joined, lower-joined, joined-lt}
 use Rattle.codec.proofs.Readers.{reads-yes, reads-no, field-reads}
-use Rattle.codec.proofs.Facts.{Fit, fit, sib-there, sib-absent, zero-is, Parts, bytewise}
+use Rattle.codec.proofs.Given.{partsReader}
+use Rattle.codec.proofs.Facts.{Fit, fit, sib-there, sib-absent, zero-is, Parts, Opcoded, two, one, opcoded, bytewise}
 
 -- after the opcode
 module _ (form : Form) (first second : ℕ) where
@@ -125,19 +126,41 @@ module _ (form : Form) (first second : ℕ) where
       immediate-back noOperand at v rest (p .immediate)
       ∙ ap₂ (λ (x : Operand) (j : ℕ). good (instructionOf first second x v) (at + j)) (sym z) (sym (length-bytes k v))
 
+-- the second byte that a record has, by its opcode bytes
+abbrev pub secondOf : ℕ → ℕ → ℕ
+secondOf first second = cond (eqb first escape) second 0
+
+-- after the opcode bytes of a form that is there, it is read what the form asks for
+pub opcode-reads : (first second : ℕ) (s : List ℕ) → isAbsent (formFor first second) ≡ false
+    → reads (instructionReader formAt) 0 (opcodeBytes first second ++ s)
+    ≡ reads (partsReader (formFor first second) first (secondOf first second)) (length (opcodeBytes first second)) s
+unfolding instructionReader secondReader firstReader formReader
+opcode-reads first second s = by (eqb first escape) refl
+  where
+    by : (t : Bool) → eqb first escape ≡ t → isAbsent (cond t (formAt second) (formOfFirst first)) ≡ false
+        → reads (instructionReader formAt) 0 (cond t (first ∷ second ∷ []) (first ∷ []) ++ s)
+        ≡ reads (partsReader (cond t (formAt second) (formOfFirst first)) first (cond t second 0)) (length (cond t (first ∷ second ∷ []) (first ∷ []))) s
+    by true e there = reads-yes _ _ _ 1 (second ∷ s) e ∙ reads-no _ _ _ 2 s there
+    by false e there = reads-no _ _ _ 1 s e ∙ reads-no _ _ _ 1 s there ∙ reads-no _ _ _ 1 s there
+
+second-is : (first second : ℕ) → Opcoded first second → secondOf first second ≡ second
+second-is first second (two e h) = simp e
+second-is first second (one e h z) = simp (e, z)
+
 -- What has bytes is read from them, whatever follows.
 pub bytes-read : (i : Instruction) (rest : List ℕ) → hasBytes i ≡ true
     → reads (instructionReader formAt) 0 (bytesOf i ++ rest) ≡ good i (length (bytesOf i))
-unfolding instructionReader secondReader formReader bytesOf partsBytes
+unfolding bytesOf partsBytes
 bytes-read i rest e =
     let b = bytewise i e in
-    let form = formAt (i .second) in
+    let form = formFor (i .first) (i .second) in
+    let start = opcodeBytes (i .first) (i .second) in
     let s = partsBytes form (i .operand) (i .immediate) in
-    let l : 0 + 1 + 1 + length s ≡ suc (suc (length s)) = omega arith in
-    reads-yes _ _ _ (0 + 1) (i .second ∷ (s ++ rest)) (eq-eqb (i .first) escape (b .first))
-    ∙ reads-no _ _ _ (0 + 1 + 1) (s ++ rest) (b .parts .listed)
-    ∙ parts-back form (i .first) (i .second) (hasOperand form) (i .operand) (0 + 1 + 1) (i .immediate) rest refl (b .parts)
-    ∙ ap (good i) l
+    ap (reads (instructionReader formAt) 0) (append-assoc start s rest)
+    ∙ opcode-reads (i .first) (i .second) (s ++ rest) (b .parts .listed)
+    ∙ parts-back form (i .first) (secondOf (i .first) (i .second)) (hasOperand form) (i .operand) (length start) (i .immediate) rest refl (b .parts)
+    ∙ ap₂ (λ (k m : ℕ). good (instructionOf (i .first) k (i .operand) (i .immediate)) m)
+    (second-is (i .first) (i .second) (opcoded (i .first) (i .second) (b .opcode))) (sym (length-append start s))
 
 -- Its bytes are bytes: each field fits its place.
 sib-bytes : (t : Bool) (scale index base : ℕ) → sibFits t scale index base ≡ true
@@ -162,11 +185,15 @@ parts-bytes true form w v e p =
     all-append (operandBytes w) (bytes (immediateSize form) v) (operand-bytes w (fit w (c .1))) (all-bytes (immediateSize form) v)
 parts-bytes false form w v e p = all-bytes (immediateSize form) v
 
+opcode-bytes : (first second : ℕ) → Opcoded first second → AllBytes (opcodeBytes first second)
+opcode-bytes first second (two e h) = simp e (all-cons first (second ∷ []) (omega (arith, eqb-true first escape e)) (all-cons second [] h all-none))
+opcode-bytes first second (one e h z) = simp e (all-cons first [] h all-none)
+
 pub bytes-are-bytes : (i : Instruction) → hasBytes i ≡ true → AllBytes (bytesOf i)
 unfolding bytesOf partsBytes
 bytes-are-bytes i e =
     let b = bytewise i e in
-    let form = formAt (i .second) in
-    let s = partsBytes form (i .operand) (i .immediate) in
-    all-cons (i .first) (i .second ∷ s) (omega (arith, b .first))
-    (all-cons (i .second) s (b .second) (parts-bytes (hasOperand form) form (i .operand) (i .immediate) refl (b .parts)))
+    let form = formFor (i .first) (i .second) in
+    all-append (opcodeBytes (i .first) (i .second)) (partsBytes form (i .operand) (i .immediate))
+    (opcode-bytes (i .first) (i .second) (opcoded (i .first) (i .second) (b .opcode)))
+    (parts-bytes (hasOperand form) form (i .operand) (i .immediate) refl (b .parts))

@@ -1,44 +1,62 @@
 -- The reader at a position of a code: what each part gives, from what the code has found there. Rules for the reader's functions.
 use Rattle.basis.specs.Names.{ℕ, _+_, _-_, _*_, _/_, _^_, _≤_, _<_, _≡_, refl, Bool, true, false, cond, List, eqb, length, getD, take, drop}
-use Rattle.basis.proofs.Names.{sym, ap, _∙_, arith, add-zero, mul-zero, needs, eq-eqb, ne-eqb, drop-of-length-le}
+use Rattle.basis.proofs.Names.{sym, ap, ap₂, _∙_, false≢true, arith, add-zero, mul-zero, needs, eq-eqb, ne-eqb, eqb-true, drop-of-length-le}
 use Rattle.words.specs.Number.{number}
+use Rattle.words.proofs.Laws.{and-both}
 use Rattle.codec.specs.Refusals.{codeEnds, notListed, notAllowed}
-use Rattle.codec.specs.Forms.{Form, isAbsent, hasOperand, allows, immediateSize}
-use Rattle.codec.specs.Opcodes.{escape}
-use Rattle.codec.specs.Table.{formOf, formIn}
+use Rattle.codec.specs.Forms.{Form, absent, isAbsent, hasOperand, allows, immediateSize}
+use Rattle.codec.specs.Contents.{loops}
+use Rattle.codec.specs.Opcodes.{isOf, formOfFirst, escape}
+use Rattle.codec.specs.Table.{formOf, entryOfFirst, formIn}
 use Rattle.codec.specs.Operands.{upper, middle, lower, hasSib, displacementSize, operandOf, noOperand}
 use Rattle.codec.specs.inner.Fields.{Sized}
 use Rattle.codec.specs.Reader.{Reader, whole, refuse, byte, field, reads}
-use Rattle.codec.specs.Reads.{instructionOf, immediateReader, displacementReader, sibReader, modrmReader, formReader, secondReader, instructionReader, refusalOf}
+use Rattle.codec.specs.Reads.{instructionOf, immediateReader, displacementReader, sibReader, modrmReader, formReader, secondReader, firstReader, instructionReader, refusalOf}
 use Rattle.codec.specs.Finding.{refusedAs, found, foundIn, findWith}
 use Rattle.codec.specs.declared.Operand.{Operand}
 use Rattle.codec.specs.declared.Found.{Found}
 use Rattle.codec.specs.Answers.{Decoded, good, refused}
 use Rattle.codec.proofs.Sizes.{byte-there}
-use Rattle.codec.proofs.FormNumbers.{with-operand}
-use Rattle.codec.proofs.Given.{Given, Refusal, Gives, form-gives}
+use Rattle.codec.proofs.Bytes.{found-each}
+use Rattle.codec.proofs.FormNumbers.{form-there}
+use Rattle.codec.proofs.Entries.{first-form-is}
+use Rattle.codec.proofs.Given.{Given, Refusal, Gives, form-gives, first-gives}
 use Rattle.codec.proofs.Readers.{Holds, every, reads-yes, reads-no, drop-here, field-here, field-none}
 
--- what is read keeps the second byte, so that the table's entry is that of it
-module _ (table : List ℕ) (second : ℕ) where
-  entry-kept : (x : Decoded) → Holds (Given second) Refusal x → found (getD table second 0) x ≡ foundIn table x
-  entry-kept (good i n) h = ap (λ (k : ℕ). found (getD table k 0) (good i n)) (sym (h .kept))
+-- what is read keeps the opcode bytes, so that the entry is theirs
+module _ (table : List ℕ) (first second : ℕ) where
+  abbrev entryBy : ℕ
+  entryBy = cond (eqb first escape) (getD table second 0) (entryOfFirst first)
+
+  entry-kept : (x : Decoded) → Holds (Given first second) Refusal x → found entryBy x ≡ foundIn table x
+  entry-kept (good i n) h =
+      ap₂ (λ (f k : ℕ). found (cond (eqb f escape) (getD table k 0) (entryOfFirst f)) (good i n)) (sym (h .first-kept)) (sym (h .kept))
   entry-kept (refused n) h = refl
 
-  keeps : (r : Reader) (at : ℕ) (s : List ℕ) → Gives second r
-      → found (getD table second 0) (reads r at s) ≡ foundIn table (reads r at s)
-  keeps r at s h = entry-kept (reads r at s) (every (Given second) Refusal r h at s)
+  keeps : (r : Reader) (at : ℕ) (s : List ℕ) → Gives first second r → found entryBy (reads r at s) ≡ foundIn table (reads r at s)
+  keeps r at s h = entry-kept (reads r at s) (every (Given first second) Refusal r h at s)
+
+-- of the first bytes other than 0F, ADD's alone has a ModRM byte
+one-operand : (first : ℕ) → (formOfFirst first .number ≡ 0 → ⊥) → hasOperand (formOf (formOfFirst first .number)) ≡ true → formOfFirst first .number ≡ 11
+unfolding formOfFirst
+one-operand first =
+    found-each (λ x. x .form) absent (λ f. (f .number ≡ 0 → ⊥) → hasOperand (formOf (f .number)) ≡ true → f .number ≡ 11) (λ x. isOf x first)
+    (λ there has. absurd (there refl)) loops
+    (λ h there has. refl, (λ h there has. absurd (false≢true has), (λ h there has. absurd (false≢true has), (λ h there has. absurd (false≢true has), tt))))
+
+pub first-adds : (first n : ℕ) (o : Bool) → n ≡ formOfFirst first .number → (n ≡ 0 → ⊥) → o ≡ hasOperand (formOf n) → o ≡ true → n ≡ 11
+first-adds first n o g there has e = g ∙ one-operand first (λ z. there (g ∙ z)) (ap (λ (k : ℕ). hasOperand (formOf k)) (sym g) ∙ sym has ∙ e)
 
 -- what a form's number asks for
-module _ (n first second at : ℕ) (s : List ℕ) where
-  pub form-bare : n ≡ 1 → reads (formReader (formOf n) first second) at s ≡ reads (immediateReader (formOf n) first second noOperand) at s
+module _ (n first second at : ℕ) (s : List ℕ) (there : n ≡ 0 → ⊥) where
+  pub form-bare : hasOperand (formOf n) ≡ false
+      → reads (formReader (formOf n) first second) at s ≡ reads (immediateReader (formOf n) first second noOperand) at s
   unfolding formReader
-  form-bare e =
-      reads-no _ _ _ at s (ap (λ (k : ℕ). isAbsent (formOf k)) e) ∙ reads-no _ _ _ at s (ap (λ (k : ℕ). hasOperand (formOf k)) e)
+  form-bare e = reads-no _ _ _ at s (form-there n there) ∙ reads-no _ _ _ at s e
 
-  pub form-on : (n ≡ 0 → ⊥) → (n ≡ 1 → ⊥) → reads (formReader (formOf n) first second) at s ≡ reads (modrmReader (formOf n) first second) at s
+  pub form-on : hasOperand (formOf n) ≡ true → reads (formReader (formOf n) first second) at s ≡ reads (modrmReader (formOf n) first second) at s
   unfolding formReader
-  form-on p q = let o = with-operand n p q in reads-no _ _ _ at s (o .0) ∙ reads-yes _ _ _ at s (o .1)
+  form-on e = reads-no _ _ _ at s (form-there n there) ∙ reads-yes _ _ _ at s e
 
 module _ (code : List ℕ) (at : ℕ) where
   -- the first byte
@@ -52,33 +70,69 @@ module _ (code : List ℕ) (at : ℕ) where
       first = getD code at 0
 
       first-here : reads (instructionReader (formIn table)) at (drop at code)
-          ≡ reads (cond (eqb first escape) (secondReader (formIn table) first) (refuse (refusalOf first))) (at + 1) (drop (at + 1) code)
+          ≡ reads (cond (eqb first escape) (secondReader (formIn table) first) (firstReader first)) (at + 1) (drop (at + 1) code)
       unfolding instructionReader
       first-here = ap (reads (instructionReader (formIn table)) at) (drop-here code at q)
 
       pub first-on : getD code at 0 ≡ escape
-          → x ≡ foundIn table (reads (secondReader (formIn table) (getD code at 0)) (at + 1) (drop (at + 1) code))
+          → x ≡ foundIn table (reads (secondReader (formIn table) escape) (at + 1) (drop (at + 1) code))
           → x ≡ findWith table code at
       unfolding findWith
       first-on e h =
-          h ∙ ap (foundIn table) (sym (first-here ∙ reads-yes _ _ _ (at + 1) (drop (at + 1) code) (eq-eqb (getD code at 0) escape e)))
+          h ∙ ap (λ (f : ℕ). foundIn table (reads (secondReader (formIn table) f) (at + 1) (drop (at + 1) code))) (sym e)
+          ∙ ap (foundIn table) (sym (first-here ∙ reads-yes _ _ _ (at + 1) (drop (at + 1) code) (eq-eqb first escape e)))
 
-      pub first-stop : (n : ℕ) → (getD code at 0 ≡ escape → ⊥) → n ≡ refusalOf (getD code at 0)
-          → x ≡ refusedAs n → x ≡ findWith table code at
+      pub first-other : (getD code at 0 ≡ escape → ⊥)
+          → x ≡ found (entryOfFirst (getD code at 0)) (reads (firstReader (getD code at 0)) (at + 1) (drop (at + 1) code))
+          → x ≡ findWith table code at
       unfolding findWith
-      first-stop n e g h =
-          h ∙ ap refusedAs g
-          ∙ ap (foundIn table) (sym (first-here ∙ reads-no _ _ _ (at + 1) (drop (at + 1) code) (ne-eqb (getD code at 0) escape e)))
+      first-other e h =
+          let s = drop (at + 1) code in
+          let other = ne-eqb first escape e in
+          h ∙ ap (λ (t : Bool). found (cond t (getD table 0 0) (entryOfFirst first)) (reads (firstReader first) (at + 1) s)) (sym other)
+          ∙ keeps table first 0 (firstReader first) (at + 1) s (first-gives first)
+          ∙ ap (foundIn table) (sym (first-here ∙ reads-no _ _ _ (at + 1) s other))
 
-  -- the second byte
-  module _ (table : List ℕ) (first : ℕ) (x : Found) where
+  -- what follows a first byte other than 0F, by the number n of its form
+  module _ (first n : ℕ) (x : Found) (g : n ≡ formOfFirst first .number) where
+    -- x is what the first byte gives
+    abbrev FindsFirst : Type 0
+    FindsFirst = x ≡ found (entryOfFirst first) (reads (firstReader first) at (drop at code))
+
+    form-is : formOf n ≡ formOfFirst first
+    form-is = ap formOf g ∙ first-form-is first
+
+    pub first-stop : (r : ℕ) → n ≡ 0 → r ≡ refusalOf first → x ≡ refusedAs r → FindsFirst
+    unfolding firstReader
+    first-stop r e p h =
+        h ∙ ap refusedAs p
+        ∙ ap (found (entryOfFirst first)) (sym (reads-yes (isAbsent (formOfFirst first)) _ _ at (drop at code) (ap (λ (k : ℕ). eqb k 0) (sym g ∙ e))))
+
+    module _ (there : n ≡ 0 → ⊥) (o : Bool) (has : o ≡ hasOperand (formOf n)) (entry : ℕ) (numbered : entry ≡ n * 2 ^ 24) where
+      first-reads : reads (firstReader first) at (drop at code) ≡ reads (formReader (formOf n) first 0) at (drop at code)
+      unfolding firstReader
+      first-reads =
+          reads-no (isAbsent (formOfFirst first)) _ _ at (drop at code) (ap isAbsent (sym form-is) ∙ form-there n there)
+          ∙ ap (λ (f : Form). reads (formReader f first 0) at (drop at code)) (sym form-is)
+
+      first-found : x ≡ found entry (reads (formReader (formOf n) first 0) at (drop at code)) → FindsFirst
+      first-found h = h ∙ ap₂ found (numbered ∙ ap (λ (k : ℕ). k * 2 ^ 24) g) (sym first-reads)
+
+      pub first-bare : o ≡ false → x ≡ found entry (reads (immediateReader (formOf n) first 0 noOperand) at (drop at code)) → FindsFirst
+      first-bare e h = first-found (h ∙ ap (found entry) (sym (form-bare n first 0 at (drop at code) there (sym has ∙ e))))
+
+      pub first-modrm : o ≡ true → x ≡ found entry (reads (modrmReader (formOf n) first 0) at (drop at code)) → FindsFirst
+      first-modrm e h = first-found (h ∙ ap (found entry) (sym (form-on n first 0 at (drop at code) there (sym has ∙ e))))
+
+  -- the second byte, after 0F
+  module _ (table : List ℕ) (x : Found) where
     -- x is what the table and the second byte give
     abbrev FindsSecond : Type 0
-    FindsSecond = x ≡ foundIn table (reads (secondReader (formIn table) first) at (drop at code))
+    FindsSecond = x ≡ foundIn table (reads (secondReader (formIn table) escape) at (drop at code))
 
     pub second-none : x ≡ refusedAs codeEnds → length code ≤ at → FindsSecond
     unfolding secondReader
-    second-none e q = e ∙ ap (λ (s : List ℕ). foundIn table (reads (secondReader (formIn table) first) at s)) (sym (drop-of-length-le code q))
+    second-none e q = e ∙ ap (λ (s : List ℕ). foundIn table (reads (secondReader (formIn table) escape) at s)) (sym (drop-of-length-le code q))
 
     module _ (q : at < length code) (entry : ℕ) (g : entry ≡ getD table (getD code at 0) 0) where
       abbrev second : ℕ
@@ -87,31 +141,33 @@ module _ (code : List ℕ) (at : ℕ) where
       abbrev form : Form
       form = formOf (entry / 2 ^ 24)
 
-      second-here : reads (secondReader (formIn table) first) at (drop at code) ≡ reads (formReader form first second) (at + 1) (drop (at + 1) code)
+      second-here : reads (secondReader (formIn table) escape) at (drop at code) ≡ reads (formReader form escape second) (at + 1) (drop (at + 1) code)
       unfolding secondReader
       second-here =
-          ap (reads (secondReader (formIn table) first) at) (drop-here code at q)
-          ∙ ap (λ (e : ℕ). reads (formReader (formOf (e / 2 ^ 24)) first second) (at + 1) (drop (at + 1) code)) (sym g)
+          ap (reads (secondReader (formIn table) escape) at) (drop-here code at q)
+          ∙ ap (λ (e : ℕ). reads (formReader (formOf (e / 2 ^ 24)) escape second) (at + 1) (drop (at + 1) code)) (sym g)
 
       -- what the form asks for keeps the entry
-      pub second-found : x ≡ found entry (reads (formReader form first second) (at + 1) (drop (at + 1) code)) → FindsSecond
+      pub second-found : x ≡ found entry (reads (formReader form escape second) (at + 1) (drop (at + 1) code)) → FindsSecond
       second-found h =
           let s = drop (at + 1) code in
-          h ∙ ap (λ (e : ℕ). found e (reads (formReader form first second) (at + 1) s)) g
-          ∙ keeps table second (formReader form first second) (at + 1) s (form-gives form first second) ∙ ap (foundIn table) (sym second-here)
+          h ∙ ap (λ (e : ℕ). found e (reads (formReader form escape second) (at + 1) s)) g
+          ∙ keeps table escape second (formReader form escape second) (at + 1) s (form-gives form escape second) ∙ ap (foundIn table) (sym second-here)
 
       pub second-absent : entry / 2 ^ 24 ≡ 0 → x ≡ refusedAs notListed → FindsSecond
       unfolding formReader
       second-absent e h =
           second-found (h ∙ ap (found entry) (sym (reads-yes _ _ _ (at + 1) (drop (at + 1) code) (ap (λ (k : ℕ). isAbsent (formOf k)) e))))
 
-      pub second-bare : entry / 2 ^ 24 ≡ 1
-          → x ≡ found entry (reads (immediateReader form first second noOperand) (at + 1) (drop (at + 1) code)) → FindsSecond
-      second-bare e h = second-found (h ∙ ap (found entry) (sym (form-bare (entry / 2 ^ 24) first second (at + 1) (drop (at + 1) code) e)))
+      module _ (there : entry / 2 ^ 24 ≡ 0 → ⊥) (o : Bool) (has : o ≡ hasOperand (formOf (entry / 2 ^ 24))) where
+        pub second-bare : o ≡ false → x ≡ found entry (reads (immediateReader form escape second noOperand) (at + 1) (drop (at + 1) code))
+            → FindsSecond
+        second-bare e h =
+            second-found (h ∙ ap (found entry) (sym (form-bare (entry / 2 ^ 24) escape second (at + 1) (drop (at + 1) code) there (sym has ∙ e))))
 
-      pub second-on : (entry / 2 ^ 24 ≡ 0 → ⊥) → (entry / 2 ^ 24 ≡ 1 → ⊥)
-          → x ≡ found entry (reads (modrmReader form first second) (at + 1) (drop (at + 1) code)) → FindsSecond
-      second-on n m h = second-found (h ∙ ap (found entry) (sym (form-on (entry / 2 ^ 24) first second (at + 1) (drop (at + 1) code) n m)))
+        pub second-on : o ≡ true → x ≡ found entry (reads (modrmReader form escape second) (at + 1) (drop (at + 1) code)) → FindsSecond
+        second-on e h =
+            second-found (h ∙ ap (found entry) (sym (form-on (entry / 2 ^ 24) escape second (at + 1) (drop (at + 1) code) there (sym has ∙ e))))
 
   module _ (form : Form) (first second entry : ℕ) (x : Found) where
     -- x is what a reader finds at a position
@@ -233,12 +289,33 @@ module _ (code : List ℕ) (at : ℕ) where
       ∙ sym
       (simp (z .four n m, drop-here code at p0, drop-here code (at + 1) p1, e2, drop-here code (at + 2) p2, e3, drop-here code (at + 3) p3, mul-zero, add-zero))
 
+-- the ModRM byte of ADD, which allows registers alone
+module _ (code : List ℕ) (at n first second entry : ℕ) (x : Found) (adds : n ≡ 11) (t : Bool)
+    (g : t ≡ allows (formOf n) (upper (getD code at 0)) (middle (getD code at 0)) (lower (getD code at 0))) (q : at < length code) where
+  in-register : t ≡ true → (192 ≤ getD code at 0) × (getD code at 0 < 256)
+  unfolding allows
+  in-register e =
+      let modrm = getD code at 0 in
+      let (mode, digit) = and-both (eqb (upper modrm) 3) _ (ap (λ (k : ℕ). allows (formOf k) (upper modrm) (middle modrm) (lower modrm)) (sym adds) ∙ sym g ∙ e) in
+      let is : upper modrm ≡ 3 = eqb-true (upper modrm) 3 mode in
+      (omega arith, omega arith)
+
+  pub register-on : (w : Operand) → t ≡ true → w ≡ operandOf (getD code at 0) 0 0
+      → x ≡ found entry (reads (immediateReader (formOf n) first second w) (at + 1) (drop (at + 1) code))
+      → x ≡ found entry (reads (modrmReader (formOf n) first second) at (drop at code))
+  register-on w e o h =
+      let (least, most) = in-register e in
+      modrm-on code at (formOf n) first second entry x t g q e (sib-register code (at + 1) (formOf n) first second entry x (getD code at 0) w least most o h)
+
 pub ruleset reading = (
   needs,
   byte-there,
   first-none,
   first-on,
+  first-other,
   first-stop,
+  first-bare,
+  first-modrm,
   second-none,
   second-absent,
   second-bare,
@@ -246,6 +323,7 @@ pub ruleset reading = (
   modrm-none,
   modrm-stop,
   modrm-on,
+  register-on,
   sib-register,
   sib-none,
   sib-on,

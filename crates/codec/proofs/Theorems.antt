@@ -7,14 +7,14 @@ use Rattle.codec.specs.Opcodes.{formAt, escape}
 use Rattle.codec.specs.inner.Fields.{Registers}
 use Rattle.codec.specs.Table.{formIn}
 use Rattle.codec.specs.Reader.{reads}
-use Rattle.codec.specs.Reads.{formReader, secondReader, instructionReader, refusalOf, longestCode, readPart, readAt}
+use Rattle.codec.specs.Reads.{secondReader, firstReader, instructionReader, longestCode, readPart, readAt}
 use Rattle.codec.specs.Finding.{foundIn, findWith}
 use Rattle.codec.specs.Fits.{hasBytes}
 use Rattle.codec.specs.Writes.{bytesOf, writeTo}
 use Rattle.codec.specs.declared.Instruction.{Instruction}
 use Rattle.codec.specs.Answers.{Decoded, good, refused, wrote, refusedWith}
 use Rattle.words.proofs.Numbers.{all-drop}
-use Rattle.codec.proofs.Readers.{Holds, own, takes-two}
+use Rattle.codec.proofs.Readers.{Holds, own, takes-one}
 use Rattle.codec.proofs.Given.{no-registers, Known, Refusal, reads-known}
 use Rattle.codec.proofs.Spelling.{read-spells}
 use Rattle.codec.proofs.ReadingBack.{bytes-read, bytes-are-bytes}
@@ -73,19 +73,19 @@ eleven-exactly i buffer = (only, exactly)
     exactly h =
         simp (none-false (hasBytes i) (λ e. h (bytesOf i) (length (bytesOf i)) (bytes-are-bytes i e) (ap readPart (sym (append-nil (bytesOf i))) ∙ bytes-read i [] e)))
 
--- 4. Reading is local: a good reading takes at least two bytes and none past the end, and depends on its own bytes alone.
+-- 4. Reading is local: a good reading takes at least one byte and none past the end, and depends on its own bytes alone.
 pub record Local (s : List ℕ) (i : Instruction) (n : ℕ) : Type 0 where
-  pub two : 2 ≤ n
+  pub some : 1 ≤ n
   pub within : n ≤ length s
   pub again : (tail : List ℕ) → readPart (take n s ++ tail) ≡ good i n
 
 pub reading-is-local : (s : List ℕ) (i : Instruction) (n : ℕ) → readPart s ≡ good i n → Local s i n
-unfolding instructionReader secondReader
+unfolding instructionReader
 reading-is-local s i n e =
     let o = own (instructionReader formAt) 0 s i n e in
     let l : o .size ≡ n = omega (arith, o .ends) in
     record {
-      two = takes-two (λ first. eqb first escape) (λ first second. formReader (formAt second) first second) refusalOf 0 s i n e;
+      some = takes-one (λ first. cond (eqb first escape) (secondReader formAt first) (firstReader first)) 0 s i n e;
       within = omega (arith, o .within);
       again = λ tail.
           ap (λ (k : ℕ). readPart (take k s ++ tail)) (sym l) ∙ o .again 0 tail ∙ ap (good i) (sym (o .ends));

@@ -1,9 +1,11 @@
 -- Reading with a table that is lent, as plain numbers: the refusal, or 0 with the table's entry, the instruction and the position after it.
-use Rattle.basis.specs.Names.{ℕ, List, getD, drop}
-use Rattle.codec.specs.Table.{formIn}
+use Rattle.basis.specs.Names.{ℕ, List, cond, eqb, getD, drop}
+use Rattle.codec.specs.Table.{formIn, entryOfFirst}
+use Rattle.codec.specs.Opcodes.{escape}
 use Rattle.codec.specs.Operands.{noOperand}
 use Rattle.codec.specs.Reader.{reads}
 use Rattle.codec.specs.Reads.{instructionOf, instructionReader}
+use Rattle.codec.specs.declared.Instruction.{Instruction}
 use Rattle.codec.specs.declared.Found.{Found}
 use Rattle.codec.specs.Answers.{Decoded, good, refused}
 
@@ -18,9 +20,14 @@ found entry (good instruction next) =
     record { refusal = 0; entry = entry; instruction = instruction; next = next }
 found entry (refused refusal) = refusedAs refusal
 
--- a reading, with the entry that a table has for the instruction's second byte
+-- the entry of an instruction's opcode bytes: a table's for the second, or that of a first byte other than 0F
+abbrev pub entryFor : List ℕ → Instruction → ℕ
+entryFor table instruction =
+    cond (eqb (instruction .first) escape) (getD table (instruction .second) 0) (entryOfFirst (instruction .first))
+
+-- a reading, with that entry
 abbrev pub foundIn : List ℕ → Decoded → Found
-foundIn table (good instruction next) = found (getD table (instruction .second) 0) (good instruction next)
+foundIn table (good instruction next) = found (entryFor table instruction) (good instruction next)
 foundIn table (refused refusal) = refusedAs refusal
 
 -- reading at a position of a code by what the table says

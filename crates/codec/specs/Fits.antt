@@ -1,7 +1,7 @@
 -- Which records have bytes: each field fits its place, and one that has no place is 0.
 use Rattle.basis.specs.Names.{ℕ, _^_, List, [], _∷_, Bool, true, not, _&&_, cond, eqb, ltb}
 use Rattle.codec.specs.Forms.{Form, isAbsent, hasOperand, allows, immediateSize}
-use Rattle.codec.specs.Opcodes.{formAt, escape}
+use Rattle.codec.specs.Opcodes.{formFor, escape}
 use Rattle.codec.specs.Operands.{hasSib, displacementSize}
 use Rattle.codec.specs.declared.Operand.{Operand}
 use Rattle.codec.specs.declared.Instruction.{Instruction}
@@ -53,10 +53,13 @@ partsFit form operand immediate =
     ∷ fits (immediateSize form) immediate
     ∷ [])
 
+-- the opcode bytes: 0F and another; or one, and the second is 0
+unfoldable pub opcodeFits : ℕ → ℕ → Bool
+opcodeFits first second = cond (eqb first escape) (fits 1 second) (fits 1 first && eqb second 0)
+
 -- the record has bytes: any other is refused by 11
 unfoldable pub hasBytes : Instruction → Bool
 hasBytes instruction =
-    all (eqb (instruction .first) escape
-    ∷ fits 1 (instruction .second)
-    ∷ partsFit (formAt (instruction .second)) (instruction .operand) (instruction .immediate)
+    all (opcodeFits (instruction .first) (instruction .second)
+    ∷ partsFit (formFor (instruction .first) (instruction .second)) (instruction .operand) (instruction .immediate)
     ∷ [])

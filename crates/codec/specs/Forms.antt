@@ -1,7 +1,7 @@
 -- The forms of instructions: the operands in the manuals' notation, with what each is used for; and what a form says of the bytes after the opcode.
 use Rattle.basis.specs.Names.{ℕ, List, [], _∷_, Bool, true, false, not, _&&_, _||_, eqb}
 use Rattle.codec.specs.declared.Kind.{Kind}
-use Rattle.codec.specs.declared.Kind.the-variants.{Ordinary, Emms, Silent}
+use Rattle.codec.specs.declared.Kind.the-variants.{Ordinary, Emms, Silent, Loop}
 
 -- what an instruction does with an operand: `updated` is read and written, `untouched` neither
 pub data Use : Type 0 where
@@ -23,6 +23,10 @@ pub data Slot : Type 0 where
   edi : ℕ → Slot
   -- nothing: rm is this number, at mod 11 alone
   fixed : ℕ → Slot
+  -- the register that the last three bits of the first byte name
+  opcode : File → Slot
+  -- the zero mark, which no byte names
+  zeroSlot : Slot
 
 -- Operands, in the manuals' notation
 
@@ -56,9 +60,15 @@ mem8 = mem 1
 abbrev pub mem64-at-edi : Slot
 mem64-at-edi = edi 8
 
+abbrev pub reg32-in-rm : Slot
+reg32-in-rm = rm integerFile
+
+abbrev pub reg32-in-opcode : Slot
+reg32-in-opcode = opcode integerFile
+
 pub record Form : Type 0 where
-  -- its number in the code's table (0: no instruction; 10 to 13: none); from 15 on are the forms of a destination and a source alone, one named by reg,
-  -- the other by r/m
+  -- its number in the code's table (0: no instruction; 10 to 13 are not in it: their opcode is one byte); from 15 on are the forms of a destination and
+  -- a source alone, one named by reg, the other by r/m
   pub number : ℕ
   -- what reg may be where it is a digit of the opcode; none where it names a register
   pub digits : List ℕ
@@ -108,6 +118,22 @@ edi·mmreg1·mmreg2 =
 abbrev pub alone/7 : Form
 alone/7 = record { number = 9; digits = 7 ∷ []; operands = (untouched, fixed 0) ∷ []; immediate = 0; kind = Silent }
 
+-- MOV of an immediate: B8 +rd
+abbrev pub reg32←imm32 : Form
+reg32←imm32 = record { number = 10; digits = []; operands = (written, reg32-in-opcode) ∷ []; immediate = 4; kind = Loop }
+
+-- ADD of a signed byte: 83 /0, to a register alone
+abbrev pub reg32·imm8/0 : Form
+reg32·imm8/0 = record { number = 11; digits = 0 ∷ []; operands = (updated, reg32-in-rm) ∷ (written, zeroSlot) ∷ []; immediate = 1; kind = Loop }
+
+-- DEC: 48 +rd
+abbrev pub reg32·alone : Form
+reg32·alone = record { number = 12; digits = []; operands = (updated, reg32-in-opcode) ∷ (written, zeroSlot) ∷ []; immediate = 0; kind = Loop }
+
+-- JNZ by a signed byte
+abbrev pub rel8off : Form
+rel8off = record { number = 13; digits = []; operands = (read, zeroSlot) ∷ []; immediate = 1; kind = Loop }
+
 -- the prefetches: /0 NTA, /1 T0, /2 T1, /3 T2
 abbrev pub mem8/0/1/2/3 : Form
 mem8/0/1/2/3 = record { number = 14; digits = 0 ∷ 1 ∷ 2 ∷ 3 ∷ []; operands = (untouched, mem8) ∷ []; immediate = 0; kind = Silent }
@@ -143,7 +169,8 @@ mmreg1·mmreg2/mem64 = pair 21 (updated, mmreg1) mmreg2/mem64
 abbrev pub forms : List Form
 forms =
     absent ∷ alone ∷ mmreg1·imm8/2/4/6 ∷ mmreg1·imm8/2/6
-    ∷ mmreg1·reg32/mem16+imm8 ∷ mmreg1←mmreg2/mem64+imm8 ∷ reg32←mmreg2+imm8 ∷ reg32←mmreg2 ∷ edi·mmreg1·mmreg2 ∷ alone/7 ∷ mem8/0/1/2/3
+    ∷ mmreg1·reg32/mem16+imm8 ∷ mmreg1←mmreg2/mem64+imm8 ∷ reg32←mmreg2+imm8 ∷ reg32←mmreg2 ∷ edi·mmreg1·mmreg2 ∷ alone/7
+    ∷ reg32←imm32 ∷ reg32·imm8/0 ∷ reg32·alone ∷ rel8off ∷ mem8/0/1/2/3
     ∷ mem64←mmreg1 ∷ reg32/mem32←mmreg1 ∷ mmreg1←reg32/mem32 ∷ mmreg2/mem64←mmreg1 ∷ mmreg1←mmreg2/mem64 ∷ mmreg1·mmreg2/mem32 ∷ mmreg1·mmreg2/mem64 ∷ []
 
 -- What a form says
@@ -155,9 +182,25 @@ abbrev pub isAny : {A : Type 0} → List A → Bool
 isAny [] = false
 isAny (x ∷ xs) = true
 
+-- whether an operand is encoded in the ModRM byte
+abbrev pub inModrm : Slot → Bool
+inModrm (reg file) = true
+inModrm (rm file) = true
+inModrm (rm/mem file bytes) = true
+inModrm (mem bytes) = true
+inModrm (edi bytes) = true
+inModrm (fixed k) = true
+inModrm (opcode file) = false
+inModrm zeroSlot = false
+
+-- whether one of them is
+abbrev pub anyInModrm : List (Use × Slot) → Bool
+anyInModrm [] = false
+anyInModrm ((how, slot) ∷ xs) = inModrm slot || anyInModrm xs
+
 -- whether there is a ModRM byte
 abbrev pub hasOperand : Form → Bool
-hasOperand form = isAny (form .operands)
+hasOperand form = anyInModrm (form .operands)
 
 abbrev pub isAmong : ℕ → List ℕ → Bool
 isAmong value [] = false
@@ -176,6 +219,8 @@ slotAllows (rm/mem file bytes) register lower = true
 slotAllows (mem bytes) register lower = not register
 slotAllows (edi bytes) register lower = true
 slotAllows (fixed k) register lower = register && eqb lower k
+slotAllows (opcode file) register lower = true
+slotAllows zeroSlot register lower = true
 
 -- whether all operands allow it, and the rest of the test holds
 abbrev pub slotsAllow : List (Use × Slot) → Bool → ℕ → Bool → Bool
@@ -198,6 +243,8 @@ sizeIn ((how, rm/mem file bytes) ∷ xs) = bytes
 sizeIn ((how, mem bytes) ∷ xs) = bytes
 sizeIn ((how, edi bytes) ∷ xs) = bytes
 sizeIn ((how, fixed k) ∷ xs) = sizeIn xs
+sizeIn ((how, opcode file) ∷ xs) = sizeIn xs
+sizeIn ((how, zeroSlot) ∷ xs) = sizeIn xs
 
 abbrev pub memorySize : Form → ℕ
 memorySize form = sizeIn (form .operands)

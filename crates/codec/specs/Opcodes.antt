@@ -1,13 +1,13 @@
--- The opcode bytes: the prefixes, 0F, and what the list says of the byte after 0F.
-use Rattle.basis.specs.Names.{ℕ, List, [], _∷_, Bool, true, _&&_, cond, Option, none, some, eqb}
+-- The opcode bytes: the prefixes, 0F, and what the lists say of the byte after 0F, and of another first byte.
+use Rattle.basis.specs.Names.{ℕ, _+_, List, [], _∷_, Bool, true, _&&_, cond, Option, none, some, eqb, leb, ltb}
 use Rattle.lanes.specs.Operations.{Operation, KEEP}
 use Rattle.codec.specs.Forms.{Form, absent}
-use Rattle.codec.specs.Contents.{lines}
+use Rattle.codec.specs.Contents.{lines, OneByte, loops}
 
 abbrev pub prefixes : List ℕ
 prefixes = 0x26 ∷ 0x2e ∷ 0x36 ∷ 0x3e ∷ 0x64 ∷ 0x65 ∷ 0x66 ∷ 0x67 ∷ 0xf0 ∷ 0xf2 ∷ 0xf3 ∷ []
 
--- all opcodes start with it
+-- all opcodes start with it, but those of loops
 abbrev pub escape : ℕ
 escape = 0x0f
 
@@ -28,3 +28,23 @@ matchesDigit (some digit) reg = eqb reg digit
 -- the operation of a second byte, with what stands in reg; KEEP where no line fits
 unfoldable pub operationAt : ℕ → ℕ → Operation
 operationAt second reg = find (λ x. eqb second (x .second) && matchesDigit (x .digit) reg) (λ x. x .operation) KEEP lines
+
+-- a first byte is one of those that an instruction has
+abbrev pub isOf : OneByte → ℕ → Bool
+isOf x first = leb (x .first) first && ltb first (x .first + x .count)
+
+-- the form of a first byte other than 0F
+unfoldable pub formOfFirst : ℕ → Form
+formOfFirst first = find (λ x. isOf x first) (λ x. x .form) absent loops
+
+-- the form and the operation of both opcode bytes, with what stands in reg; where there is one byte, the second is 0 and the operation is none
+
+abbrev pub formFor : ℕ → ℕ → Form
+formFor first second = cond (eqb first escape) (formAt second) (formOfFirst first)
+
+abbrev pub operationFor : ℕ → ℕ → ℕ → Operation
+operationFor first second reg = cond (eqb first escape) (operationAt second reg) KEEP
+
+-- the opcode bytes themselves
+abbrev pub opcodeBytes : ℕ → ℕ → List ℕ
+opcodeBytes first second = cond (eqb first escape) (first ∷ second ∷ []) (first ∷ [])

@@ -2,7 +2,7 @@
 use Rattle.basis.specs.Names.{ℕ, List, cond, eqb, ltb, length, drop}
 use Rattle.codec.specs.Refusals.{codeTooLong, prefixed, notListed, notAllowed}
 use Rattle.codec.specs.Forms.{Form, isAmong, isAbsent, hasOperand, allows, immediateSize}
-use Rattle.codec.specs.Opcodes.{formAt, escape, prefixes}
+use Rattle.codec.specs.Opcodes.{formAt, formOfFirst, escape, prefixes}
 use Rattle.codec.specs.Operands.{upper, middle, lower, hasSib, displacementSize, operandOf, noOperand}
 use Rattle.codec.specs.Reader.{Reader, whole, refuse, byte, field, reads}
 use Rattle.codec.specs.declared.Operand.{Operand}
@@ -13,7 +13,7 @@ abbrev pub instructionOf : ℕ → ℕ → Operand → ℕ → Instruction
 instructionOf first second operand immediate =
     record { first = first; second = second; operand = operand; immediate = immediate }
 
--- after the two opcode bytes of a form
+-- after the opcode bytes of a form
 module _ (form : Form) (first second : ℕ) where
   -- the immediate, and then the instruction is whole
   unfoldable pub immediateReader : Operand → Reader
@@ -41,9 +41,13 @@ module _ (form : Form) (first second : ℕ) where
   formReader =
       cond (isAbsent form) (refuse notListed) (cond (hasOperand form) modrmReader (immediateReader noOperand))
 
--- why a first byte other than 0F is refused
+-- why a first byte that starts no instruction is refused
 unfoldable pub refusalOf : ℕ → ℕ
 refusalOf first = cond (isAmong first prefixes) prefixed notListed
+
+-- after a first byte other than 0F: there is no second, which is 0 in the record
+unfoldable pub firstReader : ℕ → Reader
+firstReader first = cond (isAbsent (formOfFirst first)) (refuse (refusalOf first)) (formReader (formOfFirst first) first 0)
 
 -- from the start, by what a table says of the second byte
 module _ (formFor : ℕ → Form) where
@@ -53,7 +57,7 @@ module _ (formFor : ℕ → Form) where
 
   -- the first byte
   unfoldable pub instructionReader : Reader
-  instructionReader = byte (λ first. cond (eqb first escape) (secondReader first) (refuse (refusalOf first)))
+  instructionReader = byte (λ first. cond (eqb first escape) (secondReader first) (firstReader first))
 
 -- reading what is left of a code: the instruction and its length
 abbrev pub readPart : List ℕ → Decoded

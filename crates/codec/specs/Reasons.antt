@@ -4,7 +4,7 @@ use Rattle.basis.specs.Names.{ℕ, _≤_, _<_, _≡_, _⊎_, true, false, List,
 use Rattle.words.specs.Number.{AllBytes}
 use Rattle.codec.specs.Refusals.{codeTooLong, codeEnds, prefixed, notListed, notAllowed}
 use Rattle.codec.specs.Forms.{isAmong, isAbsent, hasOperand, allows}
-use Rattle.codec.specs.Opcodes.{formAt, escape, prefixes}
+use Rattle.codec.specs.Opcodes.{formAt, formOfFirst, formFor, opcodeBytes, escape, prefixes}
 use Rattle.codec.specs.Operands.{upper, middle, lower}
 use Rattle.codec.specs.Answers.{good}
 use Rattle.codec.specs.Reads.{readPart, longestCode}
@@ -27,18 +27,19 @@ pub record EndsInside (s : List ℕ) : Type 0 where
 abbrev pub StartsPrefixed : List ℕ → Type 0
 StartsPrefixed s = (first : ℕ) × Starts (first ∷ []) s × (isAmong first prefixes ≡ true)
 
--- 5: another first byte than 0F, or a second byte that is not in the table
+-- 5: another first byte than 0F and those of loops, or a second byte that is not in the table
 abbrev pub StartsOther : List ℕ → Type 0
-StartsOther s = (first : ℕ) × Starts (first ∷ []) s × (eqb first escape ≡ false) × (isAmong first prefixes ≡ false)
+StartsOther s =
+    (first : ℕ) × Starts (first ∷ []) s × (eqb first escape ≡ false) × (isAbsent (formOfFirst first) ≡ true) × (isAmong first prefixes ≡ false)
 
 abbrev pub StartsUnlisted : List ℕ → Type 0
 StartsUnlisted s = (second : ℕ) × Starts (escape ∷ second ∷ []) s × (isAbsent (formAt second) ≡ true)
 
--- 6: the second byte is in the table, and its form does not allow the ModRM byte
+-- 6: the opcode is listed, and its form does not allow the ModRM byte
 abbrev pub StartsNotAllowed : List ℕ → Type 0
 StartsNotAllowed s =
-    (second modrm : ℕ) × Starts (escape ∷ second ∷ modrm ∷ []) s × (isAbsent (formAt second) ≡ false) × (hasOperand (formAt second) ≡ true)
-    × (allows (formAt second) (upper modrm) (middle modrm) (lower modrm) ≡ false)
+    (first second modrm : ℕ) × Starts (opcodeBytes first second ++ modrm ∷ []) s × (isAbsent (formFor first second) ≡ false)
+    × (hasOperand (formFor first second) ≡ true) × (allows (formFor first second) (upper modrm) (middle modrm) (lower modrm) ≡ false)
 
 -- the reason for a refusal's number
 pub data Reason : List ℕ → ℕ → Type 0 where

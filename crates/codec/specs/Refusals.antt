@@ -13,12 +13,12 @@ codeEnds = 3
 abbrev pub prefixed : ℕ
 prefixed = 4
 
--- another first byte than 0F, or a second byte that is not in the table
+-- another first byte than 0F and those of loops, or a second byte that is not in the table
 abbrev pub notListed : ℕ
 notListed = 5
 
 -- a ModRM byte that the form does not allow: 71, 72 or 73 with mod not 11, a register or memory form that 000 does not list, a digit that is not
--- listed, or AE before another byte than F8
+-- listed, AE before another byte than F8, or 83 in another form than /0 with mod 11
 abbrev pub notAllowed : ℕ
 notAllowed = 6
 

@@ -3,7 +3,7 @@
 use Rattle.basis.specs.Names.{ℕ, zero, suc, _+_, _*_, _/_, _^_, List, [], _∷_, eqb, getD}
 use Rattle.lanes.specs.Operations.{described}
 use Rattle.codec.specs.Forms.{Form, mmreg1·mmreg2/mem64, forms, memorySize}
-use Rattle.codec.specs.Opcodes.{find, formAt, operationAt}
+use Rattle.codec.specs.Opcodes.{find, formAt, operationAt, formOfFirst}
 
 -- the form that a number names; one that none has names the usual form
 abbrev pub formOf : ℕ → Form
@@ -16,6 +16,10 @@ entryAt second =
     let form = formAt second in
     let operation = described (operationAt second 2) in
     form .number * 2 ^ 24 + memorySize form * 2 ^ 16 + operation .width * 2 ^ 8 + operation .number
+
+-- the entry of a first byte other than 0F, which is not in the table: its form alone
+abbrev pub entryOfFirst : ℕ → ℕ
+entryOfFirst first = formOfFirst first .number * 2 ^ 24
 
 -- f from, f (from + 1), .. of count numbers
 abbrev pub listed : {A : Type 0} → (ℕ → A) → ℕ → ℕ → List A

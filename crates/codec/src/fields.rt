@@ -1,11 +1,15 @@
 // Which parts an instruction has: the fields of its ModRM and SIB bytes, the sizes of its displacement and its immediate.
+use crate::forms::ADD;
+use crate::forms::DECREMENT;
 use crate::forms::EXTRACT;
 use crate::forms::FENCE;
+use crate::forms::JUMP;
 use crate::forms::LEFT;
 use crate::forms::MASKED;
 use crate::forms::PREFETCH;
 use crate::forms::RIGHT;
 use crate::forms::RIGHT_SIGNED;
+use crate::forms::SET;
 use crate::forms::SHIFT_Q;
 use crate::forms::SHIFT_WD;
 use crate::forms::SHUFFLE;
@@ -17,7 +21,7 @@ use crate::modes::NO_DISPLACEMENT;
 use crate::modes::REGISTER;
 use crate::modes::SIB;
 ghost use Rattle.basis.specs.Names.{_≡_, _≤_, _<_};
-ghost use Rattle.codec.specs.Forms.{alone/7, isAmong, allows, immediateSize};
+ghost use Rattle.codec.specs.Forms.{alone/7, hasOperand, isAmong, allows, immediateSize};
 ghost use Rattle.codec.specs.Table.{formOf};
 ghost use Rattle.codec.specs.Operands.{hasSib, displacementSize};
 ghost use Rattle.codec.specs.inner.Fields.{Sized};
@@ -39,6 +43,9 @@ pub(crate) const ONE_BYTE: usize = 1;
 
 const FOUR_BYTES: usize = 4;
 
+// ADD's digit.
+const ADD_DIGIT: u8 = 0;
+
 // How many digits the prefetches have.
 const PREFETCHES: u8 = 4;
 
@@ -46,6 +53,22 @@ const PREFETCHES: u8 = 4;
 const FENCE_DIGIT: u8 = 7;
 
 const FENCE_RM: u8 = 0;
+
+// Whether a form has a ModRM byte.
+pub(crate) fn has_operand(form: u32) -> bool
+    ensures { λ r. ⌜ r ≡ hasOperand (formOf form) ⌝ }
+{
+    if JUMP < form {
+        return true;
+    }
+    if form < SHIFT_WD {
+        return false;
+    }
+    if form < SET {
+        return true;
+    }
+    form == ADD
+}
 
 // Whether a form may have a ModRM byte of these fields.
 pub(crate) fn allowed(form: u32, mode: u8, reg: u8, rm: u8) -> bool
@@ -69,7 +92,7 @@ pub(crate) fn allowed(form: u32, mode: u8, reg: u8, rm: u8) -> bool
     restrained(form, mode, reg, rm)
 }
 
-// The forms past SHUFFLE: those of registers alone, SFENCE, and those of memory alone.
+// The forms past SHUFFLE: those of registers alone, SFENCE, those of loops, and those of memory alone.
 fn restrained(form: u32, mode: u8, reg: u8, rm: u8) -> bool
     requires { ⌜ (5 < form) × (form ≤ 15) ⌝ }
     ensures { λ r. ⌜ r ≡ allows (formOf form) mode reg rm ⌝ }
@@ -80,7 +103,13 @@ fn restrained(form: u32, mode: u8, reg: u8, rm: u8) -> bool
     if form == FENCE {
         return is_fence(mode, reg, rm);
     }
-    // no form has these numbers: they name the usual form
+    if form == ADD {
+        if mode != REGISTER {
+            return false;
+        }
+        return reg == ADD_DIGIT;
+    }
+    // the others of loops have no ModRM byte
     if form < PREFETCH {
         return true;
     }
@@ -127,10 +156,22 @@ fn has_digit(form: u32, reg: u8) -> bool
 pub(crate) fn immediate_size(form: u32) -> usize
     ensures { λ r. ⌜ (r ≡ immediateSize (formOf form)) × Sized r ⌝ }
 {
-    if EXTRACT < form {
+    if JUMP < form {
         return NO_BYTE;
     }
     if form < SHIFT_WD {
+        return NO_BYTE;
+    }
+    if form <= EXTRACT {
+        return ONE_BYTE;
+    }
+    if form < SET {
+        return NO_BYTE;
+    }
+    if form == SET {
+        return FOUR_BYTES;
+    }
+    if form == DECREMENT {
         return NO_BYTE;
     }
     ONE_BYTE

@@ -1,4 +1,4 @@
-// The parts of an entry of the table, and the forms by their numbers in it.
+// The parts of an entry of the table, and the forms by their numbers.
 
 // What form, operand size and lane width are multiplied by in an entry, and how many values a part has. The operation is lowest.
 pub const FORM: u32 = 0x1000000;
@@ -45,7 +45,19 @@ pub const MASKED: u32 = 8;
 // SFENCE.
 pub const FENCE: u32 = 9;
 
-// mem8: the prefetches. The numbers before it are free; from here to STREAM there is memory alone.
+// reg32, imm32: MOV. From here to JUMP are the forms of one opcode byte, which are not in the table.
+pub const SET: u32 = 10;
+
+// reg32, imm8: ADD, the one of them with a ModRM byte.
+pub const ADD: u32 = 11;
+
+// reg32: DEC.
+pub const DECREMENT: u32 = 12;
+
+// rel8off: JNZ.
+pub const JUMP: u32 = 13;
+
+// mem8: the prefetches. From here to STREAM there is memory alone.
 pub const PREFETCH: u32 = 14;
 
 // From here on: a destination and a source, one named by reg, the other by r/m.

@@ -33,7 +33,8 @@ pub struct Operand {
     pub displacement: u32,
 }
 
-// The opcode bytes, the operand and the immediate; where the opcode has a digit (71 to 73, 18, AE), it is in reg.
+// The opcode bytes, of which the second is 0 where there is one alone, the operand and the immediate; where the opcode has a digit (71 to 73, 18, AE,
+// 83), it is in reg.
 pub struct Instruction {
     pub first: u8,
     pub second: u8,
@@ -42,11 +43,12 @@ pub struct Instruction {
 }
 
 // What an instruction does to the tag mark, whether the control marks stop it, and which others it meets wherever they read and write. The silent ones
-// touch nothing: the prefetches and SFENCE.
+// touch nothing: the prefetches and SFENCE. Those of loops are MOV, ADD, DEC and JNZ.
 pub enum Kind {
     Ordinary,
     Emms,
     Silent,
+    Loop,
 }
 
 // What reading gives: the instruction and its length, or the refusal.
@@ -61,7 +63,8 @@ pub enum Writing {
     Refused(u8),
 }
 
-// What reading with a table gives, in plain numbers: the refusal, or 0 and the table's entry, the instruction and the position after it.
+// What reading with a table gives, in plain numbers: the refusal, or 0 and the entry (the table's, or that of a first byte other than 0F), the
+// instruction and the position after it.
 pub struct Found {
     pub refusal: u8,
     pub entry: u32,
@@ -85,9 +88,9 @@ pub fn read_from(table: &[u32; 256], code: &[u8], at: usize) -> Found
     }
     let first = code[at];
     if first == ESCAPE {
-        reader::second_at(table, code, at + 1, first)
+        reader::second_at(table, code, at + 1)
     } else {
-        reader::refused(prefixes::first_refusal(first))
+        reader::first_at(code, at + 1, first)
     }
 }
 
@@ -113,7 +116,7 @@ pub fn read(code: &[u8], at: usize) -> Reading
 pub fn write(instruction: Instruction, buffer: &mut [u8]) -> Writing
     ensures { λ r. ⌜ paperOfWriting r (now (buffer .exit)) ≡ writeTo instruction (now (buffer .entry)) ⌝ }
 {
-    let form = opcodes::form_for(instruction.second);
+    let form = opcodes::form_for(instruction.first, instruction.second);
     if writer::has_bytes(form, instruction) {
         let size = writer::size_of(form, instruction);
         if size <= buffer.len() {

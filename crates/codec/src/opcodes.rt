@@ -1,16 +1,20 @@
-// The table of second bytes, and what is looked up in it.
+// The table of second bytes, the first bytes of loops, and what is looked up.
 use crate::forms::ABSENT;
+use crate::forms::ADD;
+use crate::forms::DECREMENT;
 use crate::forms::EMMS;
 use crate::forms::EXTRACT;
 use crate::forms::FENCE;
 use crate::forms::FORM;
 use crate::forms::INSERT;
+use crate::forms::JUMP;
 use crate::forms::LANE;
 use crate::forms::LOAD_D;
 use crate::forms::LOAD_Q;
 use crate::forms::LOW;
 use crate::forms::MASKED;
 use crate::forms::PREFETCH;
+use crate::forms::SET;
 use crate::forms::SHIFT_Q;
 use crate::forms::SHIFT_WD;
 use crate::forms::SHUFFLE;
@@ -20,8 +24,9 @@ use crate::forms::STORE_Q;
 use crate::forms::STREAM;
 use crate::forms::TOP_BITS;
 use crate::forms::USUAL;
-ghost use Rattle.basis.specs.Names.{_≡_, getD};
-ghost use Rattle.codec.specs.Opcodes.{formAt};
+use crate::prefixes::ESCAPE;
+ghost use Rattle.basis.specs.Names.{_≡_, _≤_, getD};
+ghost use Rattle.codec.specs.Opcodes.{formOfFirst, formFor};
 ghost use Rattle.codec.specs.Table.{formOf};
 
 // The entry of a second byte, in a table that is lent.
@@ -31,11 +36,45 @@ pub(crate) fn entry_in(table: &[u32; 256], second: u8) -> u32
     table[second as usize]
 }
 
-// The form of a second byte in our table.
-pub(crate) fn form_for(second: u8) -> u32
-    ensures { λ r. ⌜ formOf r ≡ formAt second ⌝ }
+// The first bytes of loops: ADD's, JNZ's, and the first of MOV's and of DEC's.
+const ADD_BYTE: u8 = 0x83;
+
+const JUMP_IF_NOT_ZERO: u8 = 0x75;
+
+const MOVES: u8 = 0xb8;
+
+const DECREMENTS: u8 = 0x48;
+
+// How many first bytes MOV and DEC have each: the last three bits name a register.
+const REGISTERS: u8 = 8;
+
+// The form of a first byte other than 0F.
+pub(crate) fn first_form(first: u8) -> u32
+    ensures { λ r. ⌜ (r ≡ formOfFirst first .number) × (r ≤ 13) ⌝ }
 {
-    TABLE[second as usize] / FORM
+    if first / REGISTERS == MOVES / REGISTERS {
+        return SET;
+    }
+    if first == ADD_BYTE {
+        return ADD;
+    }
+    if first / REGISTERS == DECREMENTS / REGISTERS {
+        return DECREMENT;
+    }
+    if first == JUMP_IF_NOT_ZERO {
+        return JUMP;
+    }
+    ABSENT
+}
+
+// The form of both opcode bytes, of the second by our table.
+pub(crate) fn form_for(first: u8, second: u8) -> u32
+    ensures { λ r. ⌜ formOf r ≡ formFor first second ⌝ }
+{
+    if first == ESCAPE {
+        return TABLE[second as usize] / FORM;
+    }
+    first_form(first)
 }
 
 // The form and the size of the operand in memory.

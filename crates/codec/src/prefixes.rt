@@ -1,10 +1,10 @@
-// The first byte: 0F, or why another is refused, the prefixes by 4, every other by 5.
+// The first byte: 0F, or why one that starts no instruction is refused, the prefixes by 4, every other by 5.
 use crate::refusals::NOT_LISTED;
 use crate::refusals::PREFIXED;
 ghost use Rattle.basis.specs.Names.{_≡_};
 ghost use Rattle.codec.specs.Reads.{refusalOf};
 
-// The first byte of every opcode.
+// The first byte of every opcode of two.
 pub const ESCAPE: u8 = 0x0f;
 
 // The segment prefixes.
@@ -32,7 +32,7 @@ const REPNE: u8 = 0xf2;
 
 const REP: u8 = 0xf3;
 
-// Why an instruction with another first byte than 0F is refused.
+// Why an instruction is refused whose first byte is neither 0F nor one of loops.
 pub(crate) fn first_refusal(first: u8) -> u8
     ensures { λ r. ⌜ r ≡ refusalOf first ⌝ }
 {

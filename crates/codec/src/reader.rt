@@ -4,20 +4,22 @@ use crate::Instruction;
 use crate::Operand;
 use crate::fields;
 use crate::forms::ABSENT;
-use crate::forms::EMMS;
 use crate::forms::FORM;
 use crate::opcodes;
+use crate::prefixes;
+use crate::prefixes::ESCAPE;
 use crate::refusals::CODE_ENDS;
 use crate::refusals::NOT_ALLOWED;
 use crate::refusals::NOT_LISTED;
 ghost use Rattle.basis.specs.Names.{_≡_, _+_, _*_, _≤_, length, take, drop};
 ghost use Rattle.words.specs.Number.{number};
-ghost use Rattle.codec.specs.Table.{formIn};
+ghost use Rattle.codec.specs.Opcodes.{escape};
+ghost use Rattle.codec.specs.Table.{entryOfFirst, formIn};
 ghost use Rattle.codec.specs.Operands.{operandOf};
 ghost use Rattle.codec.specs.inner.Fields.{Sized};
 ghost use Rattle.codec.specs.Reader.{reads};
-ghost use Rattle.codec.specs.Reads.{immediateReader, displacementReader, sibReader, modrmReader, secondReader};
-ghost use Rattle.codec.specs.Finding.{refusedAs, foundIn};
+ghost use Rattle.codec.specs.Reads.{immediateReader, displacementReader, sibReader, modrmReader, firstReader, secondReader};
+ghost use Rattle.codec.specs.Finding.{refusedAs, found, foundIn};
 ghost use Rattle.codec.specs.inner.Entries.{foundAfter};
 
 // A ModRM byte from here on has mod 11.
@@ -173,9 +175,51 @@ fn modrm_at(code: &[u8], at: usize, opcode: Opcode) -> Found
     }
 }
 
-// The second byte, and what follows it by its form.
-pub(crate) fn second_at(table: &[u32; 256], code: &[u8], at: usize, first: u8) -> Found
-    ensures { λ r. ⌜ r ≡ foundIn (now (table .entry)) (reads (secondReader (formIn (now (table .entry))) first) at (drop at (now (code .entry)))) ⌝ }
+// The ModRM byte of ADD, which names a register, and the immediate. (`modrm_at` has one caller and is copied into it; with a second it would not be.)
+fn register_at(code: &[u8], at: usize, opcode: Opcode) -> Found
+    requires { ⌜ opcode .form ≡ 11 ⌝ }
+    ensures { λ r. ⌜ r ≡ foundAfter opcode modrmReader (now (code .entry)) at ⌝ }
+{
+    if code.len() <= at {
+        return refused(CODE_ENDS);
+    }
+    let modrm = code[at];
+    if fields::allowed(
+        opcode.form,
+        modrm / fields::UPPER,
+        modrm / fields::MIDDLE % fields::VALUES,
+        modrm % fields::VALUES,
+    ) {
+        return immediate_at(code, at + 1, opcode, operand_of(modrm, 0, 0));
+    }
+    refused(NOT_ALLOWED)
+}
+
+// What follows a first byte other than 0F, by its form.
+pub(crate) fn first_at(code: &[u8], at: usize, first: u8) -> Found
+    requires { ⌜ at ≤ length (now code) ⌝ }
+    ensures { λ r. ⌜ r ≡ found (entryOfFirst first) (reads (firstReader first) at (drop at (now (code .entry)))) ⌝ }
+{
+    let form = opcodes::first_form(first);
+    if form == ABSENT {
+        return refused(prefixes::first_refusal(first));
+    }
+    let opcode = Opcode {
+        first: first,
+        second: 0,
+        entry: form * FORM,
+        form: form,
+    };
+    if fields::has_operand(form) {
+        register_at(code, at, opcode)
+    } else {
+        immediate_at(code, at, opcode, NO_OPERAND)
+    }
+}
+
+// The second byte, after 0F, and what follows it by its form.
+pub(crate) fn second_at(table: &[u32; 256], code: &[u8], at: usize) -> Found
+    ensures { λ r. ⌜ r ≡ foundIn (now (table .entry)) (reads (secondReader (formIn (now (table .entry))) escape) at (drop at (now (code .entry)))) ⌝ }
 {
     if code.len() <= at {
         return refused(CODE_ENDS);
@@ -184,7 +228,7 @@ pub(crate) fn second_at(table: &[u32; 256], code: &[u8], at: usize, first: u8) -
     let entry = opcodes::entry_in(table, second);
     let form = entry / FORM;
     let opcode = Opcode {
-        first: first,
+        first: ESCAPE,
         second: second,
         entry: entry,
         form: form,
@@ -192,8 +236,9 @@ pub(crate) fn second_at(table: &[u32; 256], code: &[u8], at: usize, first: u8) -
     if form == ABSENT {
         return refused(NOT_LISTED);
     }
-    if form == EMMS {
-        return immediate_at(code, at + 1, opcode, NO_OPERAND);
+    if fields::has_operand(form) {
+        modrm_at(code, at + 1, opcode)
+    } else {
+        immediate_at(code, at + 1, opcode, NO_OPERAND)
     }
-    modrm_at(code, at + 1, opcode)
 }

@@ -3,29 +3,29 @@ use crate::Instruction;
 use crate::Operand;
 use crate::fields;
 use crate::forms::ABSENT;
-use crate::forms::EMMS;
 use crate::prefixes::ESCAPE;
 ghost use Rattle.basis.specs.Names.{_≡_, true, _+_, _≤_, length, sets};
 ghost use Rattle.words.specs.Number.{bytes};
-ghost use Rattle.codec.specs.Opcodes.{formAt};
+ghost use Rattle.codec.specs.Opcodes.{formFor, opcodeBytes};
 ghost use Rattle.codec.specs.Table.{formOf};
 ghost use Rattle.codec.specs.Operands.{joined};
 ghost use Rattle.codec.specs.inner.Fields.{Fields, Sized};
-ghost use Rattle.codec.specs.Fits.{fits, sibFits, operandFits, operandIsZero, partsFit, hasBytes};
+ghost use Rattle.codec.specs.Fits.{fits, sibFits, operandFits, operandIsZero, partsFit, opcodeFits, hasBytes};
 ghost use Rattle.codec.specs.Writes.{sibBytes, operandBytes, bytesOf};
 ghost use Rattle.codec.specs.inner.Fields.{operandSize};
 
 // How many values mod and scale have.
 const UPPER_VALUES: u8 = 4;
 
-// The size of the opcode,
-const OPCODE_SIZE: usize = 2;
+// The sizes of an opcode: one byte, or 0F and another.
+const ONE_BYTE_OPCODE: usize = 1;
 
-// with the ModRM byte,
-const MODRM_SIZE: usize = 3;
+const TWO_BYTE_OPCODE: usize = 2;
 
-// and with the SIB byte.
-const SIB_SIZE: usize = 4;
+// The size of the ModRM byte, alone and with the SIB byte.
+const MODRM_SIZE: usize = 1;
+
+const SIB_SIZE: usize = 2;
 
 // Whether a number fits a field of k bytes; with none it is 0.
 fn field_fits(k: usize, value: u32) -> bool
@@ -124,48 +124,68 @@ fn parts_fit(form: u32, operand: Operand, immediate: u32) -> bool
     if form == ABSENT {
         return false;
     }
-    if form == EMMS {
-        if operand_is_zero(operand) {
-            return immediate == 0;
+    if fields::has_operand(form) {
+        if fields::allowed(form, operand.mode, operand.reg, operand.rm) {
+            if operand_fits(operand) {
+                return field_fits(fields::immediate_size(form), immediate);
+            }
         }
         return false;
     }
-    if fields::allowed(form, operand.mode, operand.reg, operand.rm) {
-        if operand_fits(operand) {
-            return field_fits(fields::immediate_size(form), immediate);
-        }
+    if operand_is_zero(operand) {
+        return field_fits(fields::immediate_size(form), immediate);
     }
     false
 }
 
+// Whether the opcode bytes are 0F and another, or one, and the second is 0.
+fn opcode_fits(first: u8, second: u8) -> bool
+    ensures { λ r. ⌜ r ≡ opcodeFits first second ⌝ }
+{
+    if first == ESCAPE {
+        return true;
+    }
+    second == 0
+}
+
 // Whether any byte string reads as the record.
 pub(crate) fn has_bytes(form: u32, instruction: Instruction) -> bool
-    requires { ⌜ formOf form ≡ formAt (instruction .second) ⌝ }
+    requires { ⌜ formOf form ≡ formFor (instruction .first) (instruction .second) ⌝ }
     ensures { λ r. ⌜ r ≡ hasBytes instruction ⌝ }
 {
-    if instruction.first != ESCAPE {
-        return false;
+    if opcode_fits(instruction.first, instruction.second) {
+        let operand = instruction.operand;
+        return parts_fit(form, operand, instruction.immediate);
     }
-    let operand = instruction.operand;
-    parts_fit(form, operand, instruction.immediate)
+    false
+}
+
+// How many bytes the opcode has.
+fn opcode_size(instruction: Instruction) -> usize
+    ensures { λ r. ⌜ (r ≡ length (opcodeBytes (instruction .first) (instruction .second))) × (r ≤ 2) ⌝ }
+{
+    if instruction.first == ESCAPE {
+        return TWO_BYTE_OPCODE;
+    }
+    ONE_BYTE_OPCODE
 }
 
 // How many bytes the record has.
 pub(crate) fn size_of(form: u32, instruction: Instruction) -> usize
-    requires { ⌜ (formOf form ≡ formAt (instruction .second)) × (hasBytes instruction ≡ true) ⌝ }
+    requires { ⌜ formOf form ≡ formFor (instruction .first) (instruction .second) ⌝ }
     ensures { λ r. ⌜ r ≡ length (bytesOf instruction) ⌝ }
 {
-    if form == EMMS {
-        return OPCODE_SIZE;
+    let start = opcode_size(instruction);
+    let j = fields::immediate_size(form);
+    if fields::has_operand(form) {
+        let operand = instruction.operand;
+        let k = fields::displacement_size(operand.mode, operand.rm, operand.base) + j;
+        if fields::sib_follows(operand.mode, operand.rm) {
+            return start + SIB_SIZE + k;
+        }
+        return start + MODRM_SIZE + k;
     }
-    let operand = instruction.operand;
-    let k = fields::displacement_size(operand.mode, operand.rm, operand.base)
-        + fields::immediate_size(form);
-    if fields::sib_follows(operand.mode, operand.rm) {
-        SIB_SIZE + k
-    } else {
-        MODRM_SIZE + k
-    }
+    start + j
 }
 
 // A byte of three fields.
@@ -221,18 +241,31 @@ fn put_operand(buffer: &mut [u8], at: usize, operand: Operand) -> usize
     next + k
 }
 
-// The bytes of a record that has bytes, at the start of a buffer that has room for them.
-pub(crate) fn put(buffer: &mut [u8], form: u32, instruction: Instruction)
-    requires { ⌜ (formOf form ≡ formAt (instruction .second)) × ((length (bytesOf instruction) ≤ length (now buffer)) × (hasBytes instruction ≡ true)) ⌝ }
-    ensures { λ _. ⌜ now (buffer .exit) ≡ sets (now (buffer .entry)) 0 (bytesOf instruction) ⌝ }
+// The opcode bytes, at the start. The position after them.
+fn put_opcode(buffer: &mut [u8], instruction: Instruction) -> usize
+    requires { ⌜ length (opcodeBytes (instruction .first) (instruction .second)) ≤ length (now buffer) ⌝ }
+    ensures { λ r. ⌜ (r ≡ length (opcodeBytes (instruction .first) (instruction .second))) × (now (buffer .exit) ≡ sets (now (buffer .entry)) 0 (opcodeBytes (instruction .first) (instruction .second))) ⌝ }
 {
     buffer[0] = instruction.first;
-    buffer[1] = instruction.second;
-    if form == EMMS {
+    if instruction.first == ESCAPE {
+        buffer[1] = instruction.second;
+        return TWO_BYTE_OPCODE;
+    }
+    ONE_BYTE_OPCODE
+}
+
+// The bytes of a record that has bytes, at the start of a buffer that has room for them.
+pub(crate) fn put(buffer: &mut [u8], form: u32, instruction: Instruction)
+    requires { ⌜ (formOf form ≡ formFor (instruction .first) (instruction .second)) × ((length (bytesOf instruction) ≤ length (now buffer)) × (hasBytes instruction ≡ true)) ⌝ }
+    ensures { λ _. ⌜ now (buffer .exit) ≡ sets (now (buffer .entry)) 0 (bytesOf instruction) ⌝ }
+{
+    let start = put_opcode(buffer, instruction);
+    let k = fields::immediate_size(form);
+    if fields::has_operand(form) {
+        let operand = instruction.operand;
+        let next = put_operand(buffer, start, operand);
+        put_number(buffer, next, k, instruction.immediate);
         return;
     }
-    let operand = instruction.operand;
-    let next = put_operand(buffer, OPCODE_SIZE, operand);
-    let k = fields::immediate_size(form);
-    put_number(buffer, next, k, instruction.immediate);
+    put_number(buffer, start, k, instruction.immediate);
 }

@@ -1,12 +1,13 @@
-// Likely code: mostly instructions of the table, with operands that may lie in the memory.
+// Likely code: mostly instructions of the table, with operands that may lie in the memory, and as many of loops.
 ghost use Rattle.basis.specs.Names.{_≤_, length};
 use crate::dice::any_byte;
+use crate::dice::is_half;
 use crate::dice::is_rare;
 use crate::dice::roll;
 use crate::put::put;
 use crate::put::put_small;
 
-// The first byte of every opcode, and the second bytes.
+// The first byte of every opcode of the table, and the second bytes.
 const ESCAPE: u8 = 0x0f;
 
 const SECONDS: u64 = 68;
@@ -92,6 +93,29 @@ const REGISTERS: u8 = 0xc0;
 
 const SIB: u8 = 4;
 
+// The first bytes of loops. A move and a decrement name a register in their low bits, an add in a ModRM byte of mode 11.
+const MOVE: u8 = 0xb8;
+
+const ADD: u8 = 0x83;
+
+const DECREMENT: u8 = 0x48;
+
+const JUMP: u8 = 0x75;
+
+// The bytes of a move's number, how many registers there are, and how many sorts of instructions.
+const NUMBER_BYTES: usize = 4;
+
+const NUMBERED: u64 = 8;
+
+const SORTS: u64 = 4;
+
+// The byte of a jump to the decrement before it, how much less it is for each instruction more that the jump leads back over, and how many there are.
+const TO_DECREMENT: u8 = 0xfd;
+
+const FURTHER: u8 = 3;
+
+const DISTANCES: u64 = 4;
+
 // Mostly 0F.
 fn first_byte(dice: &mut u64) -> u8 {
     if is_rare(dice) {
@@ -139,14 +163,58 @@ fn put_operand(file: &mut [u8], at: usize, dice: &mut u64) -> usize
     put_small(file, start, dice, following(modrm))
 }
 
-// A likely instruction.
-fn put_instruction(file: &mut [u8], at: usize, dice: &mut u64) -> usize
+// Mostly back, over no instruction or a few.
+fn distance(dice: &mut u64) -> u8 {
+    if is_rare(dice) {
+        return any_byte(dice);
+    }
+    TO_DECREMENT - FURTHER * roll(dice, DISTANCES) as u8
+}
+
+// An instruction of loops; a jump has a decrement before it.
+fn put_of_loops(file: &mut [u8], at: usize, dice: &mut u64) -> usize
+    requires { ⌜ at ≤ length (now file) ⌝ }
+    ensures { λ r. ⌜ (at ≤ r) × (r ≤ length (now (file .entry))) ⌝ }
+{
+    let register = roll(dice, NUMBERED) as u8;
+    match roll(dice, SORTS) {
+        0 => {
+            let number = put(file, at, MOVE + register);
+            put_small(file, number, dice, NUMBER_BYTES)
+        }
+        1 => {
+            let modrm = put(file, at, ADD);
+            let number = put(file, modrm, REGISTERS + register);
+            put(file, number, any_byte(dice))
+        }
+        2 => put(file, at, DECREMENT + register),
+        _ => {
+            let jump = put(file, at, DECREMENT + register);
+            let byte = put(file, jump, JUMP);
+            put(file, byte, distance(dice))
+        }
+    }
+}
+
+// An instruction of the table.
+fn put_listed(file: &mut [u8], at: usize, dice: &mut u64) -> usize
     requires { ⌜ at ≤ length (now file) ⌝ }
     ensures { λ r. ⌜ (at ≤ r) × (r ≤ length (now (file .entry))) ⌝ }
 {
     let second = put(file, at, first_byte(dice));
     let modrm = put(file, second, second_byte(dice));
     put_operand(file, modrm, dice)
+}
+
+// A likely instruction.
+fn put_instruction(file: &mut [u8], at: usize, dice: &mut u64) -> usize
+    requires { ⌜ at ≤ length (now file) ⌝ }
+    ensures { λ r. ⌜ (at ≤ r) × (r ≤ length (now (file .entry))) ⌝ }
+{
+    if is_half(dice) {
+        return put_of_loops(file, at, dice);
+    }
+    put_listed(file, at, dice)
 }
 
 // So many likely instructions.

@@ -48,8 +48,8 @@ const BASE: usize = 256;
 // Most files and fields are shorter than this.
 const SHORT: u64 = 1024;
 
-// The marks are below 16: one more is refused.
-const MARK_SIDES: u64 = 17;
+// The marks are below 32: one more is refused.
+const MARK_SIDES: u64 = 33;
 
 // A likely code has fewer instructions than this.
 const INSTRUCTIONS: u64 = 12;

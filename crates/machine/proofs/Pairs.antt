@@ -18,6 +18,7 @@ use Rattle.codec.specs.Reads.{immediateReader, displacementReader, sibReader, m
 use Rattle.manual.specs.Addresses.{displacementOf, baseOf, addressOf, address}
 use Rattle.manual.specs.Locations.{rmOf}
 use Rattle.manual.specs.Instructions.{effectOf, execute, footprint}
+use Rattle.manual.specs.Jumps.{next}
 use Rattle.manual.specs.Steps.{instructionAt}
 use Rattle.manual.specs.Runs.{read, runOf}
 use Rattle.manual.specs.Footprints.{footprintAt, footprintInRun, Meets}
@@ -55,7 +56,7 @@ pub record Found : Type 0 where
 
 -- (footprints are taken where a run of so many instructions comes to, so these compute runs)
 pub found : Found
-unfolding lane build register clamp clampUnsigned packed pairwise sumUnsigned operate allows formAt operationAt hasSib displacementSize immediateReader displacementReader sibReader modrmReader formReader secondReader instructionReader readAt displacementOf baseOf addressOf address rmOf effectOf execute footprint instructionAt read runOf footprintAt overlap share meet
+unfolding lane build register clamp clampUnsigned packed pairwise sumUnsigned operate allows formAt operationAt hasSib displacementSize immediateReader displacementReader sibReader modrmReader formReader secondReader instructionReader readAt displacementOf baseOf addressOf address rmOf effectOf next execute footprint instructionAt read runOf footprintAt overlap share meet
 found = record { pairs = refl; unturned = refl; turned = refl }
 
 -- the allowed order is one, and keeps every pair that meets
@@ -71,7 +72,7 @@ allowed-keeps i j p q earlier j-in p-in q-in at-p at-q m =
 
 -- so demand 3 says what it leaves, and its run is not looked at
 pub allowed-leaves : runOf 0 (rearranged read block allowed) 4096 start ≡ finished 17 5 final
-allowed-leaves = demand-3 0 block allowed 4096 17 5 start final (computed .block) allowed-new allowed-keeps
+allowed-leaves = demand-3 0 block allowed 4096 17 5 start final (computed .straight) (computed .block) allowed-new allowed-keeps
 
 -- the forbidden order is one, and turns 2 and 4 round
 pub forbidden-new : NewOrder 5 forbidden

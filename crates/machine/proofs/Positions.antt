@@ -1,8 +1,8 @@
 -- The footprint of the step at a position, with nothing assumed of it: its ranges say which bytes it reads and writes, and the program's test of
 -- two is true exactly where they meet.
-use Rattle.basis.specs.Names.{_≡_, true, List, List·Memᴰ as In, ℕ, _+_, _≤_, _<_}
+use Rattle.basis.specs.Names.{_≡_, true, List, List·Memᴰ as In, ℕ, _+_, _≤_, _<_, length}
 use Rattle.basis.proofs.Names.{subst, _↔_}
-use Rattle.reorder.specs.Result.{Result, done, refused, andThen}
+use Rattle.reorder.specs.Result.{Result, done, refused, andThen, mapResult}
 use Rattle.reorder.specs.Footprint as places
 use Rattle.reorder.specs.Run.{Fetched, positionReached, stateReached}
 use Rattle.codec.specs.declared.Instruction.{Instruction}
@@ -10,6 +10,7 @@ use Rattle.codec.specs.declared.Kind.{Kind}
 use Rattle.manual.specs.State.{State}
 use Rattle.manual.specs.Places.{Place, byte}
 use Rattle.manual.specs.Instructions.{footprint}
+use Rattle.manual.specs.Jumps.{next}
 use Rattle.manual.specs.Steps.{instructionAt}
 use Rattle.manual.specs.Runs.{runOf}
 use Rattle.manual.specs.Footprints.{footprintAt, footprintInRun, Meets}
@@ -19,13 +20,20 @@ use Rattle.machine.proofs.laws.meetings.Ranges.{OneRange, RangedFootpri
 use Rattle.machine.proofs.laws.meetings.Masking.{byte-masked}
 use Rattle.machine.proofs.laws.meetings.Meeting.{meet-exactly}
 
-ranged-reading : (floor : ℕ) (o : Result (Fetched Instruction)) (s : State) → RangedFootprint (andThen o (λ r. footprint floor (r .instruction) s))
-ranged-reading floor (done r) s = ranged floor s (r .instruction)
-ranged-reading floor (refused n) s = tt
+-- wherever the run goes on
+ranged-onward : (o : Result (places.Footprint Place Kind)) (further : Result ℕ) → RangedFootprint o → RangedFootprint (andThen o (λ f. mapResult (λ position. f) further))
+ranged-onward (done f) (done position) h = h
+ranged-onward (done f) (refused n) h = tt
+ranged-onward (refused n) further h = tt
 
 ranged-at : (floor : ℕ) (code : List ℕ) (at : ℕ) (s : State) → RangedFootprint (footprintAt floor code at s)
 unfolding footprintAt
-ranged-at floor code at s = ranged-reading floor (instructionAt floor code at s) s
+ranged-at floor code at s = by (instructionAt floor code at s)
+  where
+    by : (o : Result (Fetched Instruction))
+        → RangedFootprint (andThen o (λ r. andThen (footprint floor (r .instruction) s) (λ f. mapResult (λ position. f) (next (length code) (r .instruction) s (at + r .size)))))
+    by (done r) = ranged-onward (footprint floor (r .instruction) s) (next (length code) (r .instruction) s (at + r .size)) (ranged floor s (r .instruction))
+    by (refused n) = tt
 
 -- a byte lies in the range of these places
 abbrev pub Covers : Places → ℕ → Type 0

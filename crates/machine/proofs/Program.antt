@@ -1,4 +1,5 @@
--- Demand 3 of the program itself: over calls of Machine::run, Machine::footprint and meets, by what they hand back; and such calls can be had.
+-- Demand 3 of the program itself, of a block without a jump: over calls of Machine::run, Machine::footprint and meets, by what they hand back; and
+-- such calls can be had.
 use Rattle.basis.specs.Names.{_≡_, refl, Bool, true, List, [], map, flatten, ℕ, suc, _≤_, _<_}
 use Rattle.basis.proofs.Names.{sym, ap, ap₂, _∙_, false≢true, arith}
 use Rattle.reorder.specs.Result.{Result, done, refused, mapResult}
@@ -11,7 +12,7 @@ use Rattle.codec.specs.declared.Kind.{Kind}
 use Rattle.codec.specs.declared.Kind.the-variants.{Ordinary}
 use Rattle.manual.specs.State.{State}
 use Rattle.manual.specs.Places.{Place}
-use Rattle.manual.specs.Runs.{read, runOf}
+use Rattle.manual.specs.Runs.{read, runOf, hasNoJump}
 use Rattle.manual.specs.Footprints.{footprintAt, footprintInRun}
 use Rattle.manual.proofs.Demand3.{positionInRun, part, map-alike, footprint-asked, has-footprint, rearranged-parts}
 use Rattle.machine.specs.declared.Machine.{Machine}
@@ -74,7 +75,8 @@ pub record Recorded (machine : Machine) (code memory : List ℕ) (floor budget :
   pub meeting : ℕ → ℕ → Bool
   pub meeting-of : (i j : ℕ) → i < j → j < whole .count → MeetsCall (footprints i) (footprints j) (meeting i j)
 
-module _ (machine : Machine) (code memory : List ℕ) (floor budget : ℕ) (whole : Ran) (after : List ℕ) (known : Recorded machine code memory floor budget whole after) where
+module _ (machine : Machine) (code memory : List ℕ) (floor budget : ℕ) (whole : Ran) (after : List ℕ) (known : Recorded machine code memory floor budget whole after)
+    (straight : hasNoJump code ≡ true) where
   -- the block in a new order: of each instruction the bytes from where the run before it came to, to where the run with it did
   abbrev pub moved : List ℕ → List ℕ
   moved order = flatten (map (λ k. part code (known .runs k .at) (known .runs (suc k) .at)) order)
@@ -98,7 +100,7 @@ module _ (machine : Machine) (code memory : List ℕ) (floor budget : ℕ) (whol
 
   same-block : (order : List ℕ) → NewOrder (whole .count) order → rearranged read code order ≡ moved order
   same-block order new =
-      rearranged-parts floor code budget (whole .at) (whole .count) start (stateOf (whole .machine) after) finishes order new
+      rearranged-parts floor code budget (whole .at) (whole .count) start (stateOf (whole .machine) after) straight finishes order new
       ∙ ap flatten (map-alike _ _ order (λ k m.
       let b : k < whole .count = order-below (whole .count) order new k m in
       ap₂ (part code) (position-of k (omega arith)) (position-of (suc k) (omega arith))))
@@ -112,7 +114,7 @@ module _ (machine : Machine) (code memory : List ℕ) (floor budget : ℕ) (whol
   demand-3-run order again after′ new keeps call = run-given again whole after′ after
       (run-says machine (moved order) memory floor budget again after′ call
       ∙ ap (λ (c : List ℕ). runOf floor c budget start) (sym (same-block order new))
-      ∙ demand-3-tested floor code order budget (whole .at) (whole .count) start (stateOf (whole .machine) after) finishes new kept
+      ∙ demand-3-tested floor code order budget (whole .at) (whole .count) start (stateOf (whole .machine) after) straight finishes new kept
       ∙ sym finishes ∙ sym (run-says machine code memory floor budget whole after (known .ran)))
     where
       kept : Keeps (whole .count) order (λ i j. meetTest (footprintInRun floor code start i) (footprintInRun floor code start j) ≡ true)

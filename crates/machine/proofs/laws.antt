@@ -7,6 +7,7 @@ pub mod operands
 pub mod pointers
 pub mod picking
 pub mod gathering
+pub mod loops
 pub mod quick
 pub mod stepping
 pub mod running

@@ -1,10 +1,11 @@
--- A footprint in the form that the program hands out: registers as masks, memory bytes as a range; and the test whether two of them meet.
-use Rattle.basis.specs.Names.{Bool, false, not, _&&_, _||_, List, [], _∷_, _++_, ℕ, _+_, _^_, bitAnd, bitOr, eqb, ltb, length, getD}
+-- A footprint in the form that the program hands out: registers as masks, memory bytes as a range, the zero mark; and the test whether two of them
+-- meet.
+use Rattle.basis.specs.Names.{Bool, true, false, not, _&&_, _||_, List, [], _∷_, _++_, ℕ, _+_, _^_, bitAnd, bitOr, eqb, ltb, length, getD}
 use Rattle.reorder.specs.Result.{Result, done, refused, mapResult}
 use Rattle.reorder.specs.Footprint as places
 use Rattle.codec.specs.declared.Kind.{Kind}
 use Rattle.manual.specs.State.{State}
-use Rattle.manual.specs.Places.{Place, mmx, integer, byte}
+use Rattle.manual.specs.Places.{Place, mmx, integer, byte, zeroMark}
 use Rattle.manual.specs.Kinds.{kindsMeet}
 use Rattle.manual.specs.Footprints.{footprintAt}
 use Rattle.machine.specs.declared.Places.{Places}
@@ -18,16 +19,19 @@ abbrev pub mmxNumber : Place → List ℕ
 mmxNumber (mmx k) = k ∷ []
 mmxNumber (integer k) = []
 mmxNumber (byte a) = []
+mmxNumber zeroMark = []
 
 abbrev pub integerNumber : Place → List ℕ
 integerNumber (mmx k) = []
 integerNumber (integer k) = k ∷ []
 integerNumber (byte a) = []
+integerNumber zeroMark = []
 
 abbrev pub byteNumber : Place → List ℕ
 byteNumber (mmx k) = []
 byteNumber (integer k) = []
 byteNumber (byte a) = a ∷ []
+byteNumber zeroMark = []
 
 -- the numbers of all places of a sort
 abbrev pub numbersOf : (Place → List ℕ) → List Place → List ℕ
@@ -36,6 +40,18 @@ numbersOf number (p ∷ ps) = number p ++ numbersOf number ps
 
 abbrev pub bytesOf : List Place → List ℕ
 bytesOf ps = numbersOf byteNumber ps
+
+-- whether the zero mark is among them
+
+abbrev pub isZeroMark : Place → Bool
+isZeroMark (mmx k) = false
+isZeroMark (integer k) = false
+isZeroMark (byte a) = false
+isZeroMark zeroMark = true
+
+abbrev pub hasZeroMark : List Place → Bool
+hasZeroMark [] = false
+hasZeroMark (p ∷ ps) = isZeroMark p || hasZeroMark ps
 
 -- bit k is set for each k
 abbrev pub mask : List ℕ → ℕ
@@ -49,6 +65,7 @@ setOf ps =
       integers = mask (numbersOf integerNumber ps);
       start = getD (bytesOf ps) 0 0;
       length = length (bytesOf ps);
+      zero = hasZeroMark ps;
     }
 
 abbrev pub masked : places.Footprint Place Kind → Footprint
@@ -73,6 +90,7 @@ share p q =
     not (eqb (bitAnd (p .mmx) (q .mmx)) 0)
     || not (eqb (bitAnd (p .integers) (q .integers)) 0)
     || overlap (p .start) (p .length) (q .start) (q .length)
+    || (p .zero && q .zero)
 
 -- one writes a place that the other reads or writes, or their kinds meet: either is EMMS, and neither a prefetch or SFENCE
 unfoldable pub meet : Footprint → Footprint → Bool

@@ -17,9 +17,9 @@ eight field size =
 abbrev pub markAt : ℕ → ℕ → Bool
 markAt k marks = eqb (marks / 2 ^ k % 2) 1
 
--- bit 0 is EM, 1 TS, 2 pending, 3 the tag mark
+-- bit 0 is EM, 1 TS, 2 pending, 3 the tag mark, 4 the zero mark
 abbrev pub marksOf : ℕ → Marks
-marksOf marks = record { valid = markAt 3 marks; em = markAt 0 marks; ts = markAt 1 marks; pending = markAt 2 marks }
+marksOf marks = record { valid = markAt 3 marks; zero = markAt 4 marks; em = markAt 0 marks; ts = markAt 1 marks; pending = markAt 2 marks }
 
 -- MMX registers of 8 bytes, integer registers of 4
 unfoldable pub startOf : List ℕ → List ℕ → ℕ → Machine

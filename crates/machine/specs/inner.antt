@@ -6,4 +6,5 @@ pub mod Picks
 pub mod Reaches
 pub mod Pointers
 pub mod Quick
+pub mod Loops
 pub mod Runs

@@ -14,7 +14,7 @@ const SIGN: u32 = 0x80;
 
 const SIGN_EXTENSION: u32 = 0xffffff00;
 
-fn extended(mode: u8, displacement: u32) -> u32
+pub(crate) fn extended(mode: u8, displacement: u32) -> u32
     ensures { λ r. ⌜ r ≡ displacementOf mode displacement % 2 ^ 32 ⌝ }
 {
     if mode != BYTE_DISPLACEMENT {

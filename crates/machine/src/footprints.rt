@@ -4,6 +4,7 @@ use crate::Machine;
 use crate::Places;
 use crate::Tracing;
 use crate::gathering;
+use crate::loops;
 use crate::operands::AT_EDI;
 use crate::reaches;
 use crate::reaches::Reach;
@@ -15,6 +16,7 @@ use codec::Instruction;
 use codec::Kind;
 use codec::Operand;
 use codec::forms::FORM;
+use codec::prefixes::ESCAPE;
 use codec::refusals::CODE_TOO_LONG;
 use codec::refusals::LONGEST_CODE;
 ghost use Rattle.basis.specs.Names.{_≡_};
@@ -33,6 +35,7 @@ fn ordinary(registers: u8, reads: Places, writes: Places) -> Footprint
         integers: registers | reads.integers,
         start: reads.start,
         length: reads.length,
+        zero: reads.zero,
     };
     Footprint {
         reads: joined,
@@ -140,12 +143,21 @@ impl Machine {
         if refusal != 0 {
             return Tracing::Refused(refusal);
         }
+        let instruction = found.instruction;
+        if instruction.first != ESCAPE {
+            return loops::traced(
+                self.marks.zero,
+                found.entry,
+                instruction,
+                code.len(),
+                found.next,
+            );
+        }
         let bar = gathering::barred(self.marks);
         let stop = gathering::stopping(bar, found.entry);
         if stop != 0 {
             return Tracing::Refused(stop);
         }
-        let instruction = found.instruction;
         unmarked(self, found.entry, instruction, memory)
     }
 }

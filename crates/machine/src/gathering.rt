@@ -1,4 +1,5 @@
 // The instruction at a position is read and its operands are gathered; what remains to be done is then plain numbers. Nothing is written here.
+use crate::loops;
 use crate::operands;
 use crate::operands::Spot;
 use crate::picking;
@@ -14,9 +15,11 @@ use codec::Operand;
 use codec::forms::FORM;
 use codec::forms::LANE;
 use codec::forms::PART;
+use codec::prefixes::ESCAPE;
 use lanes::MOVE;
 use manual::Marks;
 ghost use Rattle.basis.specs.Names.{_≡_, true, _/_, _%_, _^_, _≤_, length, getD};
+ghost use Rattle.reorder.specs.Result.{done};
 ghost use Rattle.codec.specs.inner.Fields.{Registers};
 ghost use Rattle.codec.specs.Table.{opcodeTable};
 ghost use Rattle.codec.specs.Reads.{longestCode};
@@ -60,8 +63,14 @@ pub(crate) const EMPTY: u8 = 3;
 // Nothing, and it completes.
 pub(crate) const PASS: u8 = 4;
 
+// The value's low half to the integer register of that place; the tag mark stays.
+pub(crate) const SET: u8 = 5;
+
+// The same, and the zero mark says whether it is 0.
+pub(crate) const COUNT: u8 = 6;
+
 // Nothing: the refusal of that number.
-const REFUSE: u8 = 5;
+const REFUSE: u8 = 7;
 
 pub(crate) fn work_of(what: u8, number: u8, place: usize, value: u64, next: usize) -> Work
     ensures { λ r. ⌜ r ≡ workOf what number place value next ⌝ }
@@ -101,7 +110,7 @@ pub(crate) fn barred(marks: Marks) -> u8
 pub(crate) fn stopping(bar: u8, entry: u32) -> u8
     ensures { λ r. ⌜ r ≡ stoppingBy bar (entry / 2 ^ 24) ⌝ }
 {
-    if ways::is_silent(entry / FORM) {
+    if ways::is_unstopped(entry / FORM) {
         return 0;
     }
     bar
@@ -191,7 +200,7 @@ fn sorted(
     memory: &[u8],
 ) -> Work
     requires { ⌜ Registers (instruction .operand) × Listed entry ⌝ }
-    ensures { λ r. ⌜ Does r (now (mmx .entry)) (now (integers .entry)) (now (memory .entry)) (effectIn entry instruction) next ⌝ }
+    ensures { λ r. ⌜ Does r (now (mmx .entry)) (now (integers .entry)) (now (memory .entry)) (effectIn entry instruction) (done next) ⌝ }
 {
     let operand = instruction.operand;
     match ways::way_of(entry / FORM) {
@@ -226,20 +235,21 @@ fn sorted(
     }
 }
 
-// The instruction at a position: at once, if it can be; else the reader's refusals, then `bar`, that of the control marks or 0, where they stop it, then
-// that of its operand.
+// The instruction at a position: at once, if it can be; else the reader's refusals, then what one of loops does by the zero mark, then `bar`, the
+// refusal of the control marks or 0, where they stop it, then that of its operand.
 pub(crate) fn gathered(
     table: &[u32; 256],
     quick: &[u32; 256],
     mmx: &[u64; 8],
     integers: &[u32; 8],
     bar: u8,
+    zero: bool,
     code: &[u8],
     at: usize,
     memory: &[u8],
 ) -> Work
     requires { ⌜ (now table ≡ opcodeTable) × (Opened bar (now quick) × ((length (now code) ≤ longestCode) × (length (now memory) ≤ longestMemory))) ⌝ }
-    ensures { λ r. ⌜ Gathered r (now (mmx .entry)) (now (integers .entry)) bar (now (code .entry)) at (now (memory .entry)) ⌝ }
+    ensures { λ r. ⌜ Gathered r (now (mmx .entry)) (now (integers .entry)) bar zero (now (code .entry)) at (now (memory .entry)) ⌝ }
 {
     let work = quick::at_once(quick, mmx, integers, code, at, memory);
     let what = work.what;
@@ -251,10 +261,20 @@ pub(crate) fn gathered(
     if refusal != 0 {
         return refused(refusal);
     }
+    let instruction = found.instruction;
+    if instruction.first != ESCAPE {
+        return loops::looped(
+            integers,
+            zero,
+            found.entry,
+            instruction,
+            code.len(),
+            found.next,
+        );
+    }
     let stop = stopping(bar, found.entry);
     if stop != 0 {
         return refused(stop);
     }
-    let instruction = found.instruction;
     sorted(mmx, integers, found.entry, instruction, found.next, memory)
 }

@@ -2,6 +2,7 @@
 mod addresses;
 mod footprints;
 mod gathering;
+mod loops;
 mod meetings;
 mod misses;
 mod operands;
@@ -58,12 +59,13 @@ pub struct Ran {
     pub machine: Machine,
 }
 
-// Places: registers as masks, bit k for register k, and memory bytes as a range (without bytes it starts at 0).
+// Places: registers as masks, bit k for register k, memory bytes as a range (without bytes it starts at 0), and the zero mark.
 pub struct Places {
     pub mmx: u8,
     pub integers: u8,
     pub start: usize,
     pub length: usize,
+    pub zero: bool,
 }
 
 // What a step reads and writes.

@@ -32,7 +32,13 @@ fn shares(one: Places, other: Places) -> bool
     if one.integers & other.integers != 0 {
         return true;
     }
-    overlaps(one.start, one.length, other.start, other.length)
+    if overlaps(one.start, one.length, other.start, other.length) {
+        return true;
+    }
+    if one.zero {
+        return other.zero;
+    }
+    false
 }
 
 // EMMS meets every instruction but the silent ones, which meet none.
@@ -44,13 +50,21 @@ fn kinds_meet(one: Kind, other: Kind) -> bool
             Kind::Emms => true,
             Kind::Ordinary => true,
             Kind::Silent => false,
+            Kind::Loop => true,
         },
         Kind::Ordinary => match other {
             Kind::Emms => true,
             Kind::Ordinary => false,
             Kind::Silent => false,
+            Kind::Loop => false,
         },
         Kind::Silent => false,
+        Kind::Loop => match other {
+            Kind::Emms => true,
+            Kind::Ordinary => false,
+            Kind::Silent => false,
+            Kind::Loop => false,
+        },
     }
 }
 

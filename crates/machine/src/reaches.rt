@@ -20,6 +20,7 @@ pub(crate) const NOWHERE: Places = Places {
     integers: 0,
     start: 0,
     length: 0,
+    zero: false,
 };
 
 // Where an operand is: the mask of its address registers and its places; or its refusal.
@@ -38,6 +39,7 @@ pub(crate) fn with_register(register: u8, places: Places) -> Places
         integers: places.integers,
         start: places.start,
         length: places.length,
+        zero: places.zero,
     }
 }
 
@@ -51,6 +53,7 @@ pub(crate) fn of_integer(register: u8) -> Places
         integers: register_masks::bit(register),
         start: 0,
         length: 0,
+        zero: false,
     }
 }
 
@@ -72,6 +75,7 @@ pub(crate) fn reach_operand(machine: Machine, entry: u32, operand: Operand, memo
                 integers: 0,
                 start: address,
                 length: size as usize,
+                zero: false,
             },
         ),
         Spot::Refused(refusal) => Reach::Refused(refusal),

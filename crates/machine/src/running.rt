@@ -66,6 +66,7 @@ impl Machine {
                 &mut integers,
                 bar,
                 marks.valid,
+                marks.zero,
                 code,
                 at,
                 memory,
@@ -86,6 +87,7 @@ impl Machine {
                 };
             }
             marks.valid = moved.valid;
+            marks.zero = moved.zero;
             remaining -= 1;
         }
         Ran {

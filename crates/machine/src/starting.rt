@@ -18,6 +18,8 @@ const PENDING: u8 = 4;
 
 const VALID: u8 = 8;
 
+const ZERO: u8 = 16;
+
 fn quadword(field: &[u8], k: usize) -> u64
     requires { ⌜ k < 8 ⌝ }
     ensures { λ r. ⌜ r ≡ nth (now (field .entry)) 8 k ⌝ }
@@ -74,6 +76,7 @@ impl Machine {
             integers: others,
             marks: Marks {
                 valid: marks / VALID % 2 == 1,
+                zero: marks / ZERO % 2 == 1,
                 em: marks / EM % 2 == 1,
                 ts: marks / TS % 2 == 1,
                 pending: marks / PENDING % 2 == 1,

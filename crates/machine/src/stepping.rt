@@ -8,11 +8,12 @@ ghost use Rattle.manual.specs.State.{longestMemory};
 ghost use Rattle.machine.specs.inner.Quick.{Opened};
 ghost use Rattle.machine.specs.inner.Works.{Advanced};
 
-// How a step ended: the refusal or 0, the position after it and, where it completed, the tag mark.
+// How a step ended: the refusal or 0, the position where the run goes on and, where it completed, the tag mark and the zero mark.
 pub(crate) struct Moved {
     pub(crate) refusal: u8,
     pub(crate) next: usize,
     pub(crate) valid: bool,
+    pub(crate) zero: bool,
 }
 
 // The low half of a value goes to an integer register.
@@ -23,8 +24,8 @@ fn put_low(integers: &mut [u32; 8], register: usize, value: u64)
     integers[register] = (value % gathering::DOUBLEWORD_RANGE) as u32;
 }
 
-// The step at a position over a floor, where memory, floor and code are within their limits, `bar` is the refusal of the control marks, or 0, and
-// `valid` the tag mark.
+// The step at a position over a floor, where memory, floor and code are within their limits, `bar` is the refusal of the control marks, or 0, `valid`
+// the tag mark and `zero` the zero mark.
 pub(crate) fn advance(
     table: &[u32; 256],
     quick: &[u32; 256],
@@ -32,21 +33,23 @@ pub(crate) fn advance(
     integers: &mut [u32; 8],
     bar: u8,
     valid: bool,
+    zero: bool,
     code: &[u8],
     at: usize,
     memory: &mut [u8],
     floor: usize,
 ) -> Moved
     requires { ⌜ (now table ≡ opcodeTable) × (Opened bar (now quick) × ((length (now code) ≤ longestCode) × ((length (now memory) ≤ longestMemory) × (floor ≤ length (now memory))))) ⌝ }
-    ensures { λ r. ⌜ Advanced r (now (mmx .entry)) (now (integers .entry)) bar valid (now (code .entry)) at (now (memory .entry)) floor (now (mmx .exit)) (now (integers .exit)) (now (memory .exit)) ⌝ }
+    ensures { λ r. ⌜ Advanced r (now (mmx .entry)) (now (integers .entry)) bar valid zero (now (code .entry)) at (now (memory .entry)) floor (now (mmx .exit)) (now (integers .exit)) (now (memory .exit)) ⌝ }
 {
-    let work = gathering::gathered(table, quick, mmx, integers, bar, code, at, memory);
+    let work = gathering::gathered(table, quick, mmx, integers, bar, zero, code, at, memory);
     let what = work.what;
     let place = work.place;
     let completed = Moved {
         refusal: 0,
         next: work.next,
         valid: true,
+        zero: zero,
     };
     if what == gathering::OPERATE {
         mmx[place] = lanes::operate(work.number, mmx[place], work.value);
@@ -58,6 +61,7 @@ pub(crate) fn advance(
                 refusal: BELOW_FLOOR,
                 next: at,
                 valid: true,
+                zero: zero,
             };
         }
         let size = work.number;
@@ -78,6 +82,7 @@ pub(crate) fn advance(
             refusal: 0,
             next: work.next,
             valid: false,
+            zero: zero,
         };
     }
     if what == gathering::PASS {
@@ -85,11 +90,31 @@ pub(crate) fn advance(
             refusal: 0,
             next: work.next,
             valid: valid,
+            zero: zero,
+        };
+    }
+    if what == gathering::SET {
+        put_low(integers, place, work.value);
+        return Moved {
+            refusal: 0,
+            next: work.next,
+            valid: valid,
+            zero: zero,
+        };
+    }
+    if what == gathering::COUNT {
+        put_low(integers, place, work.value);
+        return Moved {
+            refusal: 0,
+            next: work.next,
+            valid: valid,
+            zero: work.value % gathering::DOUBLEWORD_RANGE == 0,
         };
     }
     Moved {
         refusal: work.number,
         next: at,
         valid: true,
+        zero: zero,
     }
 }

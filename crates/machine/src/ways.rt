@@ -14,7 +14,7 @@ use codec::forms::STREAM;
 use codec::forms::TOP_BITS;
 use codec::forms::TWO_OPERANDS;
 ghost use Rattle.basis.specs.Names.{_≡_, _<_};
-ghost use Rattle.machine.specs.inner.Ways.{isSilent, isInteger, hasOther, wayOf};
+ghost use Rattle.machine.specs.inner.Ways.{isUnstopped, isInteger, hasOther, wayOf};
 
 // The tag mark is set empty; nothing is touched; a register is shifted by an immediate; a part of an MMX register goes to an integer register; an MMX
 // register is stored in the operand of r/m, loaded from it, or computed with it; a word of it is inserted, or its words are shuffled; or an MMX register
@@ -92,14 +92,14 @@ pub(crate) fn has_other(way: Way) -> bool
     }
 }
 
-// Whether the control marks don't stop a form: SFENCE and the prefetches.
-pub(crate) fn is_silent(form: u32) -> bool
-    ensures { λ r. ⌜ r ≡ isSilent form ⌝ }
+// Whether the control marks don't stop a form: SFENCE, those of loops, and the prefetches.
+pub(crate) fn is_unstopped(form: u32) -> bool
+    ensures { λ r. ⌜ r ≡ isUnstopped form ⌝ }
 {
-    if form == FENCE {
-        return true;
+    if form < FENCE {
+        return false;
     }
-    form == PREFETCH
+    form <= PREFETCH
 }
 
 // Whether r/m names an integer register at mod 11: for PINSRW and MOVD.

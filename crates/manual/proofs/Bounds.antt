@@ -1,23 +1,22 @@
 -- A run stays within its bounds: its position within the code, its count within the budget, its refusal's number of at most two digits; and it changes
 -- nothing that is frozen. By its turns: so does each step. Over floor 0 neither 20 nor 21 is given.
 use Rattle.basis.specs.Names.{_≡_, refl, _⊎_, Bool, true, false, cond, List, ℕ, zero, suc, _+_, _≤_, _<_, eqb, ltb, length, drop}
-use Rattle.basis.proofs.Names.{sym, ap, subst, _∙_, inl, inr, ⊎-elim, false≢true, arith, ltb-true, length-drop}
-use Rattle.reorder.specs.Result.{Result, done, refused, caseOf}
+use Rattle.basis.proofs.Names.{sym, ap, subst, _∙_, inl, inr, ⊎-elim, arith, ltb-true, length-drop}
 use Rattle.reorder.specs.Run.{Answer, finished, spent, stopped, runFrom}
 use Rattle.codec.specs.Refusals.{notAllowed}
-use Rattle.codec.specs.Reads.{longestCode, readPart}
+use Rattle.codec.specs.Reads.{longestCode}
 use Rattle.codec.specs.Reasons as codec
-use Rattle.codec.specs.Answers.{Decoded}
-use Rattle.codec.specs.Answers as decoded
-use Rattle.codec.proofs.Theorems.{reading-is-local}
-use Rattle.manual.specs.Refusals.{outsideByStack, belowFloor}
+use Rattle.manual.specs.Refusals.{jumpsOutside, belowFloor}
 use Rattle.manual.specs.State.{State, frozen}
 use Rattle.manual.specs.Instructions.{execute}
-use Rattle.manual.specs.Steps.{Outcome, concluded, completed, refusedWith, resultOf, stepAt}
-use Rattle.manual.specs.Reasons.{Fits, Reason, one, twenty, reading, seven, eight, nine, ten, fourteen, twentyOne}
+use Rattle.manual.specs.Jumps.{next}
+use Rattle.manual.specs.Steps.{Outcome, completed, refusedWith, stepAt}
+use Rattle.manual.specs.Reasons.{Fits, Reason, one, twenty, reading, seven, eight, nine, ten, fourteen, twentyOne, nineteen}
 use Rattle.manual.specs.Runs.{read, runOf}
 use Rattle.manual.proofs.Turns.{onward, still-fits, of-run, turn, instruction-here}
-use Rattle.manual.proofs.Refusals.{refused-step, refused-run, step-frozen}
+use Rattle.manual.proofs.Locality.{local}
+use Rattle.manual.proofs.Jumps.{stays-within}
+use Rattle.manual.proofs.Refusals.{refused-step, refused-run, step-executed, step-frozen}
 use Rattle.manual.proofs.Exactly.{step-exactly}
 
 -- a refusal's number has at most two digits: what is printed of it goes by that (which numbers there are, Exactly.antt says)
@@ -35,8 +34,8 @@ pub reading-small : (code : List ℕ) (at n : ℕ) → codec.ReasonAt code at n 
 reading-small code at n (codec.two h) = omega arith
 reading-small code at n (codec.reading h r) = part-small (drop at code) n r
 
--- a step's is 14 at most, or the floor's, which is above 0
-reason-number : (floor : ℕ) (code : List ℕ) (at : ℕ) (s : State) (n : ℕ) → Reason floor code at s n → (n ≤ outsideByStack) ⊎ ((n ≤ belowFloor) × (0 < floor))
+-- a step's is 19 at most, or the floor's, which is above 0
+reason-number : (floor : ℕ) (code : List ℕ) (at : ℕ) (s : State) (n : ℕ) → Reason floor code at s n → (n ≤ jumpsOutside) ⊎ ((n ≤ belowFloor) × (0 < floor))
 reason-number floor code at s n (one h) = inl (omega arith)
 reason-number floor code at s n (twenty h g) = inr (omega arith, omega (arith, ltb-true (length (s .memory)) floor g))
 reason-number floor code at s n (reading h r) = inl (omega (arith, reading-small code at n r))
@@ -46,26 +45,18 @@ reason-number floor code at s n (nine i size h em ts pending) = inl (omega arith
 reason-number floor code at s n (ten i size h x touches o based) = inl (omega arith)
 reason-number floor code at s n (fourteen i size h x touches o based) = inl (omega arith)
 reason-number floor code at s n (twentyOne i size h x given b) = inr (omega arith, omega (arith, b .low))
+reason-number floor code at s n (nineteen i size h jump clear astray) = inl (omega arith)
 
 reason-small : (floor : ℕ) (code : List ℕ) (at : ℕ) (s : State) (n : ℕ) → Reason floor code at s n → n ≤ greatestRefusal
 reason-small floor code at s n r = ⊎-elim (λ h. omega arith) (λ (h, above). omega arith) (reason-number floor code at s n r)
 
 module _ (floor : ℕ) (code : List ℕ) (code-fits : ltb longestCode (length code) ≡ false) where
   -- a completed step leaves a position of the code
-  pub step-within : (at next : ℕ) (s t : State) → Fits floor s → stepAt floor code at s ≡ completed next t → next ≤ length code
-  unfolding stepAt read
-  step-within at next s t fits e =
-      reads (readPart (drop at code)) refl (simp (instruction-here floor code at s fits code-fits) at e)
-    where
-      executing : (n : ℕ) (o : Result State) → n ≤ length (drop at code) → 0 < n → concluded at (at + n) s o ≡ completed next t → next ≤ length code
-      executing n (refused r) h g z = absurd (false≢true (cc))
-      executing n (done u) h g z = let same : at + n ≡ next = cc in omega (arith, length-drop at code)
-
-      reads : (z : Decoded) → readPart (drop at code) ≡ z
-          → caseOf (resultOf z) (λ r. refusedWith r at s) (λ r. concluded at (at + r .size) s (execute floor (r .instruction) s)) ≡ completed next t
-          → next ≤ length code
-      reads (decoded.good i n) r z = let l = reading-is-local (drop at code) i n r in executing n (execute floor i s) (l .within) (omega (arith, l .two)) z
-      reads (decoded.refused n) r z = absurd (false≢true (cc))
+  pub step-within : (at further : ℕ) (s t : State) → Fits floor s → stepAt floor code at s ≡ completed further t → further ≤ length code
+  step-within at further s t fits e =
+      let x = step-executed floor code at further s t e in
+      let its = local (drop at code) (x .found) (sym (instruction-here floor code at s fits code-fits) ∙ x .stands) in
+      stays-within (length code) (x .found .instruction) s (at + x .found .size) further (omega (arith, its .some, its .within, length-drop at code)) (x .goes-on)
 
 -- the bounds of a run's end, from a start with so large a budget
 pub record Bounds (code : List ℕ) (budget : ℕ) (start : State) (at count : ℕ) (t : State) : Type 0 where
@@ -80,7 +71,7 @@ Bounded code budget start (stopped n at count t) = (n ≤ greatestRefusal) × Bo
 
 module _ (floor : ℕ) (code : List ℕ) (code-fits : ltb longestCode (length code) ≡ false) (budget : ℕ) (start : State) where
   from : (remaining at count : ℕ) (s : State) → count + remaining ≤ budget → Fits floor s → Bounds code budget start at count s
-      → Bounded code budget start (runFrom read (execute floor) remaining code at count s)
+      → Bounded code budget start (runFrom read (execute floor) next remaining code at count s)
   from zero at count s most fits b = at-end (eqb at (length code))
     where
       at-end : (t : Bool) → Bounded code budget start (cond t (finished at count s) (spent at count s))
@@ -92,9 +83,9 @@ module _ (floor : ℕ) (code : List ℕ) (code-fits : ltb longestCode (length co
       Further : Type 0
       Further =
           (at′ : ℕ) (u : State) → Fits floor u → Bounds code budget start at′ (suc count) u
-          → Bounded code budget start (runFrom read (execute floor) remaining code at′ (suc count) u)
+          → Bounded code budget start (runFrom read (execute floor) next remaining code at′ (suc count) u)
 
-      stepping : (o : Outcome) → stepAt floor code at s ≡ o → Further → Bounded code budget start (onward (runFrom read (execute floor) remaining code) count o)
+      stepping : (o : Outcome) → stepAt floor code at s ≡ o → Further → Bounded code budget start (onward (runFrom read (execute floor) next remaining code) count o)
       stepping (refusedWith n at′ u) e further =
           let (same-at, same-state) = refused-step floor code at n at′ s u e in
           let given : stepAt floor code at s ≡ refusedWith n at s = cc in (
@@ -110,7 +101,7 @@ module _ (floor : ℕ) (code : List ℕ) (code-fits : ltb longestCode (length co
           further at′ u (still-fits floor s u same fits)
           (record { position = step-within floor code code-fits at at′ s u fits e; completed-steps = omega arith; kept = same ∙ b .kept })
 
-      at-end : (t : Bool) → eqb at (length code) ≡ t → Further → Bounded code budget start (runFrom read (execute floor) (suc remaining) code at count s)
+      at-end : (t : Bool) → eqb at (length code) ≡ t → Further → Bounded code budget start (runFrom read (execute floor) next (suc remaining) code at count s)
       at-end true e further = rw e b
       at-end false e further = subst (Bounded code budget start) (sym (turn floor code at s fits code-fits remaining count e)) (stepping (stepAt floor code at s) refl further)
 
@@ -123,10 +114,10 @@ run-bounded floor code budget s =
     still : Bounds code budget s 0 0 s
     still = record { position = omega arith; completed-steps = omega arith; kept = refl }
 
--- Over floor 0 a refusal's number is at most 14: neither 20 nor 21 is given
+-- Over floor 0 a refusal's number is at most 19: neither 20 nor 21 is given
 
-pub step-zero : (code : List ℕ) (at n : ℕ) (s : State) → stepAt 0 code at s ≡ refusedWith n at s → n ≤ outsideByStack
+pub step-zero : (code : List ℕ) (at n : ℕ) (s : State) → stepAt 0 code at s ≡ refusedWith n at s → n ≤ jumpsOutside
 step-zero code at n s e = ⊎-elim (λ h. h) (λ (h, above). absurd (omega arith)) (reason-number 0 code at s n (step-exactly 0 code at s n .0 e))
 
-pub run-zero : (code : List ℕ) (budget n at count : ℕ) (s t : State) → runOf 0 code budget s ≡ stopped n at count t → n ≤ outsideByStack
+pub run-zero : (code : List ℕ) (budget n at count : ℕ) (s t : State) → runOf 0 code budget s ≡ stopped n at count t → n ≤ jumpsOutside
 run-zero code budget n at count s t e = step-zero code at n t (refused-run 0 code budget n at count s t e .0)

@@ -11,10 +11,10 @@ use Rattle.codec.specs.declared.Kind.{Kind}
 use Rattle.codec.specs.declared.Kind.the-variants.{Ordinary}
 use Rattle.manual.specs.Refusals.{belowFloor}
 use Rattle.manual.specs.State.{State, withMemory}
-use Rattle.manual.specs.Places.{Place, mmx, integer, byte, look, put, allWritable}
+use Rattle.manual.specs.Places.{Place, mmx, integer, byte, zeroMark, look, put, allWritable}
 use Rattle.manual.specs.Kinds.{marked, heeded}
 use Rattle.manual.specs.Addresses.{Address, address}
-use Rattle.manual.specs.Locations.{Location, mmxRegister, integerRegister, memory, bytesFrom, liesInside, missOf, placesOf}
+use Rattle.manual.specs.Locations.{Location, mmxRegister, integerRegister, memory, zeroOperand, bytesFrom, liesInside, missOf, placesOf}
 use Rattle.manual.specs.Effects.{Effect, placeCount, valueIn, contentsOf, unlessMarked, planOn, guarded, placedAbove, perform as performs}
 use Rattle.manual.specs.inner.Unmarked.{directly}
 use Rattle.manual.proofs.Marking.{past-marks}
@@ -34,6 +34,7 @@ module _ (s : State) where
   valueAt (mmxRegister r) = done (getD (s .mmx) r 0)
   valueAt (integerRegister r) = done (getD (s .integers) r 0)
   valueAt (memory a size) = cond (inside a size) (done (number (gets size (s .memory) (address (s .integers) a)))) (refused (missOf a))
+  valueAt zeroOperand = done (cond (s .marks .zero) 1 0)
 
   -- the state that a number leaves in so many bytes from a place on, over a floor, with the tag mark valid
   abbrev putBytes : ℕ → ℕ → ℕ → ℕ → Result State
@@ -45,6 +46,7 @@ module _ (s : State) where
   putAt floor (mmxRegister r) value = done (marked Ordinary (put s (mmx r) value))
   putAt floor (integerRegister r) value = done (marked Ordinary (put s (integer r) value))
   putAt floor (memory a size) value = cond (inside a size) (putBytes floor (address (s .integers) a) size value) (refused (missOf a))
+  putAt floor zeroOperand value = done (marked Ordinary (put s zeroMark value))
 
   -- the bytes of an operand in memory, looked at
   looks-bytes : (size a : ℕ) → looks look s (bytesFrom a size) ≡ gets size (s .memory) a
@@ -65,6 +67,7 @@ module _ (s : State) where
   taken : (x : Location) → Taken x (valueAt x) (placesOf s x)
   taken (mmxRegister r) = refl
   taken (integerRegister r) = refl
+  taken zeroOperand = refl
   taken (memory a size) = by (inside a size) (address (s .integers) a)
     where
       by : (t : Bool) (p : ℕ)
@@ -86,6 +89,7 @@ module _ (floor : ℕ) (s : State) where
   given : (x : Location) (v : ℕ) → Given s floor x v (putAt s floor x v) (placesOf s x)
   given (mmxRegister r) v = refl
   given (integerRegister r) v = refl
+  given zeroOperand v = refl
   given (memory a size) v = by (inside s a size) (address (s .integers) a)
     where
       by : (t : Bool) (p : ℕ) → Given s floor (memory a size) v (cond t (putBytes s floor p size v) (refused (missOf a))) (cond t (done (bytesFrom p size)) (refused (missOf a)))

@@ -18,7 +18,7 @@ start eax ecx em ts pending =
     }
 
 -- nothing in the registers, over a memory
-abbrev over : List ℕ → State
+abbrev pub over : List ℕ → State
 over memory = record { mmx = replicate 8 0; integers = replicate 8 0; marks = clear false; memory = memory }
 
 abbrev run : List ℕ → Answer State
@@ -32,13 +32,13 @@ abbrev runWith : ℕ → ℕ → List ℕ → Answer State
 runWith eax ecx code = runOf 0 code 4096 (start eax ecx false false false)
 
 -- done after so many instructions, in a state of which this holds
-abbrev doneWith : ℕ → (State → Bool) → Answer State → Bool
+abbrev pub doneWith : ℕ → (State → Bool) → Answer State → Bool
 doneWith total holds (finished at count t) = eqb count total && holds t
 doneWith total holds (spent at count t) = false
 doneWith total holds (stopped n at count t) = false
 
 -- refused by this number after so many instructions, in a state of which this holds
-abbrev refusedAfter : ℕ → ℕ → (State → Bool) → Answer State → Bool
+abbrev pub refusedAfter : ℕ → ℕ → (State → Bool) → Answer State → Bool
 refusedAfter number total holds (finished at count t) = false
 refusedAfter number total holds (spent at count t) = false
 refusedAfter number total holds (stopped n at count t) = eqb n number && eqb count total && holds t
@@ -48,7 +48,7 @@ spentAfter total (finished at count t) = false
 spentAfter total (spent at count t) = eqb count total
 spentAfter total (stopped n at count t) = false
 
-abbrev stepRefusedBy : ℕ → Outcome → Bool
+abbrev pub stepRefusedBy : ℕ → Outcome → Bool
 stepRefusedBy number (completed at t) = false
 stepRefusedBy number (refusedWith n at t) = eqb n number
 
@@ -63,7 +63,7 @@ eax value t = eqb (getD (t .integers) 0 0) value && t .marks .valid
 abbrev memory : ℕ → State → Bool
 memory value t = eqb (number (t .memory)) value && t .marks .valid
 
-abbrev tagsEmpty : State → Bool
+abbrev pub tagsEmpty : State → Bool
 tagsEmpty t = not (t .marks .valid)
 
 -- MM0 and the memory are as they were, and the tags still empty

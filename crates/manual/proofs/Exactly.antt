@@ -1,7 +1,7 @@
 -- Each refusal of a step is given exactly when there is its reason: the tests stand in the order of documents 01 and 02, the operand test and then the
--- floor's as the last.
+-- floor's as the last; a jump passes all of these, and is tested for where it goes.
 use Rattle.basis.specs.Names.{_≡_, refl, Bool, true, false, cond, List, [], _∷_, _++_, _&&_, List·Memᴰ as In, ℕ, zero, suc, _+_, leb, length}
-use Rattle.basis.proofs.Names.{sym, ap, ap₂, subst, _∙_, _↔_, inl, inr, ⊎-elim, false≢true, and-false, List·Memᴰ·head as here, List·Memᴰ·tail as there, leb-false, lt-leb, arith}
+use Rattle.basis.proofs.Names.{sym, ap, ap₂, subst, _∙_, _↔_, inl, inr, ⊎-elim, false≢true, and-false, List·Memᴰ·head as here, List·Memᴰ·tail as there, leb-false, lt-leb, eqb-true, arith}
 use Rattle.reorder.specs.Result.{Result, done, refused, andThen, mapResult, caseOf}
 use Rattle.reorder.specs.Plan.{perform}
 use Rattle.codec.specs.Answers as decoded
@@ -13,14 +13,17 @@ use Rattle.manual.specs.State.{State, isTooLong, isTooHigh}
 use Rattle.manual.specs.Places.{Place, look, put, allWritable}
 use Rattle.manual.specs.Kinds.{marked}
 use Rattle.manual.specs.Addresses.{Address, isStackBase, address}
-use Rattle.manual.specs.Locations.{Location, mmxRegister, integerRegister, memory, liesInside, bytesFrom, missOf, placesOf}
+use Rattle.manual.specs.Locations.{Location, mmxRegister, integerRegister, memory, zeroOperand, liesInside, bytesFrom, missOf, placesOf}
 use Rattle.manual.specs.Effects.{placesOfAll, planOn, guarded, placedAbove, plan, unlessMarked}
 use Rattle.manual.specs.inner.Unmarked.{directly}
 use Rattle.manual.specs.Instructions.{effectOf, execute}
+use Rattle.manual.specs.Jumps.{isJump, next}
 use Rattle.manual.specs.Steps.{refusedWith, resultOf, concluded, instructionAt, stepAt}
-use Rattle.manual.specs.Reasons.{Fits, Stands, stopsIt, Passes, Touches, Outside, Below, Reason, one, twenty, reading, seven, eight, nine, ten, fourteen, twentyOne}
+use Rattle.manual.specs.Reasons.{Fits, Stands, stopsIt, Passes, Touches, Outside, Below, Reason, one, twenty, reading, seven, eight, nine, ten, fourteen, twentyOne, nineteen}
 use Rattle.manual.proofs.Marking.{controlled}
+use Rattle.manual.proofs.Jumps.{missing-refused, refused-missing}
 use Rattle.manual.proofs.Floors.{writable-bytes, writable-both}
+use Rattle.manual.proofs.Loops.{jump-leaves}
 use Rattle.manual.proofs.OneAddress.{pointed, one-address}
 
 -- Operands: the only refusal is that of a miss, and it is given exactly where an operand is outside
@@ -40,6 +43,7 @@ record Missed (s : State) (x : Location) (n : ℕ) : Type 0 where
 refused-outside : (s : State) (x : Location) (n : ℕ) → placesOf s x ≡ refused n → Missed s x n
 refused-outside s (mmxRegister k) n e = absurd (false≢true (cc))
 refused-outside s (integerRegister k) n e = absurd (false≢true (cc))
+refused-outside s zeroOperand n e = absurd (false≢true (cc))
 refused-outside s (memory a size) n e = by (liesInside (length (s .memory)) size (address (s .integers) a)) refl e
   where
     by : (t : Bool) → liesInside (length (s .memory)) size (address (s .integers) a) ≡ t
@@ -118,6 +122,7 @@ module _ (floor : ℕ) (s : State) where
   own-below : (x : Location) (ps : List Place) → placesOf s x ≡ done ps → allWritable floor ps ≡ false → Below floor s x
   own-below (mmxRegister k) ps e h = absurd (false≢true (cc))
   own-below (integerRegister k) ps e h = absurd (false≢true (cc))
+  own-below zeroOperand ps e h = absurd (false≢true (cc))
   own-below (memory a size) ps e h = by (liesInside (length (s .memory)) size p) size e
     where
       p : ℕ
@@ -242,15 +247,19 @@ module _ (floor : ℕ) (i : Instruction) (s : State) where
 -- The step
 
 module _ (floor : ℕ) (code : List ℕ) (at : ℕ) (s : State) where
+  -- where a run goes on after an instruction of so many bytes
+  abbrev nextAfter : Instruction → ℕ → Result ℕ
+  nextAfter i size = next (length code) i s (at + size)
+
   -- an instruction stands there: what it comes to
   step-stands : (i : Instruction) (size : ℕ) → Stands floor code at s i size
-      → stepAt floor code at s ≡ concluded at (at + size) s (perform look put marked s (plan floor (effectOf i) s))
+      → stepAt floor code at s ≡ concluded at (nextAfter i size) s (perform look put marked s (plan floor (effectOf i) s))
   unfolding stepAt instructionAt execute
   step-stands i size stands = simp (stands .fits .memory-fits, stands .fits .floor-fits, stands .read)
 
   -- and no control mark stops it
   step-passes : (i : Instruction) (size : ℕ) → Passes floor code at s i size
-      → stepAt floor code at s ≡ concluded at (at + size) s (directly floor (effectOf i) s)
+      → stepAt floor code at s ≡ concluded at (nextAfter i size) s (directly floor (effectOf i) s)
   step-passes i size passes = step-stands i size (passes .stands) ∙ simp (passes .em, passes .ts, passes .pending)
 
   -- an operand of it is outside
@@ -258,7 +267,12 @@ module _ (floor : ℕ) (code : List ℕ) (at : ℕ) (s : State) where
       → stepAt floor code at s ≡ refusedWith (missOf (o .at)) at s
   step-missed i size passes x touched o =
       step-passes i size passes
-      ∙ ap (concluded at (at + size) s) (outside-unmarked floor i s x touched o ∙ ap refused (sym (alike floor i s x touched o)))
+      ∙ ap (concluded at (nextAfter i size) s) (outside-unmarked floor i s x touched o ∙ ap refused (sym (alike floor i s x touched o)))
+
+  -- it is a jump, which no test before that stops
+  step-jumps : (i : Instruction) (size : ℕ) → Stands floor code at s i size → isJump i ≡ true → stepAt floor code at s ≡ concluded at (nextAfter i size) s (done s)
+  unfolding execute
+  step-jumps i size stands jump = step-stands i size stands ∙ ap (concluded at (nextAfter i size) s) (jump-leaves floor i s (eqb-true (i .first) 0x75 jump))
 
   pub step-given : (n : ℕ) → Reason floor code at s n → stepAt floor code at s ≡ refusedWith n at s
   unfolding stepAt instructionAt
@@ -273,7 +287,10 @@ module _ (floor : ℕ) (code : List ℕ) (at : ℕ) (s : State) where
   step-given n (fourteen i size passes x touched o based) =
       step-missed i size passes x touched o ∙ ap (λ (m : ℕ). refusedWith m at s) (miss-by (o .at) true based)
   step-given n (twentyOne i size reaches x given b) =
-      step-passes i size (reaches .passes) ∙ ap (concluded at (at + size) s) (below-unmarked floor i s (reaches .inside) x given b)
+      step-passes i size (reaches .passes) ∙ ap (concluded at (nextAfter i size) s) (below-unmarked floor i s (reaches .inside) x given b)
+  step-given n (nineteen i size stands jump clear astray) =
+      step-jumps i size stands jump
+      ∙ ap (λ further. concluded at further s (done s)) (missing-refused (length code) i s (at + size) (record { jump = jump; clear = clear; astray = astray }))
 
   pub step-exactly : (n : ℕ) → (stepAt floor code at s ≡ refusedWith n at s) ↔ Reason floor code at s n
   unfolding stepAt instructionAt execute
@@ -281,10 +298,6 @@ module _ (floor : ℕ) (code : List ℕ) (at : ℕ) (s : State) where
     where
       Why : ℕ → Type 0
       Why m = Reason floor code at s m
-
-      executed : (next : ℕ) (o : Result State) → concluded at next s o ≡ refusedWith n at s → o ≡ refused n
-      executed next (done t) h = absurd (false≢true (cc))
-      executed next (refused m) h = cc
 
       operands : (i : Instruction) (size : ℕ) → Passes floor code at s i size → (m : ℕ) → Refusing floor i s m → Why m
       operands i size passes m (misses x touched o) = by (isStackBase (o .at .base)) refl
@@ -304,19 +317,30 @@ module _ (floor : ℕ) (code : List ℕ) (at : ℕ) (s : State) where
       marks i size stands false false false e f g h =
           operands i size (record { stands = stands; em = e; ts = f; pending = g }) n (refused-unmarked floor i s n h)
 
+      -- the instruction is refused, or where it goes on is
+      executed : (i : Instruction) (size : ℕ) → Stands floor code at s i size → (further : Result ℕ) → nextAfter i size ≡ further
+          → (o : Result State) → execute floor i s ≡ o → concluded at further s o ≡ refusedWith n at s → Why n
+      executed i size stands further e (refused m) eo h =
+          let same : execute floor i s ≡ refused n = cc in
+          marks i size stands (stopsIt i (s .marks .em)) (stopsIt i (s .marks .ts)) (stopsIt i (s .marks .pending)) refl refl refl same
+      executed i size stands (done position) e (done t) eo h = absurd (false≢true (cc))
+      executed i size stands (refused m) e (done t) eo h =
+          let same : nextAfter i size ≡ refused n = cc in
+          let (number, missing) = refused-missing (length code) i s (at + size) n same in
+          subst Why (sym number) (nineteen i size stands (missing .jump) (missing .clear) (missing .astray))
+
       read : (z : decoded.Decoded) → Fits floor s → readAt code at ≡ z
-          → caseOf (resultOf z) (λ m. refusedWith m at s) (λ r. concluded at (at + r .size) s (execute floor (r .instruction) s)) ≡ refusedWith n at s
+          → caseOf (resultOf z) (λ m. refusedWith m at s) (λ r. concluded at (nextAfter (r .instruction) (r .size)) s (execute floor (r .instruction) s)) ≡ refusedWith n at s
           → Why n
       read (decoded.refused m) fits e h =
           let same : m ≡ n = cc in
           reading fits (reading-exactly code at n .0 (e ∙ ap decoded.refused same))
       read (decoded.good i size) fits e h =
-          marks i size (record { fits = fits; read = e }) (stopsIt i (s .marks .em)) (stopsIt i (s .marks .ts)) (stopsIt i (s .marks .pending)) refl refl refl
-          (executed (at + size) (execute floor i s) h)
+          executed i size (record { fits = fits; read = e }) (nextAfter i size) refl (execute floor i s) refl h
 
       tests : (a b : Bool) → isTooLong (s .memory) ≡ a → isTooHigh floor (s .memory) ≡ b
           → caseOf (cond a (refused memoryTooLong) (cond b (refused floorTooHigh) (resultOf (readAt code at))))
-          (λ m. refusedWith m at s) (λ r. concluded at (at + r .size) s (execute floor (r .instruction) s)) ≡ refusedWith n at s
+          (λ m. refusedWith m at s) (λ r. concluded at (nextAfter (r .instruction) (r .size)) s (execute floor (r .instruction) s)) ≡ refusedWith n at s
           → Why n
       tests true b ea eb h = subst Why (cc) (one ea)
       tests false true ea eb h = subst Why (cc) (twenty ea eb)

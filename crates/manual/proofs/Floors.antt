@@ -1,8 +1,8 @@
 -- A floor keeps the bytes below it: no step and no run changes one, whatever the block does. And a step over it is the step over floor 0, or refused.
-use Rattle.basis.specs.Names.{_≡_, refl, _⊎_, Bool, true, false, cond, _&&_, List, [], _∷_, _++_, ℕ, zero, suc, _+_, _<_, _≤_, leb, getD, take, drop}
+use Rattle.basis.specs.Names.{_≡_, refl, _⊎_, Bool, true, false, cond, _&&_, List, [], _∷_, _++_, ℕ, zero, suc, _+_, _<_, _≤_, leb, length, getD, take, drop}
 use Rattle.basis.proofs.Names.{sym, ap, _∙_, inl, inr, false≢true, arith, and-true, le-leb, leb-true, take-set-le}
 use Rattle.words.proofs.Laws.{and-both}
-use Rattle.reorder.specs.Result.{Result, done, refused, caseOf, andThen}
+use Rattle.reorder.specs.Result.{Result, done, refused, caseOf, andThen, mapResult}
 use Rattle.reorder.specs.Plan.{Plan, puts, perform as performed}
 use Rattle.reorder.specs.Footprint.{footprintIn}
 use Rattle.reorder.specs.Run.{Fetched, Answer, stateReached, runFrom}
@@ -11,14 +11,15 @@ use Rattle.reorder.proofs.Endings.{by-turns}
 use Rattle.codec.specs.Reads.{readAt}
 use Rattle.codec.specs.declared.Instruction.{Instruction}
 use Rattle.codec.specs.declared.Kind.{Kind}
-use Rattle.codec.specs.declared.Kind.the-variants.{Ordinary, Emms, Silent}
+use Rattle.codec.specs.declared.Kind.the-variants.{Ordinary, Emms, Silent, Loop}
 use Rattle.manual.specs.Refusals.{floorTooHigh, belowFloor}
 use Rattle.manual.specs.State.{State, isTooLong, isTooHigh}
-use Rattle.manual.specs.Places.{Place, mmx, integer, byte, look, put, isWritable, allWritable}
+use Rattle.manual.specs.Places.{Place, mmx, integer, byte, zeroMark, look, put, isWritable, allWritable}
 use Rattle.manual.specs.Kinds.{marked, heeded}
 use Rattle.manual.specs.Locations.{bytesFrom}
-use Rattle.manual.specs.Effects.{Effect, placed, guarded, placedAbove, via, plan}
+use Rattle.manual.specs.Effects.{Effect, placesOfAll, planOn, placed, guarded, placedAbove, via, plan}
 use Rattle.manual.specs.Instructions.{effectOf, execute, footprint}
+use Rattle.manual.specs.Jumps.{next}
 use Rattle.manual.specs.Steps.{Outcome, completed, refusedWith, resultOf, concluded, instructionAt, stepAt}
 use Rattle.manual.specs.Runs.{read, runOf}
 use Rattle.manual.proofs.Marking.{by-marks}
@@ -33,6 +34,7 @@ all-zero [] = refl
 all-zero (mmx k ∷ ps) = all-zero ps
 all-zero (integer k ∷ ps) = all-zero ps
 all-zero (byte a ∷ ps) = ap (λ (t : Bool). t && allWritable 0 ps) (le-leb 0 a (omega arith)) ∙ all-zero ps
+all-zero (zeroMark ∷ ps) = all-zero ps
 
 -- those of an operand may exactly if its first byte may
 pub writable-bytes : (floor size a : ℕ) → 0 < size → allWritable floor (bytesFrom a size) ≡ leb floor a
@@ -104,15 +106,16 @@ step-or-refused floor code at s = tests (isTooLong (s .memory)) (isTooHigh floor
   where
     -- what comes of a reading, over a floor
     step : ℕ → Result (Fetched Instruction) → Outcome
-    step height o = caseOf o (λ n. refusedWith n at s) (λ r. concluded at (at + r .size) s (execute height (r .instruction) s))
+    step height o =
+        caseOf o (λ n. refusedWith n at s) (λ r. concluded at (next (length code) (r .instruction) s (at + r .size)) s (execute height (r .instruction) s))
 
     Goal : Type 0
     Goal = (stepAt floor code at s ≡ stepAt 0 code at s) ⊎ ((stepAt floor code at s ≡ refusedWith floorTooHigh at s) ⊎ (stepAt floor code at s ≡ refusedWith belowFloor at s))
 
     planning : (r : Fetched Instruction) → (plan floor (effectOf (r .instruction)) s ≡ plan 0 (effectOf (r .instruction)) s) ⊎ (plan floor (effectOf (r .instruction)) s ≡ refused belowFloor)
         → (step floor (done r) ≡ step 0 (done r)) ⊎ (step floor (done r) ≡ refusedWith belowFloor at s)
-    planning r (inl same) = inl (ap (λ o. concluded at (at + r .size) s (performed look put marked s o)) same)
-    planning r (inr below) = inr (ap (λ o. concluded at (at + r .size) s (performed look put marked s o)) below)
+    planning r (inl same) = inl (ap (λ o. concluded at (next (length code) (r .instruction) s (at + r .size)) s (performed look put marked s o)) same)
+    planning r (inr below) = inr (ap (λ o. concluded at (next (length code) (r .instruction) s (at + r .size)) s (performed look put marked s o)) below)
 
     reading : (o : Result (Fetched Instruction)) → (step floor o ≡ step 0 o) ⊎ (step floor o ≡ refusedWith belowFloor at s)
     reading (refused n) = inl refl
@@ -139,6 +142,7 @@ marked-memory : (kind : Kind) (s : State) → marked kind s .memory ≡ s .memor
 marked-memory Ordinary s = refl
 marked-memory Emms s = refl
 marked-memory Silent s = refl
+marked-memory Loop s = refl
 
 puts-keep : (floor : ℕ) (s : State) (ps : List Place) (values : List ℕ) → allWritable floor ps ≡ true
     → take floor (puts put s ps values .memory) ≡ take floor (s .memory)
@@ -151,6 +155,7 @@ puts-keep floor s (p ∷ ps) values h =
     one (mmx k) value h = refl
     one (integer k) value h = refl
     one (byte a) value h = take-set-le floor (s .memory) a value (leb-true floor a h)
+    one zeroMark value h = refl
 
 -- a plan over a floor is that of its operands' places, and writes only what may be written
 pub plan-past : (floor : ℕ) (e : Effect) (s : State) (pl : Plan Place Kind) → plan floor e s ≡ done pl → (placed e s ≡ done pl) × (allWritable floor (pl .target) ≡ true)
@@ -167,6 +172,22 @@ plan-past floor e s pl =
     by : (o : Result (Plan Place Kind)) → placed e s ≡ o → andThen o (guarded floor) ≡ done pl → Past
     by (done p) x h = tested (allWritable floor (p .target)) p x refl h
     by (refused n) x h = absurd (false≢true (cc))
+
+-- it is the effect on those places
+pub record OnPlaces (e : Effect) (s : State) (pl : Plan Place Kind) : Type 0 where
+  pub sources : List Place
+  pub targets : List Place
+  pub takes : placesOfAll s (e .takes) ≡ done sources
+  pub gives : placesOfAll s (e .gives) ≡ done targets
+  pub same : planOn e sources targets ≡ pl
+
+pub plan-on : (floor : ℕ) (e : Effect) (s : State) (pl : Plan Place Kind) → plan floor e s ≡ done pl → OnPlaces e s pl
+plan-on floor e s pl h = by (placesOfAll s (e .takes)) (placesOfAll s (e .gives)) refl refl (plan-past floor e s pl h .0)
+  where
+    by : (a b : Result (List Place)) → placesOfAll s (e .takes) ≡ a → placesOfAll s (e .gives) ≡ b → andThen a (λ source. mapResult (planOn e source) b) ≡ done pl → OnPlaces e s pl
+    by (done from) (done to) ea eb h = record { sources = from; targets = to; takes = ea; gives = eb; same = cc }
+    by (done from) (refused n) ea eb h = absurd (false≢true (cc))
+    by (refused n) b ea eb h = absurd (false≢true (cc))
 
 execute-keeps : (floor : ℕ) (i : Instruction) (s t : State) → execute floor i s ≡ done t → take floor (t .memory) ≡ take floor (s .memory)
 unfolding execute
@@ -186,7 +207,8 @@ pub step-keeps : (floor : ℕ) (code : List ℕ) (at : ℕ) (s : State) → take
 step-keeps floor code at s = by (stepAt floor code at s) refl
   where
     by : (o : Outcome) → stepAt floor code at s ≡ o → take floor (stateAfter o .memory) ≡ take floor (s .memory)
-    by (completed next t) e = let (r, ex) = step-executed floor code at next s t e in execute-keeps floor (r .instruction) s t ex
+    by (completed further t) e =
+        let x = step-executed floor code at further s t e in execute-keeps floor (x .found .instruction) s t (x .executes)
     by (refusedWith n at′ t) e = ap (λ (u : State). take floor (u .memory)) (refused-step floor code at n at′ s t e .1)
 
 -- nor by a run, whatever the block, the budget and the state
@@ -197,13 +219,14 @@ run-keeps floor code budget s =
     Keeps : State → Answer State → Type 0
     Keeps s a = take floor (stateReached a .memory) ≡ take floor (s .memory)
 
-    turning : (remaining at count : ℕ) (s : State) → Keeps s (runFrom read (execute floor) remaining code at count s)
+    turning : (remaining at count : ℕ) (s : State) → Keeps s (runFrom read (execute floor) next remaining code at count s)
     turning =
-        by-turns read (execute floor) code (λ remaining at count s a. Keeps s a)
+        by-turns read (execute floor) next code (λ remaining at count s a. Keeps s a)
         (record {
           ends = λ remaining at count s e. refl;
           spends = λ at count s e. refl;
           unread = λ remaining at count n s e er. refl;
           unexecuted = λ remaining at count n s r e er eo. refl;
-          turns = λ remaining at count s t r a e er eo rest. rest ∙ execute-keeps floor (r .instruction) s t eo;
+          astray = λ remaining at count n s t r e er et eo. refl;
+          turns = λ remaining at count s t r further a e er et eo rest. rest ∙ execute-keeps floor (r .instruction) s t et;
         })

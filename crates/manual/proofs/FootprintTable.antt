@@ -3,10 +3,10 @@ use Rattle.basis.specs.Names.{true, false, List, [], _∷_, _++_, ℕ, replicat
 use Rattle.reorder.specs.Result.{Result, done, refused}
 use Rattle.reorder.specs.Footprint.{Footprint}
 use Rattle.codec.specs.declared.Kind.{Kind}
-use Rattle.codec.specs.declared.Kind.the-variants.{Ordinary, Emms, Silent}
+use Rattle.codec.specs.declared.Kind.the-variants.{Ordinary, Emms, Silent, Loop}
 use Rattle.manual.specs.declared.Marks.{Marks}
-use Rattle.manual.specs.State.{State}
-use Rattle.manual.specs.Places.{Place, mmx, integer}
+use Rattle.manual.specs.State.{State, zeroed}
+use Rattle.manual.specs.Places.{Place, mmx, integer, zeroMark}
 use Rattle.manual.specs.Locations.{bytesFrom}
 use Rattle.manual.proofs.Marking.{controlled, clear}
 
@@ -15,13 +15,17 @@ abbrev under : Marks → State
 under marks =
     record { mmx = replicate 8 0; integers = 8 ∷ 2 ∷ 0 ∷ 0 ∷ 0 ∷ 0 ∷ 0 ∷ 20 ∷ []; marks = marks; memory = replicate 32 0 }
 
--- no control mark is set
+-- no mark is set
 abbrev pub here : State
 here = under (clear false)
 
--- all of them are
+-- all control marks are
 abbrev pub barred : State
 barred = under (controlled (clear false) true true true)
+
+-- the zero mark is
+abbrev pub counted : State
+counted = under (zeroed (clear false) true)
 
 -- an instruction's bytes, and the footprint of its step or the step's refusal
 abbrev Line : Type 0
@@ -30,6 +34,10 @@ Line = List ℕ × Result (Footprint Place Kind)
 -- bytes, what the step reads, what it writes
 abbrev uses : List ℕ → List Place → List Place → Line
 uses code reads writes = (code, done (record { reads = reads; writes = writes; kind = Ordinary }))
+
+-- the same of one of loops
+abbrev loops : List ℕ → List Place → List Place → Line
+loops code reads writes = (code, done (record { reads = reads; writes = writes; kind = Loop }))
 
 -- the bytes of an instruction that touches nothing
 abbrev passes : List ℕ → Line
@@ -79,7 +87,16 @@ footprints =
     -- MOVQ MM1, [EAX + EAX], and MM1, [0]
     ∷ uses (0x0f ∷ 0x6f ∷ 0x0c ∷ 0x00 ∷ []) (integer 0 ∷ integer 0 ∷ bytesFrom 16 8) (mmx 1 ∷ [])
     ∷ uses (0x0f ∷ 0x6f ∷ 0x0d ∷ 0 ∷ 0 ∷ 0 ∷ 0 ∷ []) (bytesFrom 0 8) (mmx 1 ∷ [])
-    -- the step's refusal: MOVQ MM1, [EAX + 17], from [EAX + EBP + 17] and from [EBP + 25], MOVQ [ESP + 25], MM1, and at the code's end
+    -- MOV EDX, 5; ADD EDX, 1; DEC EDX; JNZ to itself, which is taken, and to the end
+    ∷ loops (0xba ∷ 5 ∷ 0 ∷ 0 ∷ 0 ∷ []) [] (integer 2 ∷ [])
+    ∷ loops (0x83 ∷ 0xc2 ∷ 1 ∷ []) (integer 2 ∷ []) (integer 2 ∷ zeroMark ∷ [])
+    ∷ loops (0x4a ∷ []) (integer 2 ∷ []) (integer 2 ∷ zeroMark ∷ [])
+    ∷ loops (0x75 ∷ 0xfe ∷ []) (zeroMark ∷ []) []
+    ∷ loops (0x75 ∷ 0 ∷ []) (zeroMark ∷ []) []
+    -- the step's refusal: JNZ to -1 and to one past the end
+    ∷ (0x75 ∷ 0xfd ∷ [], refused 19)
+    ∷ (0x75 ∷ 1 ∷ [], refused 19)
+    -- MOVQ MM1, [EAX + 17], from [EAX + EBP + 17] and from [EBP + 25], MOVQ [ESP + 25], MM1, and at the code's end
     ∷ (0x0f ∷ 0x6f ∷ 0x48 ∷ 17 ∷ [], refused 10)
     ∷ (0x0f ∷ 0x6f ∷ 0x4c ∷ 0x28 ∷ 17 ∷ [], refused 10)
     ∷ (0x0f ∷ 0x6f ∷ 0x4d ∷ 25 ∷ [], refused 14)
@@ -87,13 +104,25 @@ footprints =
     ∷ ([], refused 3)
     ∷ []
 
--- where all control marks are set: the same prefetch and SFENCE, PADDB MM1, MM2, and EMMS
+-- where all control marks are set: the same prefetch and SFENCE, PADDB MM1, MM2, EMMS, and those of loops
 abbrev pub whereBarred : List Line
 whereBarred =
     passes (0x0f ∷ 0x18 ∷ 0x8c ∷ 0xc8 ∷ 0 ∷ 0 ∷ 0 ∷ 0x80 ∷ [])
     ∷ passes (0x0f ∷ 0xae ∷ 0xf8 ∷ [])
     ∷ (0x0f ∷ 0xfc ∷ 0xca ∷ [], refused 7)
     ∷ (0x0f ∷ 0x77 ∷ [], refused 7)
+    ∷ loops (0xba ∷ 5 ∷ 0 ∷ 0 ∷ 0 ∷ []) [] (integer 2 ∷ [])
+    ∷ loops (0x83 ∷ 0xc2 ∷ 1 ∷ []) (integer 2 ∷ []) (integer 2 ∷ zeroMark ∷ [])
+    ∷ loops (0x4a ∷ []) (integer 2 ∷ []) (integer 2 ∷ zeroMark ∷ [])
+    ∷ loops (0x75 ∷ 0xfe ∷ []) (zeroMark ∷ []) []
+    ∷ []
+
+-- where the zero mark is set a jump is not taken, and has a footprint wherever it would lead
+abbrev pub whereCounted : List Line
+whereCounted =
+    loops (0x75 ∷ 0xfe ∷ []) (zeroMark ∷ []) []
+    ∷ loops (0x75 ∷ 0xfd ∷ []) (zeroMark ∷ []) []
+    ∷ loops (0x75 ∷ 1 ∷ []) (zeroMark ∷ []) []
     ∷ []
 
 -- over a floor: MOVQ [EAX + 4], MM1, where the floor is at its first byte and behind it; a load below the floor; a floor above the memory
@@ -110,6 +139,9 @@ abbrev pub inRuns : List (ℕ × List ℕ × ℕ × Result (Footprint Place Kind
 inRuns =
     -- MOVD ECX, MM0, which is 0, and then MOVQ MM1, [EAX + ECX * 8], at 8 and no more at 24
     (0, 0x0f ∷ 0x7e ∷ 0xc1 ∷ 0x0f ∷ 0x6f ∷ 0x0c ∷ 0xc8 ∷ [], 1, done (record { reads = integer 0 ∷ integer 1 ∷ bytesFrom 8 8; writes = mmx 1 ∷ []; kind = Ordinary }))
+    -- DEC EAX; JNZ to it: instructions 2 and 3 are the same two again
+    ∷ (0, 0x48 ∷ 0x75 ∷ 0xfd ∷ [], 2, done (record { reads = integer 0 ∷ []; writes = integer 0 ∷ zeroMark ∷ []; kind = Loop }))
+    ∷ (0, 0x48 ∷ 0x75 ∷ 0xfd ∷ [], 3, done (record { reads = zeroMark ∷ []; writes = []; kind = Loop }))
     -- the step's own refusal: 90 is 5, a prefix after EMMS is 4, and past the last instruction the code ends
     ∷ (0, 0x90 ∷ [], 0, refused 5)
     ∷ (0, 0x0f ∷ 0x77 ∷ 0x66 ∷ [], 1, refused 4)

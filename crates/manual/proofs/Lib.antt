@@ -1,14 +1,18 @@
--- The laws of the manuals' rules: the places obey the laws of lists, reading is local, and so demand 3; a run is its steps; what refusals and a floor
--- keep; what a footprint says, and which meet; examples that the definitions compute; document 01's and manual 000's tables of opcodes.
+-- The laws of the manuals' rules: the places obey the laws of lists, reading is local, and so demand 3; where a run goes on, and that it is its
+-- steps; what refusals and a floor keep; what the instructions of loops do; what a footprint says, and which meet; examples that the definitions
+-- compute; the manuals' tables of opcodes.
 pub mod Lists
 pub mod Marking
 pub mod Shapes
 pub mod Laws
 pub mod Locality
+pub mod Jumps
 pub mod Turns
 pub mod Refusals
 pub mod Floors
 pub mod OneAddress
+pub mod Loops
+pub mod ZeroMark
 pub mod Exactly
 pub mod Bounds
 pub mod StackBases
@@ -20,6 +24,7 @@ pub mod Direct
 pub mod Meeting
 pub mod Plates
 pub mod Edges
+pub mod LoopEdges
 pub mod FootprintTable
 pub mod Example
 pub mod Computed

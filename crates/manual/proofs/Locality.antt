@@ -1,7 +1,7 @@
--- Reading the rest of a code is local, as the codec's reading is: it takes at least two bytes and none past the end, and depends on its
+-- Reading the rest of a code is local, as the codec's reading is: it takes at least one byte and none past the end, and depends on its
 -- own bytes alone.
 use Rattle.basis.specs.Names.{_≡_, List, ℕ}
-use Rattle.basis.proofs.Names.{false≢true, ap, arith}
+use Rattle.basis.proofs.Names.{false≢true, ap}
 use Rattle.reorder.specs.Result.{done}
 use Rattle.reorder.specs.Run.{Fetched}
 use Rattle.reorder.proofs.Cutting.{LocalReader}
@@ -25,6 +25,6 @@ pub local-reader : LocalReader read
 unfolding read
 local-reader =
     record {
-      some-bytes = λ bytes r e. (omega (arith, local bytes r e .two), local bytes r e .within);
+      some-bytes = λ bytes r e. (local bytes r e .some, local bytes r e .within);
       own-bytes = λ bytes tail r e. ap resultOf (local bytes r e .again tail);
     }

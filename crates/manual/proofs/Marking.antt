@@ -7,11 +7,11 @@ use Rattle.manual.specs.Effects.{unlessMarked}
 
 -- the marks with these control marks
 abbrev pub controlled : Marks → Bool → Bool → Bool → Marks
-controlled marks em ts pending = record { valid = marks .valid; em = em; ts = ts; pending = pending }
+controlled marks em ts pending = record { valid = marks .valid; zero = marks .zero; em = em; ts = ts; pending = pending }
 
--- the tag mark, and no control mark
+-- the tag mark, and no other
 abbrev pub clear : Bool → Marks
-clear valid = record { valid = valid; em = false; ts = false; pending = false }
+clear valid = record { valid = valid; zero = false; em = false; ts = false; pending = false }
 
 -- what holds of every refusal, and of what follows the test of the control marks, holds of both
 pub by-marks : {A B : Type 0} (P : Result A → Result B → Type 0) → ((n : ℕ) → P (refused n) (refused n)) → (marks : Marks) (a : Result A) (b : Result B)

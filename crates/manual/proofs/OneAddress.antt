@@ -1,12 +1,12 @@
 -- All operands of an instruction that are in memory are one: at one address, which is in EDI for MASKMOVQ and for all others the one that r/m names,
 -- and of one size.
-use Rattle.basis.specs.Names.{_≡_, refl, Bool, true, false, not, cond, _&&_, _||_, List, _∷_, map, List·Memᴰ as In, ℕ, eqb}
+use Rattle.basis.specs.Names.{_≡_, refl, Bool, true, false, not, cond, _&&_, _||_, List, _∷_, map, List·Memᴰ as In, ℕ, _%_, eqb}
 use Rattle.basis.proofs.Names.{sym, subst, _∙_, ⊎-elim, false≢true, List·Memᴰ·head as here, List·Memᴰ·tail as there, eqb-false, eqb-true}
 use Rattle.words.proofs.Laws.{and-both}
-use Rattle.codec.specs.Forms.{File, mmxFile, integerFile, Slot, reg, rm, rm/mem, mem, edi, fixed, Form, memorySize}
-use Rattle.codec.specs.Opcodes.{formAt}
+use Rattle.codec.specs.Forms.{File, mmxFile, integerFile, Slot, reg, rm, rm/mem, mem, edi, fixed, opcode, zeroSlot, Form, memorySize}
+use Rattle.codec.specs.Opcodes.{formFor}
 use Rattle.codec.specs.declared.Instruction.{Instruction}
-use Rattle.codec.proofs.Bytes.{allPass, form-passes}
+use Rattle.codec.proofs.Bytes.{allPass, opcode-passes}
 use Rattle.manual.specs.Addresses.{Address, addressOf}
 use Rattle.manual.specs.Locations.{memory, registerIn, rmOf, atEdi, locate}
 use Rattle.manual.specs.Instructions.{sources, targets, effectOf}
@@ -25,6 +25,8 @@ isAt inEdi n (rm/mem file size) = not inEdi && eqb size n
 isAt inEdi n (mem size) = not inEdi && eqb size n
 isAt inEdi n (edi size) = inEdi && eqb size n
 isAt inEdi n (fixed k) = true
+isAt inEdi n (opcode file) = true
+isAt inEdi n zeroSlot = true
 
 -- what is said of an operand in memory: where r/m names it, mod is not 11
 pub record PointedAt (inEdi : Bool) (i : Instruction) (n : ℕ) (a : Address) (size : ℕ) : Type 0 where
@@ -50,6 +52,8 @@ module _ (i : Instruction) (a : Address) (size : ℕ) where
   at-slot inEdi n (reg file) h e = absurd (no-register a size file (i .operand .reg) e)
   at-slot inEdi n (rm file) h e = absurd (no-register a size file (i .operand .rm) e)
   at-slot inEdi n (fixed k) h e = absurd (no-register a size mmxFile k e)
+  at-slot inEdi n (opcode file) h e = absurd (no-register a size file (i .first % 8) e)
+  at-slot inEdi n zeroSlot h e = absurd (false≢true (cc))
   at-slot false n (rm/mem file m) h e = subst (λ (k : ℕ). PointedAt false i k a size) (eqb-true m n h) (at-rm file m e)
   at-slot false n (mem m) h e = subst (λ (k : ℕ). PointedAt false i k a size) (eqb-true m n h) (at-rm mmxFile m e)
   at-slot true n (edi m) h e = let same : size ≡ m = cc in record { same = cc; sized = same ∙ eqb-true m n h; by-rm = λ z. absurd (false≢true (sym z)) }
@@ -68,14 +72,14 @@ touchesAt inEdi form =
 
 pub record OneAddress (i : Instruction) : Type 0 where
   pub inEdi : Bool
-  pub points : (a : Address) (size : ℕ) → Touches i (memory a size) → PointedAt inEdi i (memorySize (formAt (i .second))) a size
+  pub points : (a : Address) (size : ℕ) → Touches i (memory a size) → PointedAt inEdi i (memorySize (formFor (i .first) (i .second))) a size
 
 pub one-address : (i : Instruction) → OneAddress i
 unfolding effectOf
-one-address i = by (touchesAt false form) (touchesAt true form) refl refl (form-passes (λ f. touchesAt false f || touchesAt true f) refl refl (i .second))
+one-address i = by (touchesAt false form) (touchesAt true form) refl refl (opcode-passes (λ f. touchesAt false f || touchesAt true f) refl refl refl (i .first) (i .second))
   where
     form : Form
-    form = formAt (i .second)
+    form = formFor (i .first) (i .second)
 
     at : (inEdi : Bool) → touchesAt inEdi form ≡ true → OneAddress i
     at inEdi h =

@@ -1,17 +1,19 @@
--- A second opinion on the list of instructions: document 01's table of opcode bytes and manual 000's, each in its own order, with its words on
--- operands. Each instruction has the effect that its row says, for every operand and immediate: by computation.
-use Rattle.basis.specs.Names.{_≡_, refl, Bool, cond, not, _&&_, List, [], _∷_, _++_, map, flatten, ℕ, _%_, _^_, bitAnd, bitOr, bitXor, eqb, length}
+-- A second opinion on the lists of instructions: document 01's table of opcode bytes, manual 000's, and the AMD64 manual's loop instructions, each in
+-- its own order, with its words on operands. Each instruction has the effect that its row says, for every operand and immediate: by computation.
+use Rattle.basis.specs.Names.{_≡_, refl, Bool, cond, not, _&&_, List, [], _∷_, _++_, map, flatten, ℕ, _+_, _%_, _^_, bitAnd, bitOr, bitXor, eqb, leb, length}
+use Rattle.basis.proofs.Names.{zero-add}
 use Rattle.lanes.specs.Signed.{clampSigned, clampUnsigned}
 use Rattle.lanes.specs.Rules.{packed, pairwise, sum, difference, sumSigned, differenceSigned, sumUnsigned, differenceUnsigned, equal, greater, productLow, productHigh, productSum, pack, unpackLow, unpackHigh, andNot, shift, left, right, rightSigned, blend, mean, extract, insert, maximumSigned, maximumUnsigned, minimumSigned, minimumUnsigned, topBits, productHighUnsigned, distances, shuffle}
 use Rattle.lanes.specs.Operations.{described, operate, operateThree}
 use Rattle.codec.specs.Forms.{isAmong, isAbsent, hasOperand, immediateSize}
-use Rattle.codec.specs.Opcodes.{escape, formAt, operationAt}
+use Rattle.codec.specs.Opcodes.{escape, formAt, operationAt, formOfFirst}
 use Rattle.codec.specs.Table.{listed}
 use Rattle.codec.specs.Reads.{instructionOf}
 use Rattle.codec.specs.declared.Operand.{Operand}
-use Rattle.codec.specs.declared.Kind.the-variants.{Emms, Silent}
+use Rattle.codec.specs.declared.Kind.the-variants.{Emms, Silent, Loop}
+use Rattle.reorder.specs.Result.{done}
 use Rattle.manual.specs.Addresses.{addressOf}
-use Rattle.manual.specs.Locations.{Location, mmxRegister, integerRegister, memory, rmOf, atEdi}
+use Rattle.manual.specs.Locations.{Location, mmxRegister, integerRegister, memory, zeroOperand, rmOf, atEdi}
 use Rattle.manual.specs.Effects.{Effect}
 use Rattle.manual.specs.Instructions.{effectOf}
 use Rattle.manual.proofs.Shapes.{both, move, three, bare}
@@ -182,4 +184,81 @@ agrees =
       widths = refl;
       widths-of-extension = refl;
       shifted = λ w immediate. refl;
+    }
+
+-- a row of loops: the first byte, the operands that are read and those that are written, and what those become, from the immediate and the number
+-- that is read, if one is
+record Row : Type 0 where
+  byte : ℕ
+  reads : Operand → List Location
+  writes : Operand → List Location
+  left : ℕ → ℕ → List ℕ
+
+abbrev row : ℕ → (Operand → List Location) → (Operand → List Location) → (ℕ → ℕ → List ℕ) → Row
+row byte reads writes left = record { byte = byte; reads = reads; writes = writes; left = left }
+
+-- a sum of 32 bits, and the zero mark
+abbrev summed : ℕ → List ℕ
+summed sum = lowHalf sum ∷ cond (eqb (lowHalf sum) 0) 1 0 ∷ []
+
+-- ADD reg32, imm8 (83 /0): the byte is extended by its sign
+abbrev adds : Row
+adds =
+    row 0x83 (λ w. integerRegister (w .rm) ∷ []) (λ w. integerRegister (w .rm) ∷ zeroOperand ∷ [])
+    (λ immediate x. summed (x + cond (leb 0x80 immediate) (immediate + 0xffffff00) immediate))
+
+-- DEC reg32 (48 +rd)
+abbrev decrements : ℕ → ℕ → Row
+decrements byte k = row byte (λ w. integerRegister k ∷ []) (λ w. integerRegister k ∷ zeroOperand ∷ []) (λ immediate x. summed (x + 0xffffffff))
+
+-- JNZ rel8off (75)
+abbrev jumps : Row
+jumps = row 0x75 (λ w. zeroOperand ∷ []) (λ w. []) (λ immediate x. [])
+
+-- MOV reg32, imm32 (B8 +rd)
+abbrev moves : ℕ → ℕ → Row
+moves byte k = row byte (λ w. []) (λ w. integerRegister k ∷ []) (λ immediate x. lowHalf immediate ∷ [])
+
+-- in the AMD64 manual's order
+abbrev loopTable : List Row
+loopTable =
+    adds
+    ∷ decrements 0x48 0 ∷ decrements 0x49 1 ∷ decrements 0x4a 2 ∷ decrements 0x4b 3
+    ∷ decrements 0x4c 4 ∷ decrements 0x4d 5 ∷ decrements 0x4e 6 ∷ decrements 0x4f 7
+    ∷ jumps
+    ∷ moves 0xb8 0 ∷ moves 0xb9 1 ∷ moves 0xba 2 ∷ moves 0xbb 3 ∷ moves 0xbc 4 ∷ moves 0xbd 5 ∷ moves 0xbe 6 ∷ moves 0xbf 7 ∷ []
+
+abbrev loopBytes : List ℕ
+loopBytes = map (λ x. x .byte) loopTable
+
+abbrev effectOfFirst : Row → Operand → ℕ → Effect
+effectOfFirst x w immediate = effectOf (instructionOf (x .byte) 0 w immediate)
+
+pub record LoopsAgree : Type 0 where
+  -- no other first byte than these has a form
+  pub count : length loopBytes ≡ 18
+  pub bytes : listed (λ b. isAmong b loopBytes) 0 256 ≡ listed (λ b. not (isAbsent (formOfFirst b))) 0 256
+  -- 83 alone has a ModRM byte; ADD and JNZ have one immediate byte, MOV four
+  pub operand-bytes : listed (λ b. hasOperand (formOfFirst b)) 0 256 ≡ listed (λ b. eqb b 0x83) 0 256
+  pub immediates : listed (λ b. immediateSize (formOfFirst b)) 0 256
+      ≡ listed (λ b. cond (isAmong b (0x83 ∷ 0x75 ∷ [])) 1 (cond (leb 0xb8 b && leb b 0xbf) 4 0)) 0 256
+  pub read : (w : Operand) (immediate : ℕ) → map (λ y. effectOfFirst y w immediate .takes) loopTable ≡ map (λ y. y .reads w) loopTable
+  pub written : (w : Operand) (immediate : ℕ) → map (λ y. effectOfFirst y w immediate .gives) loopTable ≡ map (λ y. y .writes w) loopTable
+  pub kinds : (w : Operand) (immediate : ℕ) → map (λ y. effectOfFirst y w immediate .kind) loopTable ≡ map (λ y. Loop) loopTable
+  -- one number is handed for each operand that is read
+  pub left : (w : Operand) (immediate x : ℕ)
+      → map (λ y. let e = effectOfFirst y w immediate in e .value (map (λ z. x) (e .takes))) loopTable ≡ map (λ y. done (y .left immediate x)) loopTable
+
+pub loops-agree : LoopsAgree
+unfolding formOfFirst effectOf
+loops-agree =
+    record {
+      count = refl;
+      bytes = refl;
+      operand-bytes = refl;
+      immediates = refl;
+      read = λ w immediate. refl;
+      written = λ w immediate. refl;
+      kinds = λ w immediate. refl;
+      left = λ w immediate x. simp zero-add;
     }

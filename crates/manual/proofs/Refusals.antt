@@ -12,6 +12,7 @@ use Rattle.manual.specs.Places.{look, put}
 use Rattle.manual.specs.Kinds.{marked, KindsMeet}
 use Rattle.manual.specs.Effects.{via, plan}
 use Rattle.manual.specs.Instructions.{effectOf, execute}
+use Rattle.manual.specs.Jumps.{next}
 use Rattle.manual.specs.Steps.{Outcome, completed, refusedWith, concluded, instructionAt, stepAt}
 use Rattle.manual.specs.Reasons.{Fits}
 use Rattle.manual.specs.Runs.{read, runOf}
@@ -23,15 +24,16 @@ pub refused-step : (floor : ℕ) (code : List ℕ) (at n at′ : ℕ) (s t : Sta
 unfolding stepAt
 refused-step floor code at n at′ s t e = reading (instructionAt floor code at s) e
   where
-    executing : (size : ℕ) (o : Result State) → concluded at (at + size) s o ≡ refusedWith n at′ t → (at′ ≡ at) × (t ≡ s)
-    executing size (refused m) h = (cc, cc)
-    executing size (done u) h = absurd (false≢true (cc))
+    executing : (further : Result ℕ) (o : Result State) → concluded at further s o ≡ refusedWith n at′ t → (at′ ≡ at) × (t ≡ s)
+    executing further (refused m) h = (cc, cc)
+    executing (refused m) (done u) h = (cc, cc)
+    executing (done position) (done u) h = absurd (false≢true (cc))
 
     reading : (o : Result (Fetched Instruction))
-        → caseOf o (λ m. refusedWith m at s) (λ r. concluded at (at + r .size) s (execute floor (r .instruction) s)) ≡ refusedWith n at′ t
+        → caseOf o (λ m. refusedWith m at s) (λ r. concluded at (next (length code) (r .instruction) s (at + r .size)) s (execute floor (r .instruction) s)) ≡ refusedWith n at′ t
         → (at′ ≡ at) × (t ≡ s)
     reading (refused m) h = (cc, cc)
-    reading (done r) h = executing (r .size) (execute floor (r .instruction) s) h
+    reading (done r) h = executing (next (length code) (r .instruction) s (at + r .size)) (execute floor (r .instruction) s) h
 
 -- a completed step changes nothing frozen
 execute-frozen : (floor : ℕ) (i : Instruction) (s t : State) → execute floor i s ≡ done t → frozen t ≡ frozen s
@@ -40,34 +42,41 @@ execute-frozen floor i s t e =
     let (pl, vs, ep, em, et) = planned look put marked via (plan floor) (effectOf i) s t e in
     ap frozen et ∙ leaves-frozen look put marked frozen KindsMeet laws pl s vs
 
--- a completed step is an instruction that completes
-pub step-executed : (floor : ℕ) (code : List ℕ) (at next : ℕ) (s t : State) → stepAt floor code at s ≡ completed next t
-    → (r : Fetched Instruction) × (execute floor (r .instruction) s ≡ done t)
+-- a completed step is an instruction that stands there and completes, and from which a run goes on
+pub record Executed (floor : ℕ) (code : List ℕ) (at further : ℕ) (s t : State) : Type 0 where
+  pub found : Fetched Instruction
+  pub stands : instructionAt floor code at s ≡ done found
+  pub executes : execute floor (found .instruction) s ≡ done t
+  pub goes-on : next (length code) (found .instruction) s (at + found .size) ≡ done further
+
+pub step-executed : (floor : ℕ) (code : List ℕ) (at further : ℕ) (s t : State) → stepAt floor code at s ≡ completed further t → Executed floor code at further s t
 unfolding stepAt
-step-executed floor code at next s t e = reading (instructionAt floor code at s) e
+step-executed floor code at further s t e = reading (instructionAt floor code at s) refl e
   where
-    executing : (r : Fetched Instruction) (o : Result State) → execute floor (r .instruction) s ≡ o → concluded at (at + r .size) s o ≡ completed next t
-        → (q : Fetched Instruction) × (execute floor (q .instruction) s ≡ done t)
-    executing r (refused m) x h = absurd (false≢true (cc))
-    executing r (done u) x h = (r, cc)
+    executing : (r : Fetched Instruction) → instructionAt floor code at s ≡ done r → (p : Result ℕ) → next (length code) (r .instruction) s (at + r .size) ≡ p
+        → (o : Result State) → execute floor (r .instruction) s ≡ o → concluded at p s o ≡ completed further t → Executed floor code at further s t
+    executing r er p ep (refused m) eo h = absurd (false≢true (cc))
+    executing r er (refused m) ep (done u) eo h = absurd (false≢true (cc))
+    executing r er (done position) ep (done u) eo h = record { found = r; stands = er; executes = cc; goes-on = cc }
 
-    reading : (o : Result (Fetched Instruction))
-        → caseOf o (λ m. refusedWith m at s) (λ r. concluded at (at + r .size) s (execute floor (r .instruction) s)) ≡ completed next t
-        → (q : Fetched Instruction) × (execute floor (q .instruction) s ≡ done t)
-    reading (refused m) h = absurd (false≢true (cc))
-    reading (done r) h = executing r (execute floor (r .instruction) s) refl h
+    reading : (o : Result (Fetched Instruction)) → instructionAt floor code at s ≡ o
+        → caseOf o (λ m. refusedWith m at s) (λ r. concluded at (next (length code) (r .instruction) s (at + r .size)) s (execute floor (r .instruction) s)) ≡ completed further t
+        → Executed floor code at further s t
+    reading (refused m) er h = absurd (false≢true (cc))
+    reading (done r) er h = executing r er (next (length code) (r .instruction) s (at + r .size)) refl (execute floor (r .instruction) s) refl h
 
-pub step-frozen : (floor : ℕ) (code : List ℕ) (at next : ℕ) (s t : State) → stepAt floor code at s ≡ completed next t → frozen t ≡ frozen s
-step-frozen floor code at next s t e = let (r, ex) = step-executed floor code at next s t e in execute-frozen floor (r .instruction) s t ex
+pub step-frozen : (floor : ℕ) (code : List ℕ) (at further : ℕ) (s t : State) → stepAt floor code at s ≡ completed further t → frozen t ≡ frozen s
+step-frozen floor code at further s t e =
+    let x = step-executed floor code at further s t e in execute-frozen floor (x .found .instruction) s t (x .executes)
 
 module _ (floor : ℕ) (code : List ℕ) (code-fits : ltb longestCode (length code) ≡ false) (n end total : ℕ) (t : State) where
   -- a run that stops has come, by as many steps as it counts, to a step that is refused
   abbrev Kept : ℕ → ℕ → State → Type 0
   Kept at count s =
-      (count ≤ total) × (runFrom read (execute floor) (total - count) code at count s ≡ spent end total t) × (stepAt floor code end t ≡ refusedWith n end t)
+      (count ≤ total) × (runFrom read (execute floor) next (total - count) code at count s ≡ spent end total t) × (stepAt floor code end t ≡ refusedWith n end t)
 
   kept : (remaining at count : ℕ) (s : State) → Fits floor s
-      → runFrom read (execute floor) remaining code at count s ≡ stopped n end total t → Kept at count s
+      → runFrom read (execute floor) next remaining code at count s ≡ stopped n end total t → Kept at count s
   kept zero at count s fits h = at-end (eqb at (length code)) h
     where
       at-end : (b : Bool) → cond b (finished at count s) (spent at count s) ≡ stopped n end total t → Kept at count s
@@ -78,10 +87,10 @@ module _ (floor : ℕ) (code : List ℕ) (code-fits : ltb longestCode (length co
     where
       Further : Type 0
       Further =
-          (at′ : ℕ) (u : State) → Fits floor u → runFrom read (execute floor) remaining code at′ (suc count) u ≡ stopped n end total t → Kept at′ (suc count) u
+          (at′ : ℕ) (u : State) → Fits floor u → runFrom read (execute floor) next remaining code at′ (suc count) u ≡ stopped n end total t → Kept at′ (suc count) u
 
       stepping : eqb at (length code) ≡ false → (o : Outcome) → stepAt floor code at s ≡ o → Further
-          → onward (runFrom read (execute floor) remaining code) count o ≡ stopped n end total t → Kept at count s
+          → onward (runFrom read (execute floor) next remaining code) count o ≡ stopped n end total t → Kept at count s
       stepping more (refusedWith m at′ u) e further h =
           let (same-at, same-state) = refused-step floor code at m at′ s u e in
           let all : count ≡ total = cc in
@@ -92,14 +101,14 @@ module _ (floor : ℕ) (code : List ℕ) (code-fits : ltb longestCode (length co
           let (counted, rest, last) = further at′ u fits′ h in
           let one : total - count ≡ suc (total - suc count) = omega arith in (
             omega arith,
-            ap (λ (k : ℕ). runFrom read (execute floor) k code at count s) one
+            ap (λ (k : ℕ). runFrom read (execute floor) next k code at count s) one
                 ∙ turn floor code at s fits code-fits (total - suc count) count more
-                ∙ ap (onward (runFrom read (execute floor) (total - suc count) code) count) e
+                ∙ ap (onward (runFrom read (execute floor) next (total - suc count) code) count) e
                 ∙ rest,
             last,
           )
 
-      at-end : (b : Bool) → eqb at (length code) ≡ b → Further → runFrom read (execute floor) (suc remaining) code at count s ≡ stopped n end total t → Kept at count s
+      at-end : (b : Bool) → eqb at (length code) ≡ b → Further → runFrom read (execute floor) next (suc remaining) code at count s ≡ stopped n end total t → Kept at count s
       at-end true e further h = let over : finished at count s ≡ stopped n end total t = simp e at h in absurd (false≢true (cc))
       at-end false e further h =
           stepping e (stepAt floor code at s) refl further (sym (turn floor code at s fits code-fits remaining count e) ∙ h)
@@ -117,5 +126,5 @@ refused-run floor code budget n at count s t = of-run floor code s Stops at-star
     at-start : (m : ℕ) → stepAt floor code 0 s ≡ refusedWith m 0 s → Stops (λ k. stopped m 0 0 s)
     at-start m e h = (cc, inr (cc, cc))
 
-    further : Fits floor s → ltb longestCode (length code) ≡ false → Stops (λ k. run read (execute floor) k code s)
+    further : Fits floor s → ltb longestCode (length code) ≡ false → Stops (λ k. run read (execute floor) next k code s)
     further fits code-fits h = let (counted, rest, last) = kept floor code code-fits n at count t budget 0 0 s fits h in (last, inl (rw sub-zero at rest))

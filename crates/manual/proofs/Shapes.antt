@@ -1,4 +1,4 @@
--- The shapes of effects that the instructions have.
+-- The shapes of effects that the instructions have whose first byte is 0F.
 use Rattle.basis.specs.Names.{[], _∷_, ℕ, getD}
 use Rattle.reorder.specs.Result.{done}
 use Rattle.codec.specs.declared.Kind.{Kind}

@@ -1,29 +1,29 @@
--- Refusal 21 in the customer's words: a store with a byte below the floor, so with its first one, and with all in the memory. The stores are 7E, 7F and
--- E7 where r/m names no register, and F7, whatever its mask.
-use Rattle.basis.specs.Names.{_≡_, refl, Bool, true, false, _||_, List, [], _∷_, map, List·Memᴰ as In, ℕ, _+_, _<_, _≤_, eqb, length}
+-- Refusal 21 in the customer's words: a store with a byte below the floor, so with its first one, and with all in the memory. The stores are 0F 7E, 7F
+-- and E7 where r/m names no register, and 0F F7, whatever its mask.
+use Rattle.basis.specs.Names.{_≡_, refl, Bool, true, false, _||_, List, [], _∷_, map, List·Memᴰ as In, ℕ, _+_, _%_, _<_, _≤_, eqb, length}
 use Rattle.basis.proofs.Names.{sym, ap, subst, subst₂, _∙_, _↔_, inr, false≢true, or-false, List·Memᴰ·head as here, List·Memᴰ·tail as there, List·Memᴰ·eq-of-singleton as eq-of-singleton, arith, decLt, eqb-true, ne-eqb}
-use Rattle.codec.specs.Forms.{File, mmxFile, integerFile, Slot, reg, rm, rm/mem, mem, edi, fixed, absent, isAmong}
+use Rattle.codec.specs.Forms.{File, mmxFile, integerFile, Slot, reg, rm, rm/mem, mem, edi, fixed, opcode, zeroSlot, absent, isAmong}
 use Rattle.codec.specs.Contents.{Line, lines}
-use Rattle.codec.specs.Opcodes.{formAt}
+use Rattle.codec.specs.Opcodes.{escape, formAt, formFor}
 use Rattle.codec.specs.declared.Instruction.{Instruction}
-use Rattle.codec.proofs.Bytes.{allPass, found-has, among}
+use Rattle.codec.proofs.Bytes.{allPass, found-has, first-passes, among}
 use Rattle.manual.specs.Refusals.{belowFloor}
 use Rattle.manual.specs.State.{State}
 use Rattle.manual.specs.Addresses.{Address, addressOf, address}
 use Rattle.manual.specs.Locations.{Location, memory, rmOf, atEdi, locate}
 use Rattle.manual.specs.Instructions.{targets, effectOf}
 use Rattle.manual.specs.Steps.{refusedWith, stepAt}
-use Rattle.manual.specs.Reasons.{Passes, Touches, Outside, Reason, one, twenty, reading, seven, eight, nine, ten, fourteen, twentyOne}
+use Rattle.manual.specs.Reasons.{Passes, Touches, Outside, Reason, one, twenty, reading, seven, eight, nine, ten, fourteen, twentyOne, nineteen}
 use Rattle.manual.proofs.OneAddress.{no-register, at-rm, one-address}
 use Rattle.manual.proofs.Exactly.{step-exactly}
 use Rattle.manual.proofs.Bounds.{reading-small}
 
 -- the stores, with the address and how many bytes go there
 pub data Stores (i : Instruction) : Address → ℕ → Type 0 where
-  movd : i .second ≡ 0x7e → ¬ (i .operand .mode ≡ 3) → Stores i (addressOf (i .operand)) 4
-  movq : i .second ≡ 0x7f → ¬ (i .operand .mode ≡ 3) → Stores i (addressOf (i .operand)) 8
-  movntq : i .second ≡ 0xe7 → ¬ (i .operand .mode ≡ 3) → Stores i (addressOf (i .operand)) 8
-  maskmovq : i .second ≡ 0xf7 → Stores i atEdi 8
+  movd : i .first ≡ 0x0f → i .second ≡ 0x7e → ¬ (i .operand .mode ≡ 3) → Stores i (addressOf (i .operand)) 4
+  movq : i .first ≡ 0x0f → i .second ≡ 0x7f → ¬ (i .operand .mode ≡ 3) → Stores i (addressOf (i .operand)) 8
+  movntq : i .first ≡ 0x0f → i .second ≡ 0xe7 → ¬ (i .operand .mode ≡ 3) → Stores i (addressOf (i .operand)) 8
+  maskmovq : i .first ≡ 0x0f → i .second ≡ 0xf7 → Stores i atEdi 8
 
 abbrev storeBytes : List ℕ
 storeBytes = 0x7e ∷ 0x7f ∷ 0xe7 ∷ 0xf7 ∷ []
@@ -36,11 +36,13 @@ isRegister (rm/mem file size) = false
 isRegister (mem size) = false
 isRegister (edi size) = false
 isRegister (fixed k) = true
+isRegister (opcode file) = true
+isRegister zeroSlot = true
 
 module _ (i : Instruction) where
-  -- what an instruction of a second byte gives
-  abbrev givenAt : ℕ → List Location
-  givenAt second = map (locate i) (targets (formAt second .operands))
+  -- what an instruction of both opcode bytes gives
+  abbrev givenAt : ℕ → ℕ → List Location
+  givenAt first second = map (locate i) (targets (formFor first second .operands))
 
   -- no other second byte gives an operand that may be in memory
   registers-given : isAmong (i .second) storeBytes ≡ false → allPass isRegister (targets (formAt (i .second) .operands)) ≡ true
@@ -61,12 +63,16 @@ module _ (i : Instruction) where
     no-memory (reg file ∷ xs) h (here e) = no-register a size file (i .operand .reg) e
     no-memory (rm file ∷ xs) h (here e) = no-register a size file (i .operand .rm) e
     no-memory (fixed k ∷ xs) h (here e) = no-register a size mmxFile k e
+    no-memory (opcode file ∷ xs) h (here e) = no-register a size file (i .first % 8) e
+    no-memory (zeroSlot ∷ xs) h (here e) = false≢true (cc)
     no-memory (rm/mem file n ∷ xs) h m = false≢true h
     no-memory (mem n ∷ xs) h m = false≢true h
     no-memory (edi n ∷ xs) h m = false≢true h
     no-memory (reg file ∷ xs) h (there m) = no-memory xs h m
     no-memory (rm file ∷ xs) h (there m) = no-memory xs h m
     no-memory (fixed k ∷ xs) h (there m) = no-memory xs h m
+    no-memory (opcode file ∷ xs) h (there m) = no-memory xs h m
+    no-memory (zeroSlot ∷ xs) h (there m) = no-memory xs h m
 
   -- what r/m names where mod is not 11
   rm-memory : (file : File) (n : ℕ) → ¬ (i .operand .mode ≡ 3) → rmOf file n (i .operand) ≡ memory (addressOf (i .operand)) n
@@ -76,36 +82,44 @@ module _ (i : Instruction) where
   -- an instruction gives an operand in memory exactly if it is a store of it
   pub stores-exactly : (a : Address) (size : ℕ) → In (memory a size) (effectOf i .gives) ↔ Stores i a size
   unfolding effectOf formAt
-  stores-exactly a size = (λ m. by (isAmong (i .second) storeBytes) refl m, given a size)
+  stores-exactly a size = (λ m. by (eqb (i .first) escape) (isAmong (i .second) storeBytes) refl refl m, given a size)
     where
       Stored : ℕ → Type 0
-      Stored second = i .second ≡ second → In (memory a size) (givenAt second) → Stores i a size
+      Stored second = i .second ≡ second → In (memory a size) (givenAt escape second) → Stores i a size
 
       by-rm : (file : File) (n : ℕ) → (¬ (i .operand .mode ≡ 3) → Stores i (addressOf (i .operand)) n) → In (memory a size) (rmOf file n (i .operand) ∷ []) → Stores i a size
       by-rm file n store m =
           let p = at-rm i a size file n (eq-of-singleton m) in
           subst₂ (Stores i) (sym (p .same)) (sym (p .sized)) (store (p .by-rm refl))
 
-      by : (t : Bool) → isAmong (i .second) storeBytes ≡ t → In (memory a size) (givenAt (i .second)) → Stores i a size
-      by false h m = absurd (no-memory a size (targets (formAt (i .second) .operands)) (registers-given h) m)
-      by true h m =
+      after : i .first ≡ escape → isAmong (i .second) storeBytes ≡ true → In (memory a size) (givenAt escape (i .second)) → Stores i a size
+      after first h m =
           among Stored (i .second) storeBytes h
-          (λ e. by-rm integerFile 4 (movd e)) (λ e. by-rm mmxFile 8 (movq e)) (λ e. by-rm mmxFile 8 (movntq e))
-          (λ e m. let same = eq-of-singleton m in let at : a ≡ atEdi = cc in let sized : size ≡ 8 = cc in subst₂ (Stores i) (sym at) (sym sized) (maskmovq e))
+          (λ e. by-rm integerFile 4 (movd first e)) (λ e. by-rm mmxFile 8 (movq first e)) (λ e. by-rm mmxFile 8 (movntq first e))
+          (λ e m. let same = eq-of-singleton m in let at : a ≡ atEdi = cc in let sized : size ≡ 8 = cc in subst₂ (Stores i) (sym at) (sym sized) (maskmovq first e))
           refl m
 
-      given : (a : Address) (size : ℕ) → Stores i a size → In (memory a size) (givenAt (i .second))
-      given a size (movd e other) = subst (λ (k : ℕ). In (memory (addressOf (i .operand)) 4) (givenAt k)) (sym e) (here (sym (rm-memory integerFile 4 other)))
-      given a size (movq e other) = subst (λ (k : ℕ). In (memory (addressOf (i .operand)) 8) (givenAt k)) (sym e) (here (sym (rm-memory mmxFile 8 other)))
-      given a size (movntq e other) = subst (λ (k : ℕ). In (memory (addressOf (i .operand)) 8) (givenAt k)) (sym e) (here (sym (rm-memory mmxFile 8 other)))
-      given a size (maskmovq e) = subst (λ (k : ℕ). In (memory atEdi 8) (givenAt k)) (sym e) (here refl)
+      by : (t u : Bool) → eqb (i .first) escape ≡ t → isAmong (i .second) storeBytes ≡ u → In (memory a size) (givenAt (i .first) (i .second)) → Stores i a size
+      by true true e h m = let first = eqb-true (i .first) escape e in after first h (subst (λ (n : ℕ). In (memory a size) (givenAt n (i .second))) first m)
+      by true false e h m = absurd (no-memory a size (targets (formFor (i .first) (i .second) .operands)) (simp e (registers-given h)) m)
+      by false u e h m =
+          absurd (no-memory a size (targets (formFor (i .first) (i .second) .operands)) (simp e (first-passes (λ f. allPass isRegister (targets (f .operands))) refl refl (i .first))) m)
+
+      there : (first second : ℕ) (x : Location) → i .first ≡ first → i .second ≡ second → In x (givenAt first second) → In x (givenAt (i .first) (i .second))
+      there first second x e f m = subst₂ (λ (j k : ℕ). In x (givenAt j k)) (sym e) (sym f) m
+
+      given : (a : Address) (size : ℕ) → Stores i a size → In (memory a size) (givenAt (i .first) (i .second))
+      given a size (movd e f other) = there 0x0f 0x7e _ e f (here (sym (rm-memory integerFile 4 other)))
+      given a size (movq e f other) = there 0x0f 0x7f _ e f (here (sym (rm-memory mmxFile 8 other)))
+      given a size (movntq e f other) = there 0x0f 0xe7 _ e f (here (sym (rm-memory mmxFile 8 other)))
+      given a size (maskmovq e f) = there 0x0f 0xf7 _ e f (here refl)
 
 -- every store has a byte
 store-some : (i : Instruction) (a : Address) (size : ℕ) → Stores i a size → 0 < size
-store-some i a size (movd e other) = omega arith
-store-some i a size (movq e other) = omega arith
-store-some i a size (movntq e other) = omega arith
-store-some i a size (maskmovq e) = omega arith
+store-some i a size (movd e f other) = omega arith
+store-some i a size (movq e f other) = omega arith
+store-some i a size (movntq e f other) = omega arith
+store-some i a size (maskmovq e f) = omega arith
 
 -- 21 is due
 pub record TwentyOne (floor : ℕ) (code : List ℕ) (at : ℕ) (s : State) : Type 0 where
@@ -132,6 +146,7 @@ twenty-one-in-words floor code at s = (λ e. there belowFloor (step-exactly floo
     there n (nine i size h em ts pending) e = absurd (omega arith)
     there n (ten i size h x touches o based) e = absurd (omega arith)
     there n (fourteen i size h x touches o based) e = absurd (omega arith)
+    there n (nineteen i size h jump clear astray) e = absurd (omega arith)
     there n (twentyOne i size reaches x given b) e =
         record {
           instruction = i;

@@ -10,6 +10,7 @@ use Rattle.codec.specs.declared.Instruction.{Instruction}
 use Rattle.manual.specs.Refusals.{memoryTooLong, floorTooHigh}
 use Rattle.manual.specs.State.{State, Frozen, frozen, longestMemory, isTooLong, isTooHigh}
 use Rattle.manual.specs.Instructions.{execute}
+use Rattle.manual.specs.Jumps.{next}
 use Rattle.manual.specs.Steps.{Outcome, completed, refusedWith, concluded, instructionAt, stepAt}
 use Rattle.manual.specs.Reasons.{Fits}
 use Rattle.manual.specs.Runs.{read, runOf}
@@ -39,14 +40,14 @@ still-fits floor s t same fits =
 -- what holds of runs past the tests of their start, and of those that are refused there, as the step is, holds of a block's runs, by their budget
 pub of-run : (floor : ℕ) (code : List ℕ) (s : State) (P : (ℕ → Answer State) → Type 0)
     → ((n : ℕ) → stepAt floor code 0 s ≡ refusedWith n 0 s → P (λ budget. stopped n 0 0 s))
-    → (Fits floor s → ltb longestCode (length code) ≡ false → P (λ budget. run read (execute floor) budget code s))
+    → (Fits floor s → ltb longestCode (length code) ≡ false → P (λ budget. run read (execute floor) next budget code s))
     → P (λ budget. runOf floor code budget s)
 unfolding runOf stepAt instructionAt readAt
 of-run floor code s P refuses runs =
     tests (isTooLong (s .memory)) (isTooHigh floor (s .memory)) (ltb longestCode (length code)) refl refl refl
   where
     tests : (a b c : Bool) → isTooLong (s .memory) ≡ a → isTooHigh floor (s .memory) ≡ b → ltb longestCode (length code) ≡ c
-        → P (λ budget. cond a (stopped memoryTooLong 0 0 s) (cond b (stopped floorTooHigh 0 0 s) (cond c (stopped codeTooLong 0 0 s) (run read (execute floor) budget code s))))
+        → P (λ budget. cond a (stopped memoryTooLong 0 0 s) (cond b (stopped floorTooHigh 0 0 s) (cond c (stopped codeTooLong 0 0 s) (run read (execute floor) next budget code s))))
     tests true b c ea eb ec = refuses memoryTooLong (simp ea)
     tests false true c ea eb ec = refuses floorTooHigh (simp (ea, eb))
     tests false false true ea eb ec = refuses codeTooLong (simp (ea, eb, ec))
@@ -60,20 +61,29 @@ module _ (floor : ℕ) (code : List ℕ) (at : ℕ) (s : State) (fits : Fits flo
 
   -- a turn of the run is a step at its position
   pub turn : (remaining count : ℕ) → eqb at (length code) ≡ false
-      → runFrom read (execute floor) (suc remaining) code at count s ≡ onward (runFrom read (execute floor) remaining code) count (stepAt floor code at s)
+      → runFrom read (execute floor) next (suc remaining) code at count s ≡ onward (runFrom read (execute floor) next remaining code) count (stepAt floor code at s)
   unfolding stepAt
   turn remaining count more = simp (more, instruction-here) (reading (read (drop at code)))
     where
-      executing : (size : ℕ) (o : Result State)
-          → caseOf o (λ n. stopped n at count s) (λ t. runFrom read (execute floor) remaining code (at + size) (suc count) t)
-          ≡ onward (runFrom read (execute floor) remaining code) count (concluded at (at + size) s o)
-      executing size (refused n) = refl
-      executing size (done t) = refl
+      going : (t : State) (o : Result ℕ)
+          → caseOf o (λ n. stopped n at count s) (λ further. runFrom read (execute floor) next remaining code further (suc count) t)
+          ≡ onward (runFrom read (execute floor) next remaining code) count (concluded at o s (done t))
+      going t (refused n) = refl
+      going t (done further) = refl
+
+      executing : (further : Result ℕ) (o : Result State)
+          → caseOf o (λ n. stopped n at count s)
+          (λ t. caseOf further (λ n. stopped n at count s) (λ position. runFrom read (execute floor) next remaining code position (suc count) t))
+          ≡ onward (runFrom read (execute floor) next remaining code) count (concluded at further s o)
+      executing further (refused n) = refl
+      executing further (done t) = going t further
 
       reading : (o : Result (Fetched Instruction))
           → caseOf o (λ n. stopped n at count s)
-          (λ r. caseOf (execute floor (r .instruction) s) (λ n. stopped n at count s) (λ t. runFrom read (execute floor) remaining code (at + r .size) (suc count) t))
-          ≡ onward (runFrom read (execute floor) remaining code) count
-          (caseOf o (λ n. refusedWith n at s) (λ r. concluded at (at + r .size) s (execute floor (r .instruction) s)))
+          (λ r. caseOf (execute floor (r .instruction) s) (λ n. stopped n at count s)
+          (λ t. caseOf (next (length code) (r .instruction) s (at + r .size)) (λ n. stopped n at count s)
+          (λ further. runFrom read (execute floor) next remaining code further (suc count) t)))
+          ≡ onward (runFrom read (execute floor) next remaining code) count
+          (caseOf o (λ n. refusedWith n at s) (λ r. concluded at (next (length code) (r .instruction) s (at + r .size)) s (execute floor (r .instruction) s)))
       reading (refused n) = refl
-      reading (done r) = executing (r .size) (execute floor (r .instruction) s)
+      reading (done r) = executing (next (length code) (r .instruction) s (at + r .size)) (execute floor (r .instruction) s)

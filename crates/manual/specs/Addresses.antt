@@ -10,10 +10,13 @@ pub record Address : Type 0 where
   pub scale : ℕ
   pub displacement : ℕ
 
+-- a signed byte in 32 bits
+abbrev pub signedByte : ℕ → ℕ
+signedByte byte = cond (leb 128 byte) (byte + (2 ^ 32 - 2 ^ 8)) byte
+
 -- at mod 01 the displacement is a signed byte
 unfoldable pub displacementOf : ℕ → ℕ → ℕ
-displacementOf mode displacement =
-    cond (eqb mode 1 && leb 128 displacement) (displacement + (2 ^ 32 - 2 ^ 8)) displacement
+displacementOf mode displacement = cond (eqb mode 1) (signedByte displacement) displacement
 
 -- at mod 00, 101 is no base
 unfoldable pub baseOf : ℕ → ℕ → Option ℕ

@@ -11,7 +11,7 @@ use Rattle.manual.specs.Refusals.{invalidOpcode, notAvailable, isPending
 use Rattle.manual.specs.State.{State}
 use Rattle.manual.specs.Places.{Place, integer, look, put, allWritable}
 use Rattle.manual.specs.Kinds.{marked, heeded}
-use Rattle.manual.specs.Locations.{Location, mmxRegister, integerRegister, memory, placesOf, registersBehind}
+use Rattle.manual.specs.Locations.{Location, mmxRegister, integerRegister, memory, zeroOperand, placesOf, registersBehind}
 
 pub record Effect : Type 0 where
   pub takes : List Location
@@ -34,12 +34,14 @@ abbrev pub placeCount : Location → ℕ
 placeCount (mmxRegister k) = 1
 placeCount (integerRegister k) = 1
 placeCount (memory a size) = size
+placeCount zeroOperand = 1
 
--- the number of an operand: what stands in its register, or the little-endian number of its bytes
+-- the number of an operand: what stands in its register or its mark, or the little-endian number of its bytes
 abbrev pub valueIn : Location → List ℕ → ℕ
 valueIn (mmxRegister k) contents = getD contents 0 0
 valueIn (integerRegister k) contents = getD contents 0 0
 valueIn (memory a size) contents = number contents
+valueIn zeroOperand contents = getD contents 0 0
 
 -- one number for each operand, from what stands in all their places
 abbrev pub valuesIn : List Location → List ℕ → List ℕ
@@ -51,6 +53,7 @@ abbrev pub contentsOf : Location → ℕ → List ℕ
 contentsOf (mmxRegister k) value = value ∷ []
 contentsOf (integerRegister k) value = value ∷ []
 contentsOf (memory a size) value = bytes size value
+contentsOf zeroOperand value = value ∷ []
 
 abbrev pub contentsOfAll : List Location → List ℕ → List ℕ
 contentsOfAll [] values = []

@@ -1,6 +1,6 @@
 -- The footprint of the step at a position, as lists of places, and when two footprints meet.
-use Rattle.basis.specs.Names.{List, ℕ}
-use Rattle.reorder.specs.Result.{Result, andThen}
+use Rattle.basis.specs.Names.{List, ℕ, _+_, length}
+use Rattle.reorder.specs.Result.{Result, andThen, mapResult}
 use Rattle.reorder.specs.Footprint as places
 use Rattle.reorder.specs.Run.{positionReached, stateReached}
 use Rattle.codec.specs.declared.Kind.{Kind}
@@ -8,12 +8,16 @@ use Rattle.manual.specs.State.{State}
 use Rattle.manual.specs.Places.{Place}
 use Rattle.manual.specs.Kinds.{KindsMeet}
 use Rattle.manual.specs.Instructions.{footprint}
+use Rattle.manual.specs.Jumps.{next}
 use Rattle.manual.specs.Steps.{instructionAt}
 use Rattle.manual.specs.Runs.{runOf}
 
 -- what the step over a floor reads and writes, or the step's refusal
 unfoldable pub footprintAt : ℕ → List ℕ → ℕ → State → Result (places.Footprint Place Kind)
-footprintAt floor code at s = andThen (instructionAt floor code at s) (λ read. footprint floor (read .instruction) s)
+footprintAt floor code at s =
+    andThen (instructionAt floor code at s)
+    (λ read. andThen (footprint floor (read .instruction) s)
+    (λ found. mapResult (λ further. found) (next (length code) (read .instruction) s (at + read .size))))
 
 -- the footprint of instruction k of a block, in the state where it runs over a floor in the original order: that of the step which a run of k
 -- instructions has come to

@@ -1,14 +1,16 @@
--- What each instruction takes and gives: by its form's operands and its operation.
-use Rattle.basis.specs.Names.{cond, List, [], _∷_, map, ℕ, _+_, _-_, _^_, _%_, eqb, length, getD}
+-- What each instruction takes and gives: by its form's operands and its operation, or as those of loops do.
+use Rattle.basis.specs.Names.{Bool, true, false, cond, List, [], _∷_, map, ℕ, _+_, _-_, _^_, _%_, eqb, length, getD}
 use Rattle.lanes.specs.Operations.{Operation, operate, operateThree}
 use Rattle.reorder.specs.Result.{Result, done}
 use Rattle.reorder.specs.Footprint.{Footprint}
-use Rattle.codec.specs.Forms.{Use, read, written, updated, untouched, File, mmxFile, integerFile, Slot, reg, rm, rm/mem, mem, edi, fixed, Form}
-use Rattle.codec.specs.Opcodes.{formAt, operationAt}
+use Rattle.codec.specs.Forms.{Use, read, written, updated, untouched, File, mmxFile, integerFile, Slot, reg, rm, rm/mem, mem, edi, fixed, opcode, zeroSlot, Form}
+use Rattle.codec.specs.Opcodes.{formFor, operationFor}
 use Rattle.codec.specs.declared.Instruction.{Instruction}
 use Rattle.codec.specs.declared.Kind.{Kind}
+use Rattle.codec.specs.declared.Kind.the-variants.{Ordinary, Emms, Silent, Loop}
 use Rattle.manual.specs.State.{State}
 use Rattle.manual.specs.Places.{Place}
+use Rattle.manual.specs.Addresses.{signedByte}
 use Rattle.manual.specs.Locations.{locate}
 use Rattle.manual.specs.Effects.{Effect, perform, footprintOf}
 
@@ -32,6 +34,7 @@ abbrev kept : File → ℕ → ℕ
 kept mmxFile x = x
 kept integerFile x = x % 2 ^ 32
 
+-- and the zero mark, whether that is 0
 abbrev pub keptBy : Slot → ℕ → ℕ
 keptBy (reg file) x = kept file x
 keptBy (rm file) x = kept file x
@@ -39,6 +42,8 @@ keptBy (rm/mem file size) x = kept file x
 keptBy (mem size) x = x
 keptBy (edi size) x = x
 keptBy (fixed k) x = x
+keptBy (opcode file) x = kept file x
+keptBy zeroSlot x = cond (eqb (kept integerFile x) 0) 1 0
 
 -- how many numbers an instruction goes by: those that it reads, and the immediate
 abbrev pub numberCount : Form → ℕ
@@ -55,19 +60,35 @@ leftBy form operation immediate values =
     (operateThree operation (getD values 0 0) (getD values 1 0) (lastNumber form immediate values))
     (operate operation (getD values 0 0) (lastNumber form immediate values))
 
--- the effect of an instruction by a form and an operation: every operand that is written becomes what the operation leaves
+-- what one of loops adds to the number that it reads, if it reads one, by how many bytes its immediate has: all four (MOV), a signed byte (ADD), or,
+-- where there is none, minus 1 (DEC); JNZ gives nothing, so that its sum goes nowhere
+abbrev pub addend : ℕ → ℕ → ℕ
+addend size immediate = cond (eqb size 4) immediate (cond (eqb size 1) (signedByte immediate) (2 ^ 32 - 1))
+
+abbrev pub isLoop : Kind → Bool
+isLoop Ordinary = false
+isLoop Emms = false
+isLoop Silent = false
+isLoop Loop = true
+
+-- what an instruction leaves: of loops, a sum; else what its operation leaves
+abbrev pub resultBy : Form → Operation → ℕ → List ℕ → ℕ
+resultBy form operation immediate values =
+    cond (isLoop (form .kind)) (getD values 0 0 + addend (form .immediate) immediate) (leftBy form operation immediate values)
+
+-- the effect of an instruction by a form and an operation: every operand that is written becomes what the instruction leaves
 abbrev pub effectBy : Form → Operation → Instruction → Effect
 effectBy form operation i =
     record {
       takes = map (locate i) (sources (form .operands));
       gives = map (locate i) (targets (form .operands));
-      value = λ values. done (map (λ x. keptBy x (leftBy form operation (i .immediate) values)) (targets (form .operands)));
+      value = λ values. done (map (λ x. keptBy x (resultBy form operation (i .immediate) values)) (targets (form .operands)));
       kind = form .kind;
     }
 
--- the effect of an instruction, by the list
+-- the effect of an instruction, by the lists
 unfoldable pub effectOf : Instruction → Effect
-effectOf i = effectBy (formAt (i .second)) (operationAt (i .second) (i .operand .reg)) i
+effectOf i = effectBy (formFor (i .first) (i .second)) (operationFor (i .first) (i .second) (i .operand .reg)) i
 
 -- one instruction over a floor, in a state: the state that it leaves, or 7 to 10, 14 or 21
 unfoldable pub execute : ℕ → Instruction → State → Result State

@@ -1,5 +1,5 @@
 -- The manual's rules, each after what it builds on: the state, its places and kinds, where an operand is, what each instruction takes and gives,
--- one step, the run, footprints; then a word of private contracts.
+-- where a run goes on, one step, the run, footprints; then a word of private contracts.
 pub mod State
 pub mod Refusals
 pub mod Places
@@ -8,6 +8,7 @@ pub mod Addresses
 pub mod Locations
 pub mod Effects
 pub mod Instructions
+pub mod Jumps
 pub mod Steps
 pub mod Reasons
 pub mod Runs

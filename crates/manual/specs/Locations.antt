@@ -1,18 +1,19 @@
--- Where an operand is: in a register, or in memory; and which places it has there.
-use Rattle.basis.specs.Names.{Bool, cond, none, some, List, [], _∷_, ℕ, zero, suc, _+_, eqb, leb, length}
+-- Where an operand is: in a register, in memory, or in the zero mark; and which places it has there.
+use Rattle.basis.specs.Names.{Bool, cond, none, some, List, [], _∷_, ℕ, zero, suc, _+_, _%_, eqb, leb, length}
 use Rattle.reorder.specs.Result.{Result, done, refused}
-use Rattle.codec.specs.Forms.{File, mmxFile, integerFile, Slot, reg, rm, rm/mem, mem, edi, fixed}
+use Rattle.codec.specs.Forms.{File, mmxFile, integerFile, Slot, reg, rm, rm/mem, mem, edi, fixed, opcode, zeroSlot}
 use Rattle.codec.specs.declared.Operand.{Operand}
 use Rattle.codec.specs.declared.Instruction.{Instruction}
 use Rattle.manual.specs.Refusals.{outsideMemory, outsideByStack}
 use Rattle.manual.specs.State.{State}
-use Rattle.manual.specs.Places.{Place, mmx, integer, byte}
+use Rattle.manual.specs.Places.{Place, mmx, integer, byte, zeroMark}
 use Rattle.manual.specs.Addresses.{Address, addressOf, isStackBase, address, addressRegisters}
 
--- a register, or so many bytes at an address
+-- a register, so many bytes at an address, or the zero mark
 pub data Location : Type 0 where
   mmxRegister integerRegister : ℕ → Location
   memory : Address → ℕ → Location
+  zeroOperand : Location
 
 abbrev pub registerIn : File → ℕ → Location
 registerIn mmxFile k = mmxRegister k
@@ -35,6 +36,8 @@ locate i (rm/mem file size) = rmOf file size (i .operand)
 locate i (mem size) = rmOf mmxFile size (i .operand)
 locate i (edi size) = memory atEdi size
 locate i (fixed k) = mmxRegister k
+locate i (opcode file) = registerIn file (i .first % 8)
+locate i zeroSlot = zeroOperand
 
 -- the bytes from an address on, so many: the operand itself never wraps
 abbrev pub bytesFrom : ℕ → ℕ → List Place
@@ -58,9 +61,11 @@ abbrev pub placesOf : State → Location → Result (List Place)
 placesOf s (mmxRegister k) = done (mmx k ∷ [])
 placesOf s (integerRegister k) = done (integer k ∷ [])
 placesOf s (memory a size) = tested (missOf a) (length (s .memory)) size (address (s .integers) a)
+placesOf s zeroOperand = done (zeroMark ∷ [])
 
 -- the integer registers that decide where it is
 abbrev pub registersBehind : Location → List ℕ
 registersBehind (mmxRegister k) = []
 registersBehind (integerRegister k) = []
 registersBehind (memory a size) = addressRegisters a
+registersBehind zeroOperand = []

@@ -1,4 +1,4 @@
--- The refusal numbers of steps, runs and footprints, from document 01's table of them and document 02's Req 04 and 08 (2 to 6 are the reader's).
+-- The refusal numbers of steps, runs and footprints, from document 01's table of them and document 02's Req 04, 07 and 08 (2 to 6 are the reader's).
 use Rattle.basis.specs.Names.{ℕ}
 
 -- the memory is longer than 32,768 bytes
@@ -24,6 +24,10 @@ outsideMemory = 10
 -- the same, where the operand's base register is ESP or EBP
 abbrev pub outsideByStack : ℕ
 outsideByStack = 14
+
+-- a jump that is taken goes to before 0 or past the code's end
+abbrev pub jumpsOutside : ℕ
+jumpsOutside = 19
 
 -- the floor is above the memory's length
 abbrev pub floorTooHigh : ℕ

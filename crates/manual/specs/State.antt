@@ -24,11 +24,19 @@ withMemory s memory = record { mmx = s .mmx; integers = s .integers; marks = s .
 
 -- the marks with the tag mark valid (true) or empty (false)
 abbrev pub tagged : Marks → Bool → Marks
-tagged marks valid = record { valid = valid; em = marks .em; ts = marks .ts; pending = marks .pending }
+tagged marks valid = record { valid = valid; zero = marks .zero; em = marks .em; ts = marks .ts; pending = marks .pending }
 
 -- the state with the tag mark valid (true) or empty (false)
 abbrev pub withTag : State → Bool → State
 withTag s valid = record { mmx = s .mmx; integers = s .integers; marks = tagged (s .marks) valid; memory = s .memory }
+
+-- the marks with the zero mark set (true) or clear (false)
+abbrev pub zeroed : Marks → Bool → Marks
+zeroed marks zero = record { valid = marks .valid; zero = zero; em = marks .em; ts = marks .ts; pending = marks .pending }
+
+-- the state with the zero mark set (true) or clear (false)
+abbrev pub withZero : State → Bool → State
+withZero s zero = record { mmx = s .mmx; integers = s .integers; marks = zeroed (s .marks) zero; memory = s .memory }
 
 -- the longest memory, in bytes
 abbrev pub longestMemory : ℕ

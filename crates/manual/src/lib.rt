@@ -4,6 +4,8 @@
 pub struct Marks {
     // the tag mark: valid, or empty
     pub valid: bool,
+    // the zero mark
+    pub zero: bool,
     // the control marks
     pub em: bool,
     pub ts: bool,

@@ -14,16 +14,16 @@ pub example : (pageOf file ≡ wellFormedWith 0) × (map (λ (tag : ℕ). conten
 unfolding mayHold size holds remaining wellFormed contentsOf pageOf
 example = (refl, refl)
 
--- all five fields: code and memory may be empty, and a marks byte may have bits 0 to 3
+-- all five fields: code and memory may be empty, and a marks byte may have bits 0 to 4
 abbrev integers : List ℕ
 integers = 0x44 ∷ replicate 31 0
 
 abbrev five : List ℕ
 five =
     0x01 ∷ 0x00 ∷ 0x00 ∷ 0x02 ∷ 0x00 ∷ 0x00 ∷ 0x03 ∷ 0x40 ∷ 0x00
-    ∷ (registers ++ (0x04 ∷ 0x20 ∷ 0x00 ∷ (integers ++ (0x05 ∷ 0x01 ∷ 0x00 ∷ 0x0F ∷ []))))
+    ∷ (registers ++ (0x04 ∷ 0x20 ∷ 0x00 ∷ (integers ++ (0x05 ∷ 0x01 ∷ 0x00 ∷ 0x1F ∷ []))))
 
-pub five-fields : (pageOf five ≡ wellFormedWith 0x0F) × (map (λ (tag : ℕ). contentsOf tag five) (1 ∷ 2 ∷ 3 ∷ 4 ∷ []) ≡ [] ∷ [] ∷ registers ∷ integers ∷ [])
+pub five-fields : (pageOf five ≡ wellFormedWith 0x1F) × (map (λ (tag : ℕ). contentsOf tag five) (1 ∷ 2 ∷ 3 ∷ 4 ∷ []) ≡ [] ∷ [] ∷ registers ∷ integers ∷ [])
 unfolding mayHold size holds remaining wellFormed contentsOf pageOf
 five-fields = (refl, refl)
 
@@ -37,7 +37,7 @@ pub broken : map pageOf
     ∷ (0x06 ∷ 0x00 ∷ 0x00 ∷ [])
     ∷ (0x01 ∷ 0x02 ∷ 0x00 ∷ 0x0F ∷ [])
     ∷ (0x01 ∷ 0x00 ∷ 0x00 ∷ 0x02 ∷ [])
-    ∷ (0x05 ∷ 0x01 ∷ 0x00 ∷ 0x10 ∷ [])
+    ∷ (0x05 ∷ 0x01 ∷ 0x00 ∷ 0x20 ∷ [])
     ∷ [])
     ≡ replicate 9 (refusedWith 13)
 unfolding mayHold size remaining wellFormed contentsOf pageOf

@@ -10,12 +10,12 @@ pub record Field : Type 0 where
 abbrev pub written : Field → List ℕ
 written f = f .tag ∷ (bytes 2 (length (f .contents)) ++ f .contents)
 
--- 01 code and 02 memory have any contents; 03 MMX registers 64 bytes; 04 integer registers 32; 05 marks one byte, whose upper four bits are 0
+-- 01 code and 02 memory have any contents; 03 MMX registers 64 bytes; 04 integer registers 32; 05 marks one byte, whose upper three bits are 0
 unfoldable pub mayHold : ℕ → List ℕ → Bool
 mayHold tag contents =
     cond (eqb tag 3) (eqb (length contents) 64)
     (cond (eqb tag 4) (eqb (length contents) 32)
-    (cond (eqb tag 5) (eqb (length contents) 1 && ltb (getD contents 0 0) 16) true))
+    (cond (eqb tag 5) (eqb (length contents) 1 && ltb (getD contents 0 0) 32) true))
 
 -- fields with tags up to 05 that ascend, the first of them above `last`, and with the contents that these tags may have
 abbrev pub Ascending : ℕ → List Field → Type 0

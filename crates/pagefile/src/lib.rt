@@ -26,8 +26,8 @@ const INTEGER_BYTES: usize = 32;
 
 const MARKS_BYTES: usize = 1;
 
-// The marks have bits 0 to 3, so they are below this.
-const MARKS_LIMIT: u8 = 16;
+// The marks have bits 0 to 4, so they are below this.
+const MARKS_LIMIT: u8 = 32;
 
 // The bytes of the longest file.
 pub const LONGEST_FILE: usize = 65536;

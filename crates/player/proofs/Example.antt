@@ -14,7 +14,7 @@ use Rattle.machine.specs.Starts.{startOf}
 use Rattle.pagefile.specs.Fields.{mayHold}
 use Rattle.pagefile.specs.Parsing.{size, holds, remaining, wellFormed, contentsOf, codeOf, memoryOf, pageOf}
 use Rattle.printout.specs.Characters.{ascii, digits, places, decimal}
-use Rattle.printout.specs.Lines.{answer, firstLine, registerLines, mmxLines, integerLines, tagsLine, memoryLine, byteLines, reportText, refusalText}
+use Rattle.printout.specs.Lines.{answer, firstLine, registerLines, mmxLines, integerLines, tagsLine, zeroLine, memoryLine, byteLines, reportText, refusalText}
 use Rattle.printout.proofs.Example.{lines}
 use Rattle.player.specs.Page.{stateText, answerText, runIn, wellFormedText, pageText}
 
@@ -41,9 +41,10 @@ pub example : pageText file
     ∷ "esi 00000000"
     ∷ "edi 00000000"
     ∷ "tags valid"
+    ∷ "zero 0"
     ∷ "memory 0"
     ∷ [])
-unfolding loaded mayHold size holds remaining wellFormed contentsOf pageOf startOf stateText runIn wellFormedText pageText reportText answer firstLine registerLines mmxLines integerLines tagsLine memoryLine byteLines decimal digits places
+unfolding loaded mayHold size holds remaining wellFormed contentsOf pageOf startOf stateText runIn wellFormedText pageText reportText answer firstLine registerLines mmxLines integerLines tagsLine zeroLine memoryLine byteLines decimal digits places
 example = ap answerText (computed .customer)
 
 -- EMMS, 17 bytes of memory, the MMX registers, the integer registers, and these marks
@@ -55,8 +56,8 @@ marked marks =
     ++ (0x04 ∷ 0x20 ∷ 0x00 ∷ from 0x41 32)
     ++ (0x05 ∷ 0x01 ∷ 0x00 ∷ marks ∷ [])
 
--- EM with the tags valid
-pub every-field : pageText (marked 0x09)
+-- EM, with the tags valid and the zero mark set
+pub every-field : pageText (marked 0x19)
     ≡ lines
     ("refused 7 0 at 0"
     ∷ "mm0 0807060504030201"
@@ -76,11 +77,12 @@ pub every-field : pageText (marked 0x09)
     ∷ "esi 5C5B5A59"
     ∷ "edi 605F5E5D"
     ∷ "tags valid"
+    ∷ "zero 1"
     ∷ "memory 17"
     ∷ "A0 A1 A2 A3 A4 A5 A6 A7 A8 A9 AA AB AC AD AE AF"
     ∷ "B0"
     ∷ [])
-unfolding loaded mayHold size holds remaining wellFormed contentsOf pageOf startOf formAt operationAt immediateReader formReader secondReader instructionReader effectOf execute read runOf stateText runIn wellFormedText pageText reportText answer firstLine registerLines mmxLines integerLines tagsLine memoryLine byteLines decimal digits places
+unfolding loaded mayHold size holds remaining wellFormed contentsOf pageOf startOf formAt operationAt immediateReader formReader secondReader instructionReader effectOf execute read runOf stateText runIn wellFormedText pageText reportText answer firstLine registerLines mmxLines integerLines tagsLine zeroLine memoryLine byteLines decimal digits places
 every-field = refl
 
 -- TS, and pending

@@ -30,7 +30,7 @@ answer-text (end.Refused n) at count s = refl
 pub run-of-parts : (file memory after mmx integers code buffer : List ℕ) (marks : ℕ) (machine : Machine) (ran : Ran) (p : Printed)
     → mmx ≡ mmxOf file → integers ≡ integersOf file → machine ≡ startOf mmx integers marks → code ≡ codeOf file
     → paperOfRun ran after ≡ runOf 0 code budget (stateOf machine memory)
-    → p ≡ printed (reportText (ran .end) (ran .count) (ran .at) (ran .machine .mmx) (ran .machine .integers) (ran .machine .marks .valid) after) buffer
+    → p ≡ printed (reportText (ran .end) (ran .count) (ran .at) (ran .machine .mmx) (ran .machine .integers) (ran .machine .marks .valid) (ran .machine .marks .zero) after) buffer
     → p ≡ printed (answerText (runIn memory marks file)) buffer
 unfolding stateText runIn
 run-of-parts file memory after mmx integers code buffer marks machine ran p m i start c run told =

@@ -28,7 +28,7 @@ module _ (code : List ℕ) (start : State) (eight : length (start .mmx) ≡ 8) (
       let mmx : length (t .mmx) ≡ 8 = ap (λ (f : Frozen). f .mmx) same ∙ eight in
       let integers : length (t .integers) ≡ 8 = ap (λ (f : Frozen). f .integers) same ∙ eight′ in
       let memory : length (t .memory) ≡ length (start .memory) = ap (λ (f : Frozen). f .memory) same in
-      report-most e count at (t .mmx) (t .integers) (t .marks .valid) (t .memory) small
+      report-most e count at (t .mmx) (t .integers) (t .marks .valid) (t .marks .zero) (t .memory) small
       (omega (arith, b .completed-steps)) (omega (arith, b .position)) mmx integers (omega arith)
 
   answer-most : (a : Answer State) → Bounded code budget start a → length (answerText a) ≤ longestReport

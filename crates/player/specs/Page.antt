@@ -20,7 +20,7 @@ budget = 4096
 -- the report of a state, with how its run ended, the position reached and the count of instructions completed
 unfoldable pub stateText : End → ℕ → ℕ → State → List ℕ
 stateText ending at count s =
-    reportText ending count at (s .mmx) (s .integers) (s .marks .valid) (s .memory)
+    reportText ending count at (s .mmx) (s .integers) (s .marks .valid) (s .marks .zero) (s .memory)
 
 -- the report of each answer of a run
 abbrev pub answerText : Answer State → List ℕ

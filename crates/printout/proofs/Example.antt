@@ -1,9 +1,9 @@
--- The lines of a text, and what the definition computes to: the first line of each ending, the tags line of each mark, and the memory's lines of
+-- The lines of a text, and what the definition computes to: the first line of each ending, the lines of each mark, and the memory's lines of
 -- three rows.
 use Rattle.basis.specs.Names.{_≡_, refl, true, false, List, [], _∷_, _++_, ℕ, String}
 use Rattle.machine.specs.declared.End.the-variants.{Done, Spent, Refused}
 use Rattle.printout.specs.Characters.{ascii, newline, digits, places, decimal}
-use Rattle.printout.specs.Lines.{answer, firstLine, tagsLine, memoryLine, byteLines}
+use Rattle.printout.specs.Lines.{answer, firstLine, tagsLine, zeroLine, memoryLine, byteLines}
 
 -- a text by its lines
 abbrev pub lines : List String → List ℕ
@@ -24,6 +24,11 @@ first-lines = record { done-line = refl; spent-line = refl; refused-line = refl 
 pub tags-lines : tagsLine true ++ tagsLine false ≡ lines ("tags valid" ∷ "tags empty" ∷ [])
 unfolding tagsLine
 tags-lines = refl
+
+-- the zero mark's
+pub zero-lines : zeroLine true ++ zeroLine false ≡ lines ("zero 1" ∷ "zero 0" ∷ [])
+unfolding zeroLine
+zero-lines = refl
 
 pub byte-lines : memoryLine 34
     ++ byteLines 0

@@ -4,7 +4,7 @@ use Rattle.basis.proofs.Names.{mul-suc, arith, length-append, length-take, leng
 use Rattle.machine.specs.declared.End.{End}
 use Rattle.machine.specs.declared.End.the-variants.{Done, Spent, Refused}
 use Rattle.printout.specs.Characters.{places, decimal}
-use Rattle.printout.specs.Lines.{answer, firstLine, registerLines, mmxNames, integerNames, mmxLines, integerLines, tagsLine, memoryLine, byteLines, reportText, refusalText}
+use Rattle.printout.specs.Lines.{answer, firstLine, registerLines, mmxNames, integerNames, mmxLines, integerLines, tagsLine, zeroLine, memoryLine, byteLines, reportText, refusalText}
 use Rattle.printout.specs.inner.Room.{reportLength}
 use Rattle.printout.proofs.Numbers.{length-digits}
 
@@ -56,23 +56,28 @@ unfolding tagsLine
 length-tags-line true = refl
 length-tags-line false = refl
 
+length-zero-line : (zero : Bool) → length (zeroLine zero) ≡ 7
+unfolding zeroLine
+length-zero-line true = refl
+length-zero-line false = refl
+
 -- the whole text's
 pub length-refusal : (number : ℕ) → length (refusalText number) ≡ 8 + places number number + 1
 unfolding refusalText
 length-refusal number = simp (length-append, length-decimal) (omega arith)
 
-pub length-report : (ending : End) (count position : ℕ) (mmx integers : List ℕ) (valid : Bool) (memory : List ℕ)
+pub length-report : (ending : End) (count position : ℕ) (mmx integers : List ℕ) (valid zero : Bool) (memory : List ℕ)
     → length mmx ≡ 8 → length integers ≡ 8
-    → length (reportText ending count position mmx integers valid memory) ≡ reportLength ending count position (length memory)
+    → length (reportText ending count position mmx integers valid zero memory) ≡ reportLength ending count position (length memory)
 unfolding reportText mmxLines integerLines
-length-report ending count position mmx integers valid memory eight eight′ =
+length-report ending count position mmx integers valid zero memory eight eight′ =
     let mmx-lines = length-register-lines mmxNames 16 mmx (omega arith) in
     let integer-lines = length-register-lines integerNames 8 integers (omega arith) in
-    simp length-append (omega (arith, mmx-lines, integer-lines, length-tags-line valid, length-byte-lines 0 memory))
+    simp length-append (omega (arith, mmx-lines, integer-lines, length-tags-line valid, length-zero-line zero, length-byte-lines 0 memory))
 
 -- the report's, from the characters that are counted of its numbers
 pub counted-report : (ending : End) (count position memory a c p m : ℕ)
     → a ≡ length (answer ending) → c ≡ places count count → p ≡ places position position → m ≡ places memory memory
-    → reportLength ending count position memory ≡ a + c + p + m + 6 + 168 + 104 + 11 + 8 + 3 * memory
+    → reportLength ending count position memory ≡ a + c + p + m + 6 + 168 + 104 + 11 + 7 + 8 + 3 * memory
 counted-report ending count position memory a c p m answered counted placed sized =
     omega (arith, length-first-line ending count position, length-memory-line memory)

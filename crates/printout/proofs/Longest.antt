@@ -29,13 +29,13 @@ pub refusal-most : (number : ℕ) → number < 256 → length (refusalText numbe
 refusal-most number small = omega (arith, length-refusal number, byte-most number small)
 
 -- a report of a memory that the machine takes, with a count and a position that the code can hold
-pub report-most : (ending : End) (count position : ℕ) (mmx integers : List ℕ) (valid : Bool) (memory : List ℕ)
+pub report-most : (ending : End) (count position : ℕ) (mmx integers : List ℕ) (valid zero : Bool) (memory : List ℕ)
     → Small ending → count < 2 ^ 64 → position < 2 ^ 64 → length mmx ≡ 8 → length integers ≡ 8 → length memory ≤ longestMemory
-    → length (reportText ending count position mmx integers valid memory) ≤ longestReport
-report-most ending count position mmx integers valid memory small less less′ eight eight′ largest =
+    → length (reportText ending count position mmx integers valid zero memory) ≤ longestReport
+report-most ending count position mmx integers valid zero memory small less less′ eight eight′ largest =
     omega (
       arith,
-      length-report ending count position mmx integers valid memory eight eight′,
+      length-report ending count position mmx integers valid zero memory eight eight′,
       counted-report ending count position (length memory) _ _ _ _ refl refl refl refl,
       answer-most ending small,
       places-most 19 count count (omega arith),

@@ -4,7 +4,7 @@ use Rattle.basis.proofs.Names.{ap, add-sub-cancel-left, add-one, arith, length-
 use Rattle.machine.specs.declared.End.{End}
 use Rattle.machine.specs.declared.End.the-variants.{Done, Spent, Refused}
 use Rattle.printout.specs.Characters.{ascii, newline, hex, digits, places, decimal}
-use Rattle.printout.specs.Lines.{answer, refused, registerLines, tagsLine, gapAfter, byteLines}
+use Rattle.printout.specs.Lines.{answer, refused, registerLines, tagsLine, zeroLine, gapAfter, byteLines}
 use Rattle.printout.specs.inner.Room.{Fits, Puts}
 use Rattle.printout.proofs.Putting.{turning, chain, fits-next, fits-as, puts-as}
 use Rattle.printout.proofs.Numbers.{length-digits}
@@ -31,6 +31,15 @@ module _ (valid : Bool) where
   unfolding tagsLine
   tags-empty e = rw e
 
+module _ (zero : Bool) where
+  pub zero-set : zero ≡ true → zeroLine zero ≡ ascii "zero 1\n"
+  unfolding zeroLine
+  zero-set e = rw e
+
+  pub zero-clear : zero ≡ false → zeroLine zero ≡ ascii "zero 0\n"
+  unfolding zeroLine
+  zero-clear e = rw e
+
 pub decimal-is : (number count : ℕ) → count ≡ places number number → decimal number ≡ digits 10 count number
 unfolding decimal
 decimal-is number count counted = rw counted
@@ -44,7 +53,7 @@ pub decimal-room : (number count at p : ℕ) (xs l m : List ℕ) → Puts xs at 
 decimal-room number count at p xs l m one fits counted =
     omega (arith, fits-next one fits .room, ap length (decimal-is number count counted), length-digits 10 count number)
 
-pub ruleset naming = (chain, fits-as, puts-as, answer-done, answer-spent, answer-refused, tags-valid, tags-empty, decimal-is, digits-room, decimal-room)
+pub ruleset naming = (chain, fits-as, puts-as, answer-done, answer-spent, answer-refused, tags-valid, tags-empty, zero-set, zero-clear, decimal-is, digits-room, decimal-room)
 
 -- the characters of a word
 module _ (word : List ℕ) (i : ℕ) where

@@ -3,7 +3,7 @@ use Rattle.basis.specs.Names.{_≡_, refl, Bool, true, false, not, cond, List, 
 use Rattle.basis.proofs.Names.{sym, ap, subst, _∙_, zero-add, arith, needs, leb-true, leb-false, le-leb, lt-leb, not-true, not-false, length-append, sets-eq}
 use Rattle.machine.specs.declared.End.{End}
 use Rattle.printout.specs.Characters.{places}
-use Rattle.printout.specs.Lines.{firstLine, mmxLines, integerLines, tagsLine, memoryLine, byteLines, reportText, refusalText}
+use Rattle.printout.specs.Lines.{firstLine, mmxLines, integerLines, tagsLine, zeroLine, memoryLine, byteLines, reportText, refusalText}
 use Rattle.printout.specs.Printing.{Printed, printing, printed}
 use Rattle.printout.specs.inner.Room.{put, Fits, Puts, reportLength}
 use Rattle.printout.proofs.Putting.{fits-first, fits-next, then}
@@ -65,20 +65,20 @@ module _ (number count : ℕ) (buffer : List ℕ) (counted : count ≡ places nu
   refusal-printed end after enough puts = whole (refusalText number) buffer end after (refusal-fits enough) puts
 
 -- a report, where the test of its room is made: its upper part is put, then its lower part
-module _ (ending : End) (count position : ℕ) (mmx integers : List ℕ) (valid : Bool) (memory buffer : List ℕ) (enough : Bool)
+module _ (ending : End) (count position : ℕ) (mmx integers : List ℕ) (valid zero : Bool) (memory buffer : List ℕ) (enough : Bool)
     (tested : enough ≡ leb (reportLength ending count position (length memory)) (length buffer))
     (eight : length mmx ≡ 8) (eight′ : length integers ≡ 8) where
   abbrev top : List ℕ
   top = firstLine ending count position ++ mmxLines mmx ++ integerLines integers
 
   abbrev bottom : List ℕ
-  bottom = tagsLine valid ++ memoryLine (length memory) ++ byteLines 0 memory
+  bottom = tagsLine valid ++ zeroLine zero ++ memoryLine (length memory) ++ byteLines 0 memory
 
   counted : length (top ++ bottom) ≡ reportLength ending count position (length memory)
   unfolding reportText
-  counted = length-report ending count position mmx integers valid memory eight eight′
+  counted = length-report ending count position mmx integers valid zero memory eight eight′
 
-  pub report-short : not enough ≡ true → printing 0 buffer ≡ printed (reportText ending count position mmx integers valid memory) buffer
+  pub report-short : not enough ≡ true → printing 0 buffer ≡ printed (reportText ending count position mmx integers valid zero memory) buffer
   unfolding reportText
   report-short failed =
       too-short (top ++ bottom) buffer (omega (arith, leb-false _ (length buffer) (sym tested ∙ not-true enough failed), counted))
@@ -95,7 +95,7 @@ module _ (ending : End) (count position : ℕ) (mmx integers : List ℕ) (valid 
       bottom-fits = fits-next upper report-fits
 
       pub report-printed : (end : ℕ) (after : List ℕ) → Puts bottom between middle end after
-          → printing end after ≡ printed (reportText ending count position mmx integers valid memory) buffer
+          → printing end after ≡ printed (reportText ending count position mmx integers valid zero memory) buffer
       unfolding reportText
       report-printed end after lower = whole (top ++ bottom) buffer end after report-fits (then upper lower)
 

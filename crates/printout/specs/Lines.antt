@@ -42,6 +42,10 @@ integerLines values = registerLines integerNames 8 values
 unfoldable pub tagsLine : Bool → List ℕ
 tagsLine valid = cond valid (ascii "tags valid\n") (ascii "tags empty\n")
 
+-- `zero 1` or `zero 0`
+unfoldable pub zeroLine : Bool → List ℕ
+zeroLine zero = cond zero (ascii "zero 1\n") (ascii "zero 0\n")
+
 -- `memory 32768`
 unfoldable pub memoryLine : ℕ → List ℕ
 memoryLine count = ascii "memory " ++ decimal count ++ newline
@@ -56,14 +60,14 @@ byteLines index [] = []
 byteLines index (byte ∷ bytes) = hex 2 byte ++ (gapAfter index (length bytes) ∷ []) ++ byteLines (suc index) bytes
 
 -- all that is printed of a run
-unfoldable pub reportText : End → ℕ → ℕ → List ℕ → List ℕ → Bool → List ℕ → List ℕ
-reportText ending count position mmx integers valid memory =
+unfoldable pub reportText : End → ℕ → ℕ → List ℕ → List ℕ → Bool → Bool → List ℕ → List ℕ
+reportText ending count position mmx integers valid zero memory =
     (firstLine ending count position ++ mmxLines mmx ++ integerLines integers)
-    ++ (tagsLine valid ++ memoryLine (length memory) ++ byteLines 0 memory)
+    ++ (tagsLine valid ++ zeroLine zero ++ memoryLine (length memory) ++ byteLines 0 memory)
 
 -- the longest report of a memory that the machine takes: a refusal has up to 3 digits, a count and a position up to 20 each, the memory's length 5
 abbrev pub longestReport : ℕ
-longestReport = (11 + 20 + 20 + 6) + (8 * 21 + 8 * 13 + 11) + (5 + 8) + 3 * longestMemory
+longestReport = (11 + 20 + 20 + 6) + (8 * 21 + 8 * 13 + 11 + 7) + (5 + 8) + 3 * longestMemory
 
 -- all that is printed of a refused file
 unfoldable pub refusalText : ℕ → List ℕ

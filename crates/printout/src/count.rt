@@ -29,12 +29,14 @@ pub(crate) const MMX_DIGITS: usize = 16;
 
 pub(crate) const INTEGER_DIGITS: usize = 8;
 
-// The characters of all lines of the registers, and of the line of the tags.
+// The characters of all lines of the registers, and of the lines of the tags and of the zero mark.
 const MMX_LINES: usize = REGISTERS * (NAME + MMX_DIGITS + LINE_END);
 
 const INTEGER_LINES: usize = REGISTERS * (NAME + INTEGER_DIGITS + LINE_END);
 
 const TAGS_LINE: usize = 11;
+
+const ZERO_LINE: usize = 7;
 
 // The hex digits of a byte of the memory, and its characters with the one after it.
 pub(crate) const BYTE_DIGITS: usize = 2;
@@ -56,6 +58,7 @@ const HEADINGS: usize = REFUSED
     + MMX_LINES
     + INTEGER_LINES
     + TAGS_LINE
+    + ZERO_LINE
     + MEMORY_DIGITS
     + MEMORY_LINE;
 
@@ -87,7 +90,13 @@ pub(crate) fn has_room(
         + decimal_places(count as u64)
         + decimal_places(position as u64)
         + decimal_places(memory as u64);
-    let headings = numbers + FIRST_LINE + MMX_LINES + INTEGER_LINES + TAGS_LINE + MEMORY_LINE;
+    let headings = numbers
+        + FIRST_LINE
+        + MMX_LINES
+        + INTEGER_LINES
+        + TAGS_LINE
+        + ZERO_LINE
+        + MEMORY_LINE;
     if buffer < headings {
         return false;
     }

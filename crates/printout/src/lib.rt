@@ -1,6 +1,6 @@
 // What the page program prints: the report of a run, or the refusal of a file, put at the start of a lent buffer.
 ghost use Rattle.basis.specs.Names.{_≡_, _++_, length, replicate};
-ghost use Rattle.printout.specs.Lines.{firstLine, mmxLines, integerLines, tagsLine, memoryLine, byteLines, reportText, longestReport, refusalText};
+ghost use Rattle.printout.specs.Lines.{firstLine, mmxLines, integerLines, tagsLine, zeroLine, memoryLine, byteLines, reportText, longestReport, refusalText};
 ghost use Rattle.printout.specs.Printing.{printing, printed};
 ghost use Rattle.printout.specs.inner.Room.{Fits, Puts};
 
@@ -15,8 +15,8 @@ use count::has_room;
 use line::put_byte_lines;
 use line::put_first_line;
 use line::put_integer_lines;
+use line::put_mark_lines;
 use line::put_mmx_lines;
-use line::put_tags_line;
 use machine::Ran;
 use put::decimal_places;
 use put::put_number_line;
@@ -42,12 +42,12 @@ fn put_top(out: &mut [u8], ran: Ran) -> usize
     put_integer_lines(out, end, integers)
 }
 
-// The tags and the memory.
-fn put_bottom(out: &mut [u8], at: usize, valid: bool, memory: &[u8]) -> usize
-    requires { ⌜ Fits (tagsLine valid ++ memoryLine (length (now memory)) ++ byteLines 0 (now memory)) at (now out) ⌝ }
-    ensures { λ r. ⌜ Puts (tagsLine valid ++ memoryLine (length (now (memory .entry))) ++ byteLines 0 (now (memory .entry))) at (now (out .entry)) r (now (out .exit)) ⌝ }
+// The tags, the zero mark and the memory.
+fn put_bottom(out: &mut [u8], at: usize, valid: bool, zero: bool, memory: &[u8]) -> usize
+    requires { ⌜ Fits (tagsLine valid ++ zeroLine zero ++ memoryLine (length (now memory)) ++ byteLines 0 (now memory)) at (now out) ⌝ }
+    ensures { λ r. ⌜ Puts (tagsLine valid ++ zeroLine zero ++ memoryLine (length (now (memory .entry))) ++ byteLines 0 (now (memory .entry))) at (now (out .entry)) r (now (out .exit)) ⌝ }
 {
-    let mut end = put_tags_line(out, at, valid);
+    let mut end = put_mark_lines(out, at, valid, zero);
     end = put_number_line(out, end, b"memory ", memory.len() as u64);
     put_byte_lines(out, end, memory)
 }
@@ -55,7 +55,7 @@ fn put_bottom(out: &mut [u8], at: usize, valid: bool, memory: &[u8]) -> usize
 // All that is printed of what a run hands back, with the memory, goes to the start of a buffer, and the answer is how many bytes that is. A buffer
 // that is shorter stays as it is, and the answer is 0.
 pub fn report(out: &mut [u8], ran: Ran, memory: &[u8]) -> usize
-    ensures { λ r. ⌜ printing r (now (out .exit)) ≡ printed (reportText (ran .end) (ran .count) (ran .at) (ran .machine .mmx) (ran .machine .integers) (ran .machine .marks .valid) (now (memory .entry))) (now (out .entry)) ⌝ }
+    ensures { λ r. ⌜ printing r (now (out .exit)) ≡ printed (reportText (ran .end) (ran .count) (ran .at) (ran .machine .mmx) (ran .machine .integers) (ran .machine .marks .valid) (ran .machine .marks .zero) (now (memory .entry))) (now (out .entry)) ⌝ }
 {
     let ending = ran.end;
     if !has_room(out.len(), ending, ran.count, ran.at, memory.len()) {
@@ -63,7 +63,7 @@ pub fn report(out: &mut [u8], ran: Ran, memory: &[u8]) -> usize
     }
     let machine = ran.machine;
     let end = put_top(out, ran);
-    put_bottom(out, end, machine.marks.valid, memory)
+    put_bottom(out, end, machine.marks.valid, machine.marks.zero, memory)
 }
 
 // All that is printed of a file that is refused, in the same way.

@@ -1,7 +1,7 @@
 // The lines of the text, put at a place of a lent buffer.
 ghost use Rattle.basis.specs.Names.{_≡_, _++_, _*_, length};
 ghost use Rattle.printout.specs.Characters.{newline, hex};
-ghost use Rattle.printout.specs.Lines.{answer, firstLine, registerLines, mmxLines, integerLines, tagsLine, gapAfter, byteLines};
+ghost use Rattle.printout.specs.Lines.{answer, firstLine, registerLines, mmxLines, integerLines, tagsLine, zeroLine, gapAfter, byteLines};
 ghost use Rattle.printout.specs.inner.Room.{Fits, Puts};
 use crate::count::BYTE_DIGITS;
 use crate::count::INTEGER_DIGITS;
@@ -117,7 +117,7 @@ pub(crate) fn put_integer_lines(out: &mut [u8], at: usize, values: [u32; 8]) -> 
 }
 
 // The line of the tags.
-pub(crate) fn put_tags_line(out: &mut [u8], at: usize, valid: bool) -> usize
+fn put_tags_line(out: &mut [u8], at: usize, valid: bool) -> usize
     requires { ⌜ Fits (tagsLine valid) at (now out) ⌝ }
     ensures { λ r. ⌜ Puts (tagsLine valid) at (now (out .entry)) r (now (out .exit)) ⌝ }
 {
@@ -126,6 +126,27 @@ pub(crate) fn put_tags_line(out: &mut [u8], at: usize, valid: bool) -> usize
     } else {
         put_word(out, at, b"tags empty\n")
     }
+}
+
+// The line of the zero mark.
+fn put_zero_line(out: &mut [u8], at: usize, zero: bool) -> usize
+    requires { ⌜ Fits (zeroLine zero) at (now out) ⌝ }
+    ensures { λ r. ⌜ Puts (zeroLine zero) at (now (out .entry)) r (now (out .exit)) ⌝ }
+{
+    if zero {
+        put_word(out, at, b"zero 1\n")
+    } else {
+        put_word(out, at, b"zero 0\n")
+    }
+}
+
+// The lines of both marks.
+pub(crate) fn put_mark_lines(out: &mut [u8], at: usize, valid: bool, zero: bool) -> usize
+    requires { ⌜ Fits (tagsLine valid ++ zeroLine zero) at (now out) ⌝ }
+    ensures { λ r. ⌜ Puts (tagsLine valid ++ zeroLine zero) at (now (out .entry)) r (now (out .exit)) ⌝ }
+{
+    let end = put_tags_line(out, at, valid);
+    put_zero_line(out, end, zero)
 }
 
 // What stands after a byte of the memory.

@@ -1,5 +1,6 @@
--- A block of code as the pieces that are its instructions' own bytes; the block with its instructions in a new order.
-use Rattle.basis.specs.Names.{List, [], _∷_, map, flatten, ℕ, zero, suc, length, getD, take, drop}
+-- A block of code as the pieces that are its instructions' own bytes; the block with its instructions in a new order; whether reading reaches some
+-- instruction.
+use Rattle.basis.specs.Names.{Bool, false, _||_, List, [], _∷_, map, flatten, ℕ, zero, suc, length, getD, take, drop}
 use Rattle.reorder.specs.Result.{Result, caseOf}
 use Rattle.reorder.specs.Run.{Fetched}
 
@@ -21,3 +22,13 @@ module _ {I : Type 0} (read : List ℕ → Result (Fetched I)) where
   -- the block whose instructions stand in the new order
   abbrev pub rearranged : List ℕ → List ℕ → List ℕ
   rearranged code order = inOrder (piecesOf code) order
+
+  -- reading from the start onward reaches an instruction that passes a test, as far as reading goes, in at most so many instructions
+  abbrev pub reachesUpTo : (I → Bool) → ℕ → List ℕ → Bool
+  reachesUpTo such zero code = false
+  reachesUpTo such (suc most) code =
+      caseOf (read code) (λ n. false) (λ found. such (found .instruction) || reachesUpTo such most (drop (found .size) code))
+
+  -- in all of them
+  abbrev pub reaches : (I → Bool) → List ℕ → Bool
+  reaches such code = reachesUpTo such (length code) code

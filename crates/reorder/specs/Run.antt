@@ -25,7 +25,8 @@ stateReached (finished position count s) = s
 stateReached (spent position count s) = s
 stateReached (stopped n position count s) = s
 
-module _ {S I : Type 0} (read : List ℕ → Result (Fetched I)) (exec : I → S → Result S) where
+-- `next` says where a run goes on after an instruction: from the code's length, the instruction, the state before it and the position behind it
+module _ {S I : Type 0} (read : List ℕ → Result (Fetched I)) (exec : I → S → Result S) (next : ℕ → I → S → ℕ → Result ℕ) where
   -- at the end of the code: finished; else with nothing left of the budget: spent; else a step
   abbrev pub runFrom : ℕ → List ℕ → ℕ → ℕ → S → Answer S
   runFrom zero code position count s =
@@ -34,7 +35,8 @@ module _ {S I : Type 0} (read : List ℕ → Result (Fetched I)) (exec : I → S
       cond (eqb position (length code)) (finished position count s)
       (caseOf (read (drop position code)) (λ n. stopped n position count s)
       (λ found. caseOf (exec (found .instruction) s) (λ n. stopped n position count s)
-      (λ t. runFrom remaining code (position + found .size) (suc count) t)))
+      (λ t. caseOf (next (length code) (found .instruction) s (position + found .size)) (λ n. stopped n position count s)
+      (λ further. runFrom remaining code further (suc count) t))))
 
   -- a run starts at position 0
   abbrev pub run : ℕ → List ℕ → S → Answer S

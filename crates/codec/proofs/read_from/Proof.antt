@@ -7,5 +7,5 @@ pub read-from-spec : {M : Type 1} → statement M
 read-from-spec =
     tie.close
     (tie.spec
-    (λ c κs. search reading) (λ c. search reading) (λ c. search reading) (λ c. search reading) (λ c κs. search reading) (λ c κs. search reading)
+    (λ c κs. search reading) (λ c. search reading) (λ c. search reading) (λ c. search reading) (λ c κs. search reading) (λ c. search reading)
     (λ c κs. search reading) (λ c. search reading) (λ c. search reading))

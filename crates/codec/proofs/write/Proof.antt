@@ -7,5 +7,5 @@ pub write-spec : {M : Type 1} → statement M
 write-spec =
     tie.close
     (tie.spec
-    (λ c κs. search puts) (λ c κs. search puts) (λ c κs. search puts) (λ c κs. search puts) (λ c. search puts) (λ c. search puts)
-    (λ c. search puts) (λ c. search puts))
+    (λ c κs. search puts) (λ c κs. search puts) (λ c κs. search puts) (λ c κs. search puts) (λ c. search puts) (λ c. search puts) (λ c. search puts)
+    (λ c. search puts))

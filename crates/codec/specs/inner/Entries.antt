@@ -1,16 +1,24 @@
 -- What the code has of an entry: the operation that it names, and what is found after an opcode.
-use Rattle.basis.specs.Names.{ℕ, _/_, _%_, _^_, List, Bool, _&&_, cond, eqb, drop}
+use Rattle.basis.specs.Names.{ℕ, _/_, _%_, _^_, List, Bool, true, false, _&&_, cond, eqb, drop}
 use Rattle.lanes.specs.Operations.{Operation, PSRLW, PSRLD, PSRLQ, PSRAW, PSRAD, PSLLW, PSLLD, PSLLQ, KEEP, operationOf}
 use Rattle.codec.specs.Forms.{Form, isAny}
 use Rattle.codec.specs.Table.{formOf}
 use Rattle.codec.specs.Reader.{Reader, reads}
 use Rattle.codec.specs.Finding.{found}
+use Rattle.codec.specs.declared.Kind.{Kind}
+use Rattle.codec.specs.declared.Kind.the-variants.{Ordinary, Emms, Silent, Loop}
 use Rattle.codec.specs.declared.reader.Opcode.{Opcode}
 use Rattle.codec.specs.declared.Found.{Found}
 
--- whether it is a shift by an immediate: its reg is a digit of the opcode, and it has an immediate (prefetches and SFENCE have a digit alone)
+abbrev isOrdinary : Kind → Bool
+isOrdinary Ordinary = true
+isOrdinary Emms = false
+isOrdinary Silent = false
+isOrdinary Loop = false
+
+-- whether it is a shift by an immediate: its reg is a digit of the opcode, and it is ordinary (prefetches, SFENCE and ADD have a digit, and are not)
 abbrev pub isShift : Form → Bool
-isShift form = isAny (form .digits) && eqb (form .immediate) 1
+isShift form = isAny (form .digits) && isOrdinary (form .kind)
 
 -- of a word, doubleword and quadword operation, the one for the width
 abbrev pub ofWidth : ℕ → Operation → Operation → Operation → Operation

@@ -1,5 +1,6 @@
 -- What the code knows of an instruction that it has read and gathered at once.
 use Rattle.basis.specs.Names.{_≡_, true, cond, List, [], ℕ, _+_, _/_, _%_, _^_, _≤_, leb, length, getD, drop, replicate}
+use Rattle.reorder.specs.Result.{done}
 use Rattle.codec.specs.Opcodes.{escape}
 use Rattle.codec.specs.Table.{formOf, opcodeTable}
 use Rattle.codec.specs.Reader.{reads}
@@ -21,7 +22,8 @@ pub record Opened (bar : ℕ) (table : List ℕ) : Type 0 where
 pub record Quick (work : Work) (registers integers memory : List ℕ) (x : Found) : Type 0 where
   pub passed : x .refusal ≡ 0
   pub present : x .entry / 2 ^ 24 ≡ 0 → ⊥
-  pub does : Listed (x .entry) → Does work registers integers memory (effectIn (x .entry) (x .instruction)) (x .next)
+  pub escaped : x .instruction .first ≡ escape
+  pub does : Listed (x .entry) → Does work registers integers memory (effectIn (x .entry) (x .instruction)) (done (x .next))
 
 -- what is found at a position after an opcode, by the table's entry for it
 abbrev pub afterOpcode : ℕ → ℕ → List ℕ → ℕ → Found

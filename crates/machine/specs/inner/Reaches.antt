@@ -1,5 +1,5 @@
 -- The footprint as the program makes it, in masks and ranges: first where an operand is, then what each way reads and writes.
-use Rattle.basis.specs.Names.{cond, List, [], ℕ, _^_, bitOr, eqb}
+use Rattle.basis.specs.Names.{false, cond, List, [], ℕ, _^_, bitOr, eqb}
 use Rattle.reorder.specs.Result.{Result, done, refused, mapResult}
 use Rattle.reorder.specs.Footprint.{footprintIn}
 use Rattle.codec.specs.declared.Kind.the-variants.{Ordinary, Emms, Silent}
@@ -22,17 +22,17 @@ nowhere = setOf []
 
 -- an integer register
 abbrev pub integerAlone : ℕ → Places
-integerAlone register = record { mmx = 0; integers = 2 ^ register; start = 0; length = 0 }
+integerAlone register = record { mmx = 0; integers = 2 ^ register; start = 0; length = 0; zero = false }
 
 -- an MMX register beside other places
 abbrev pub beside : ℕ → Places → Places
 beside register p =
-    record { mmx = bitOr (2 ^ register) (p .mmx); integers = p .integers; start = p .start; length = p .length }
+    record { mmx = bitOr (2 ^ register) (p .mmx); integers = p .integers; start = p .start; length = p .length; zero = p .zero }
 
 -- integer registers, by their mask, beside other places
 abbrev pub through : ℕ → Places → Places
 through registers p =
-    record { mmx = p .mmx; integers = bitOr registers (p .integers); start = p .start; length = p .length }
+    record { mmx = p .mmx; integers = bitOr registers (p .integers); start = p .start; length = p .length; zero = p .zero }
 
 -- an operand's address registers and places, or its refusal
 abbrev pub reachOf : Location → Result (List Place) → Reach

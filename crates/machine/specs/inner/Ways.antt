@@ -1,11 +1,11 @@
 -- The way that an instruction goes, by its form's number, and what else a number tells.
-use Rattle.basis.specs.Names.{Bool, true, false, cond, _||_, ℕ, eqb, leb, ltb}
+use Rattle.basis.specs.Names.{Bool, true, false, cond, _&&_, _||_, ℕ, eqb, leb, ltb}
 use Rattle.machine.specs.declared.ways.Way.{Way}
 use Rattle.machine.specs.declared.ways.Way.the-variants.{Empties, Passes, Shifts, Extracts, Stores, Loads, Computes, Inserts, Shuffles, Masks}
 
 -- whether the control marks don't stop it
-abbrev pub isSilent : ℕ → Bool
-isSilent form = eqb form 9 || eqb form 14
+abbrev pub isUnstopped : ℕ → Bool
+isUnstopped form = leb 9 form && leb form 14
 
 -- whether r/m names an integer register at mod 11
 abbrev pub isInteger : ℕ → Bool

@@ -13,5 +13,5 @@ put-bottom-spec =
     (λ c κs.
     let d = c .before .before .before in
     let e = d .before .before .before .before .before in
-    fits-third (d .put-number-line .ensures) (e .put-tags-line .ensures) (e .before .before .before .before .pre))
+    fits-third (d .put-number-line .ensures) (e .put-mark-lines .ensures) (e .before .before .before .before .pre))
     (λ c. search chain) (λ c. search chain))

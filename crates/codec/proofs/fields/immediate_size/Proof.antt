@@ -7,4 +7,5 @@ pub immediate-size-spec : {M : Type 1} → statement M
 immediate-size-spec =
     tie.close
     (tie.spec
-    (λ c. search form-rules) (λ c. search form-rules) (λ c. search form-rules))
+    (λ c. search form-rules) (λ c. search form-rules) (λ c. search form-rules) (λ c. search form-rules) (λ c. search form-rules)
+    (λ c. search form-rules) (λ c. search form-rules))

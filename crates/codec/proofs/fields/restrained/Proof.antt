@@ -8,4 +8,4 @@ restrained-spec =
     tie.close
     (tie.spec
     (λ c. search form-rules) (λ c κs. search form-rules) (λ c. search form-rules) (λ c. search form-rules) (λ c. search form-rules)
-    (λ c. search form-rules) (λ c. search form-rules))
+    (λ c. search form-rules) (λ c. search form-rules) (λ c. search form-rules) (λ c. search form-rules))

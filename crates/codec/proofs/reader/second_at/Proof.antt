@@ -8,4 +8,5 @@ second-at-spec =
     tie.close
     (tie.spec
     (λ c κs. search reading) (λ c. search reading) (λ c. search reading) (λ c κs. search reading) (λ c κs. search reading) (λ c. search reading)
-    (λ c. search reading) (λ c κs. search reading) (λ c. search reading) (λ c. search reading) (λ c κs. search reading) (λ c. search reading))
+    (λ c κs. search reading) (λ c. search reading) (λ c κs. search reading) (λ c. search reading) (λ c κs. search reading) (λ c. search reading)
+    (λ c. search reading))

@@ -7,4 +7,4 @@ pub has-bytes-spec : {M : Type 1} → statement M
 has-bytes-spec =
     tie.close
     (tie.spec
-    (λ c. search checks) (λ c κs. search checks) (λ c. search checks))
+    (λ c κs. search checks) (λ c κs. search checks) (λ c. search checks) (λ c. search checks))

@@ -7,5 +7,6 @@ pub size-of-spec : {M : Type 1} → statement M
 size-of-spec =
     tie.close
     (tie.spec
-    (λ c. search puts) (λ c κs. search puts) (λ c κs. search puts) (λ c. search puts) (λ c κs. search puts) (λ c. search puts)
-    (λ c. search puts) (λ c. search puts) (λ c. search puts))
+    (λ c κs. search puts) (λ c κs. search puts) (λ c κs. search puts) (λ c κs. search puts) (λ c. search puts) (λ c κs. search puts)
+    (λ c. search puts) (λ c. search puts) (λ c. search puts) (λ c. search puts) (λ c. search puts) (λ c. search puts) (λ c. search puts)
+    (λ c. search puts))

@@ -13,7 +13,7 @@ module _ (mode displacement : ℕ) where
 
   pub extended-low : mode ≡ 1 → displacement < 128 → displacement ≡ displacementOf mode displacement % 2 ^ 32
   unfolding displacementOf
-  extended-low byte h = simp (lt-leb 128 displacement h, and-false (eqb mode 1)) (omega arith)
+  extended-low byte h = simp (eq-eqb mode 1 byte, lt-leb 128 displacement h) (omega arith)
 
   pub extended-high : (r : ℕ) → mode ≡ 1 → 128 ≤ displacement → r ≡ (displacement + 0xffffff00) % 2 ^ 32 → r ≡ displacementOf mode displacement % 2 ^ 32
   unfolding displacementOf

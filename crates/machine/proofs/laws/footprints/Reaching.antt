@@ -13,7 +13,7 @@ use Rattle.machine.specs.declared.operands.Spot.the-variants.{Mmx, Integ
 use Rattle.machine.specs.declared.operands.Spot.the-variants as spots
 use Rattle.machine.specs.declared.reaches.Reach.{Reach}
 use Rattle.machine.specs.declared.reaches.Reach.the-variants.{Inside, Refused}
-use Rattle.machine.specs.Footprints.{mmxNumber, integerNumber, numbersOf, mask, setOf}
+use Rattle.machine.specs.Footprints.{mmxNumber, integerNumber, numbersOf, hasZeroMark, mask, setOf}
 use Rattle.machine.specs.inner.Reaches.{nowhere, integerAlone, beside, reachOf, behind}
 use Rattle.machine.specs.inner.Spots.{fileIn, otherOf, spotOf}
 use Rattle.machine.specs.inner.Ways.{wayOf, hasOther}
@@ -30,13 +30,23 @@ no-integer : (size a : ℕ) → numbersOf integerNumber (bytesFrom a size) ≡ [
 no-integer zero a = refl
 no-integer (suc size) a = no-integer size (a + 1)
 
+no-zero : (size a : ℕ) → hasZeroMark (bytesFrom a size) ≡ false
+no-zero zero a = refl
+no-zero (suc size) a = no-zero size (a + 1)
+
 abbrev range : ℕ → ℕ → Places
-range a size = record { mmx = 0; integers = 0; start = a; length = size }
+range a size = record { mmx = 0; integers = 0; start = a; length = size; zero = false }
 
 set-bytes : (size a : ℕ) → 0 < size → setOf (bytesFrom a size) ≡ range a size
 set-bytes zero a h = absurd (omega arith)
 set-bytes (suc size) a h =
-    λ i. record { mmx = mask (no-mmx (suc size) a i); integers = mask (no-integer (suc size) a i); start = a; length = count-bytes (suc size) a i }
+    λ i. record {
+      mmx = mask (no-mmx (suc size) a i);
+      integers = mask (no-integer (suc size) a i);
+      start = a;
+      length = count-bytes (suc size) a i;
+      zero = no-zero (suc size) a i;
+    }
 
 -- where the code finds an operand, with the mask of its address registers
 abbrev reachAt : ℕ → Spot → Reach

@@ -1,5 +1,5 @@
 -- Masks that the code puts together. Rules for masks of registers.
-use Rattle.basis.specs.Names.{_≡_, Option, none, some, ℕ, _*_, _^_, _%_, _<_, bitOr}
+use Rattle.basis.specs.Names.{_≡_, false, Option, none, some, ℕ, _*_, _^_, _%_, _<_, bitOr}
 use Rattle.basis.proofs.Names.{append-nil, arith, needs, eq-eqb, ne-eqb, or-zero-r, pow-lt}
 use Rattle.codec.specs.Operands.{hasSib}
 use Rattle.codec.specs.declared.Operand.{Operand}
@@ -39,11 +39,11 @@ module _ (w : Operand) where
 
 -- a register beside other places
 pub made-beside : (register b : ℕ) (p : Places) → b ≡ 2 ^ register
-    → record { mmx = bitOr b (p .mmx); integers = p .integers; start = p .start; length = p .length } ≡ beside register p
+    → record { mmx = bitOr b (p .mmx); integers = p .integers; start = p .start; length = p .length; zero = p .zero } ≡ beside register p
 made-beside register b p e = simp e
 
 -- an integer register
-pub made-integer : (register b : ℕ) → b ≡ 2 ^ register → record { mmx = 0; integers = b; start = 0; length = 0 } ≡ integerAlone register
+pub made-integer : (register b : ℕ) → b ≡ 2 ^ register → record { mmx = 0; integers = b; start = 0; length = 0; zero = false } ≡ integerAlone register
 made-integer register b e = simp e
 
 pub ruleset mask-rules = (needs, one-bit, base-is, base-is-five, no-base, index-is, no-index, mask-named, mask-none, address-none, address-plain, address-sib, made-beside, made-integer)

@@ -123,12 +123,12 @@ module _ (registers integers m : List ℕ) (next : ℕ) where
 
   -- a work leaves what a result says
   abbrev Leaves : Work → (ℕ → State → Result State) → Type 0
-  Leaves work after = (floor : ℕ) (marks : Marks) (at : ℕ) → performed floor work at (state marks) ≡ concluded at next (state marks) (after floor (state marks))
+  Leaves work after = (floor : ℕ) (marks : Marks) (at : ℕ) → performed floor work at (state marks) ≡ concluded at (done next) (state marks) (after floor (state marks))
 
   -- the floor's test stands before what is left
   tested : (floor a at : ℕ) (here left : State)
-      → cond (leb floor a) (completed next left) (refusedWith belowFloor at here) ≡ concluded at next here (cond (leb floor a) (done left) (refused belowFloor))
-  tested floor a at here left = sym (past-test (concluded at next here) (leb floor a) (done left) (refused belowFloor))
+      → cond (leb floor a) (completed next left) (refusedWith belowFloor at here) ≡ concluded at (done next) here (cond (leb floor a) (done left) (refused belowFloor))
+  tested floor a at here left = sym (past-test (concluded at (done next) here) (leb floor a) (done left) (refused belowFloor))
 
   -- for the operand of r/m, whatever it is
   module _ (size : ℕ) (w : Operand) (few : size ≤ 8) where
@@ -205,12 +205,12 @@ module _ (registers integers m : List ℕ) (entry : ℕ) (i : Instruction) (next
 
   -- what the effect leaves, and what the work leaves
   of-work : (work : Work) (after : ℕ → State → Result State) → Sound work → ((floor : ℕ) (s : State) → directly floor (effectIn entry i) s ≡ after floor s)
-      → Leaves registers integers m next work after → Does work registers integers m (effectIn entry i) next
+      → Leaves registers integers m next work after → Does work registers integers m (effectIn entry i) (done next)
   of-work work after sound leaves performs =
-      record { sound = sound; does = λ floor marks at. let s = state registers integers m next marks in performs floor marks at ∙ sym (ap (concluded at next s) (leaves floor s)) }
+      record { sound = sound; does = λ floor marks at. let s = state registers integers m next marks in performs floor marks at ∙ sym (ap (concluded at (done next) s) (leaves floor s)) }
 
   module _ (r : Registers w) (l : Listed entry) (y : Way) (way : y ≡ wayOf formIn) (work : Work) where
-    pub does-empties : y ≡ Empties → work ≡ workOf toEmpty 0 0 0 next → Does work registers integers m (effectIn entry i) next
+    pub does-empties : y ≡ Empties → work ≡ workOf toEmpty 0 0 0 next → Does work registers integers m (effectIn entry i) (done next)
     unfolding performed
     does-empties e made =
         rw made (of-work (workOf toEmpty 0 0 0 next) (λ floor s. done (marked Emms s)) (sound-empties next) (λ floor s. by floor s form (goes entry l y Empties way e)) (λ floor marks at. refl))
@@ -218,7 +218,7 @@ module _ (registers integers m : List ℕ) (entry : ℕ) (i : Instruction) (next
         by : (floor : ℕ) (s : State) (f : Form) → HasWay formIn Empties f → directly floor (effectBy f named i) s ≡ done (marked Emms s)
         by floor s f empties = refl
 
-    pub does-pass : y ≡ Passes → work ≡ workOf toPass 0 0 0 next → Does work registers integers m (effectIn entry i) next
+    pub does-pass : y ≡ Passes → work ≡ workOf toPass 0 0 0 next → Does work registers integers m (effectIn entry i) (done next)
     unfolding performed
     does-pass e made =
         rw made (of-work (workOf toPass 0 0 0 next) (λ floor s. done s) (sound-passes next) (λ floor s. by floor s form (goes entry l y Passes way e)) (λ floor marks at. refl))
@@ -237,7 +237,7 @@ module _ (registers integers m : List ℕ) (entry : ℕ) (i : Instruction) (next
 
     -- the shifts by an immediate
     pub does-shift : (number : ℕ) → y ≡ Shifts → operationOf number ≡ shiftOf (entry / 2 ^ 8 % 256) (w .reg)
-        → work ≡ workOf toOperate number (w .rm) (i .immediate) next → Does work registers integers m (effectIn entry i) next
+        → work ≡ workOf toOperate number (w .rm) (i .immediate) next → Does work registers integers m (effectIn entry i) (done next)
     unfolding performed operationIn
     does-shift number z e made =
         let same : named ≡ operationOf number = simp (shift-is formIn form (goes entry l y Shifts way z)) (sym e) in
@@ -251,7 +251,7 @@ module _ (registers integers m : List ℕ) (entry : ℕ) (i : Instruction) (next
         (λ floor marks at. refl))
 
     pub does-extract : (value : ℕ) → y ≡ Extracts → value ≡ getD registers (w .rm) 0 → work ≡ extractWork formIn value (i .immediate) (w .reg) next
-        → Does work registers integers m (effectIn entry i) next
+        → Does work registers integers m (effectIn entry i) (done next)
     unfolding performed
     does-extract value e v made =
         let way-is = goes entry l y Extracts way e in
@@ -267,7 +267,7 @@ module _ (registers integers m : List ℕ) (entry : ℕ) (i : Instruction) (next
         past f (extracts-bits h) = omega arith
 
     pub does-mask : y ≡ Masks → work ≡ maskWork integers m (getD registers (w .reg) 0) (getD registers (w .rm) 0) next
-        → Does work registers integers m (effectIn entry i) next
+        → Does work registers integers m (effectIn entry i) (done next)
     does-mask e made =
         let way-is = goes entry l y Masks way e in
         let source = getD registers (w .reg) 0 in
@@ -303,7 +303,7 @@ module _ (registers integers m : List ℕ) (entry : ℕ) (i : Instruction) (next
       moves m = only (its .past) (described MOVE .number) m
 
       take : ((floor : ℕ) (s : State) → directly floor (effectIn entry i) s ≡ computedAs floor s named i formIn named form) → work ≡ takeWork registers integers m (entry % 256) (w .reg) here next
-          → Does work registers integers m (effectIn entry i) next
+          → Does work registers integers m (effectIn entry i) (done next)
       take after made =
           rw made
           (of-work (takeWork registers integers m (entry % 256) (w .reg) here next) (λ floor s. computedAs floor s named i formIn (operationOf (entry % 256)) form)
@@ -311,7 +311,7 @@ module _ (registers integers m : List ℕ) (entry : ℕ) (i : Instruction) (next
           (λ floor s. after floor s ∙ ap (λ (o : Operation). computedAs floor s named i formIn o form) (plain (its .past)))
           (takes registers integers m next size w (its .most) file (entry % 256) (w .reg)))
 
-    pub does-store : (x : Spot) → y ≡ Stores → x ≡ here → work ≡ putWork x (getD registers (w .reg) 0) next → Does work registers integers m (effectIn entry i) next
+    pub does-store : (x : Spot) → y ≡ Stores → x ≡ here → work ≡ putWork x (getD registers (w .reg) 0) next → Does work registers integers m (effectIn entry i) (done next)
     does-store x e found made =
         let v = getD registers (w .reg) 0 in
         rw (made, found)
@@ -320,16 +320,16 @@ module _ (registers integers m : List ℕ) (entry : ℕ) (i : Instruction) (next
         (λ floor s. stored-by floor s named i formIn form (goes entry l y Stores way e) (moves Stores e refl))
         (puts registers integers m next size w (its Stores e refl .most) (its Stores e refl .any) file v (its Stores e refl .kept v)))
 
-    pub does-load : y ≡ Loads → work ≡ takeWork registers integers m (entry % 256) (w .reg) here next → Does work registers integers m (effectIn entry i) next
+    pub does-load : y ≡ Loads → work ≡ takeWork registers integers m (entry % 256) (w .reg) here next → Does work registers integers m (effectIn entry i) (done next)
     does-load e = take Loads e refl (λ floor s. loaded-by floor s named i formIn form (goes entry l y Loads way e) (moves Loads e refl))
 
-    pub does-compute : y ≡ Computes → work ≡ takeWork registers integers m (entry % 256) (w .reg) here next → Does work registers integers m (effectIn entry i) next
+    pub does-compute : y ≡ Computes → work ≡ takeWork registers integers m (entry % 256) (w .reg) here next → Does work registers integers m (effectIn entry i) (done next)
     does-compute e = take Computes e refl (λ floor s. computed-by floor s named i formIn form (goes entry l y Computes way e))
 
     -- lanes picked by an immediate
     pick : (z : Way) (e : y ≡ z) (two : hasOther z ≡ true) → ((floor : ℕ) (s : State) → directly floor (effectIn entry i) s ≡ pickedAs floor s named i formIn form)
         → work ≡ pickedWork formIn (getD registers (w .reg) 0) (i .immediate) (takeWork registers integers m (entry % 256) (w .reg) here next)
-        → Does work registers integers m (effectIn entry i) next
+        → Does work registers integers m (effectIn entry i) (done next)
     pick z e two after made =
         let old = getD registers (w .reg) 0 in
         rw made
@@ -339,12 +339,12 @@ module _ (registers integers m : List ℕ) (entry : ℕ) (i : Instruction) (next
         (picks registers integers m next size w (its z e two .most) file formIn (entry % 256) (w .reg) (i .immediate)))
 
     pub does-insert : y ≡ Inserts → work ≡ pickedWork formIn (getD registers (w .reg) 0) (i .immediate) (takeWork registers integers m (entry % 256) (w .reg) here next)
-        → Does work registers integers m (effectIn entry i) next
+        → Does work registers integers m (effectIn entry i) (done next)
     does-insert e =
         pick Inserts e refl (λ floor s. inserted-by floor s named i formIn form (goes entry l y Inserts way e) (only (its Inserts e refl .past)))
 
     pub does-shuffle : y ≡ Shuffles → work ≡ pickedWork formIn (getD registers (w .reg) 0) (i .immediate) (takeWork registers integers m (entry % 256) (w .reg) here next)
-        → Does work registers integers m (effectIn entry i) next
+        → Does work registers integers m (effectIn entry i) (done next)
     does-shuffle e =
         pick Shuffles e refl (λ floor s. shuffled-by floor s named i formIn form (goes entry l y Shuffles way e) (only (its Shuffles e refl .past)))
 

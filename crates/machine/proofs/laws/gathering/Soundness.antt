@@ -10,31 +10,39 @@ use Rattle.machine.specs.declared.operands.Spot.{Spot}
 use Rattle.machine.specs.declared.operands.Spot.the-variants.{Mmx, Integer, Bytes, Refused}
 use Rattle.machine.specs.inner.Spots.{Named}
 use Rattle.machine.specs.inner.Picks.{pickedOf, pickedWork, maskWork}
-use Rattle.machine.specs.inner.Works.{toOperate, toStore, toInteger, toEmpty, toPass, workOf, refusedWork, putWork, takeWork, Sound}
+use Rattle.machine.specs.inner.Works.{toOperate, toStore, toInteger, toEmpty, toPass, toSet, toCount, workOf, refusedWork, putWork, takeWork, Sound}
 
 pub sound-operation : (number place value next : ℕ) → place < 8 → Sound (workOf toOperate number place value next)
 sound-operation number place value next h =
-    record { operates = λ e. h; moves = λ e. absurd (omega arith); refuses = λ a b c d e. absurd (a refl) }
+    record { operates = λ e. h; moves = λ e. absurd (omega arith); sets = λ e. absurd (omega arith); counts = λ e. absurd (omega arith); refuses = λ a. absurd (a refl) }
 
 pub sound-empties : (next : ℕ) → Sound (workOf toEmpty 0 0 0 next)
 sound-empties next =
-    record { operates = λ e. absurd (omega arith); moves = λ e. absurd (omega arith); refuses = λ a b c d e. absurd (d refl) }
+    record { operates = λ e. absurd (omega arith); moves = λ e. absurd (omega arith); sets = λ e. absurd (omega arith); counts = λ e. absurd (omega arith); refuses = λ a b c d. absurd (d refl) }
 
 pub sound-passes : (next : ℕ) → Sound (workOf toPass 0 0 0 next)
 sound-passes next =
-    record { operates = λ e. absurd (omega arith); moves = λ e. absurd (omega arith); refuses = λ a b c d e. absurd (e refl) }
+    record { operates = λ e. absurd (omega arith); moves = λ e. absurd (omega arith); sets = λ e. absurd (omega arith); counts = λ e. absurd (omega arith); refuses = λ a b c d e. absurd (e refl) }
+
+pub sound-set : (place value next : ℕ) → place < 8 → Sound (workOf toSet 0 place value next)
+sound-set place value next h =
+    record { operates = λ e. absurd (omega arith); moves = λ e. absurd (omega arith); sets = λ e. h; counts = λ e. absurd (omega arith); refuses = λ a b c d e f. absurd (f refl) }
+
+pub sound-count : (place value next : ℕ) → place < 8 → Sound (workOf toCount 0 place value next)
+sound-count place value next h =
+    record { operates = λ e. absurd (omega arith); moves = λ e. absurd (omega arith); sets = λ e. absurd (omega arith); counts = λ e. h; refuses = λ a b c d e f g. absurd (g refl) }
 
 pub sound-refusal : (refusal : ℕ) → (refusal ≡ 0 → ⊥) → Sound (refusedWork refusal)
 sound-refusal refusal h =
-    record { operates = λ e. absurd (omega arith); moves = λ e. absurd (omega arith); refuses = λ a b c d e. h }
+    record { operates = λ e. absurd (omega arith); moves = λ e. absurd (omega arith); sets = λ e. absurd (omega arith); counts = λ e. absurd (omega arith); refuses = λ a b c d e f g. h }
 
 pub sound-integer : (place value next : ℕ) → place < 8 → Sound (workOf toInteger 0 place value next)
 sound-integer place value next h =
-    record { operates = λ e. absurd (omega arith); moves = λ e. h; refuses = λ a b c d e. absurd (c refl) }
+    record { operates = λ e. absurd (omega arith); moves = λ e. h; sets = λ e. absurd (omega arith); counts = λ e. absurd (omega arith); refuses = λ a b c. absurd (c refl) }
 
 pub sound-store : (size a value next : ℕ) → Sound (workOf toStore size a value next)
 sound-store size a value next =
-    record { operates = λ e. absurd (omega arith); moves = λ e. absurd (omega arith); refuses = λ a b c d e. absurd (b refl) }
+    record { operates = λ e. absurd (omega arith); moves = λ e. absurd (omega arith); sets = λ e. absurd (omega arith); counts = λ e. absurd (omega arith); refuses = λ a b. absurd (b refl) }
 
 pub sound-put : (x : Spot) (value next : ℕ) → Named x → Sound (putWork x value next)
 sound-put (Mmx k) value next h = sound-operation (described MOVE .number) k value next h

@@ -1,18 +1,20 @@
 -- The tests before an instruction's work: the control marks in their order, where they stop it, and the bytes of an operand below the memory's length.
 use Rattle.basis.specs.Names.{_≡_, refl, Bool, true, false, not, _||_, cond, ℕ, _+_, _-_, _≤_, _<_, eqb, leb}
 use Rattle.basis.proofs.Names.{sym, ap, _∙_, false≢true, arith, needs, ne-eqb, eqb-true, le-leb, lt-leb, leb-true, leb-false}
+use Rattle.words.proofs.Laws.{and-both}
 use Rattle.reorder.specs.Result.{Result, refused}
-use Rattle.codec.specs.Forms.{Form, mmreg1·mmreg2/mem64, forms}
+use Rattle.codec.specs.Forms.{mmreg1·mmreg2/mem64, forms}
 use Rattle.codec.specs.Table.{formOf}
 use Rattle.codec.specs.declared.Kind.{Kind}
-use Rattle.codec.specs.declared.Kind.the-variants.{Ordinary, Emms, Silent}
+use Rattle.codec.specs.declared.Kind.the-variants.{Ordinary, Emms, Silent, Loop}
 use Rattle.codec.proofs.Bytes.{found-has}
+use Rattle.codec.proofs.FormNumbers.{in-range}
 use Rattle.manual.specs.declared.Marks.{Marks}
 use Rattle.manual.specs.Kinds.{heeded}
 use Rattle.manual.specs.Refusals.{invalidOpcode, notAvailable, isPending}
 use Rattle.manual.specs.Effects.{unlessMarked}
 use Rattle.manual.proofs.Marking.{controlled}
-use Rattle.machine.specs.inner.Ways.{isSilent}
+use Rattle.machine.specs.inner.Ways.{isUnstopped}
 use Rattle.machine.specs.inner.Works.{barredBy, stoppingBy}
 
 module _ (marks : Marks) where
@@ -52,39 +54,36 @@ module _ (marks : Marks) where
 
 -- the number of the marks as a form's kind heeds them
 module _ (n : ℕ) (marks : Marks) where
-  silent : (k : Kind) → Bool
-  silent Ordinary = false
-  silent Emms = false
-  silent Silent = true
+  unstopped : (k : Kind) → Bool
+  unstopped Ordinary = false
+  unstopped Emms = false
+  unstopped Silent = true
+  unstopped Loop = true
 
-  heeds : (k : Kind) (t : Bool) → silent k ≡ t → barredBy (heeded k marks) ≡ cond t 0 (barredBy marks)
-  unfolding silent barredBy
+  heeds : (k : Kind) (t : Bool) → unstopped k ≡ t → barredBy (heeded k marks) ≡ cond t 0 (barredBy marks)
+  unfolding unstopped barredBy
   heeds Ordinary t e = rw (← e)
   heeds Emms t e = rw (← e)
   heeds Silent t e = rw (← e)
+  heeds Loop t e = rw (← e)
 
-  kind-silent : silent (formOf n .kind) ≡ isSilent n
-  unfolding silent
-  kind-silent = by (eqb n 9) (eqb n 14) refl refl
+  kind-unstopped : (t : Bool) → isUnstopped n ≡ t → unstopped (formOf n .kind) ≡ t
+  unfolding unstopped
+  kind-unstopped true e =
+      let (a, b) = and-both (leb 9 n) (leb n 14) e in
+      let most : n ≤ 14 = leb-true n 14 b in
+      in-range (λ k. unstopped (formOf k .kind) ≡ true) 9 6 n (leb-true 9 n a) (omega arith) (refl, (refl, (refl, (refl, (refl, (refl, tt))))))
+  kind-unstopped false e =
+      found-has (λ form. form) mmreg1·mmreg2/mem64 (λ f. unstopped (f .kind) ≡ false) (λ form. eqb n (form .number))
+      (λ form. not (unstopped (form .kind)) || isUnstopped (form .number)) refl
+      (λ form same h. other (unstopped (form .kind)) (isUnstopped (form .number)) h (ap isUnstopped (sym (eqb-true n (form .number) same)) ∙ e)) forms refl
     where
-      by : (a b : Bool) → eqb n 9 ≡ a → eqb n 14 ≡ b → silent (formOf n .kind) ≡ (a || b)
-      by true b ea eb = ap (λ (k : ℕ). silent (formOf k .kind)) (eqb-true n 9 ea)
-      by false true ea eb = ap (λ (k : ℕ). silent (formOf k .kind)) (eqb-true n 14 eb)
-      by false false ea eb =
-          found-has (λ form. form) mmreg1·mmreg2/mem64 (λ f. silent (f .kind) ≡ false) (λ form. eqb n (form .number)) (λ form. not (silent (form .kind)) || isSilent (form .number)) refl
-          (λ form e h. other form (eqb-true n (form .number) e) h) forms refl
-        where
-          other : (form : Form) → n ≡ form .number → (not (silent (form .kind)) || isSilent (form .number)) ≡ true → silent (form .kind) ≡ false
-          other form e h = go (silent (form .kind)) h
-            where
-              go : (t : Bool) → (not t || isSilent (form .number)) ≡ true → t ≡ false
-              go false g = refl
-              go true g =
-                  let none : isSilent (form .number) ≡ false = ap isSilent (sym e) ∙ simp (ea, eb) in
-                  absurd (false≢true (sym none ∙ g))
+      other : (a b : Bool) → (not a || b) ≡ true → b ≡ false → a ≡ false
+      other false b h g = refl
+      other true b h g = absurd (false≢true (sym g ∙ h))
 
   pub stopped-by : barredBy (heeded (formOf n .kind) marks) ≡ stoppingBy (barredBy marks) n
-  stopped-by = heeds (formOf n .kind) (isSilent n) kind-silent
+  stopped-by = heeds (formOf n .kind) (isUnstopped n) (kind-unstopped (isUnstopped n) refl)
 
 module _ (n a size : ℕ) where
   pub outside : n < size → false ≡ leb (a + size) n
@@ -99,18 +98,18 @@ module _ (n a size : ℕ) where
 
 -- where no mark is set, none stops a form
 pub none-stops : (bar n : ℕ) → bar ≡ 0 → stoppingBy bar n ≡ 0
-none-stops bar n e = by (isSilent n)
+none-stops bar n e = by (isUnstopped n)
   where
     by : (t : Bool) → cond t 0 bar ≡ 0
     by true = refl
     by false = e
 
 -- what the code answers of a form
-module _ (bar n : ℕ) (t : Bool) (test : t ≡ isSilent n) where
-  pub stopping-silent : t ≡ true → 0 ≡ stoppingBy bar n
-  stopping-silent e = simp (← test, e)
+module _ (bar n : ℕ) (t : Bool) (test : t ≡ isUnstopped n) where
+  pub stopping-not : t ≡ true → 0 ≡ stoppingBy bar n
+  stopping-not e = simp (← test, e)
 
   pub stopping-other : t ≡ false → bar ≡ stoppingBy bar n
   stopping-other e = simp (← test, e)
 
-pub ruleset testing = (needs, barred-em, barred-ts, barred-pending, barred-none, outside, inside, stopping-silent, stopping-other)
+pub ruleset testing = (needs, barred-em, barred-ts, barred-pending, barred-none, outside, inside, stopping-not, stopping-other)

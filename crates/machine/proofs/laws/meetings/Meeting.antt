@@ -4,13 +4,13 @@ use Rattle.basis.proofs.Names.{ap, _↔_, inl, inr, false≢true, decLt, arith,
 use Rattle.reorder.specs.Result.{Result, done, refused}
 use Rattle.reorder.specs.Footprint as places
 use Rattle.codec.specs.declared.Kind.{Kind}
-use Rattle.manual.specs.Places.{Place, mmx, integer, byte}
+use Rattle.manual.specs.Places.{Place, mmx, integer, byte, zeroMark}
 use Rattle.manual.specs.Kinds.{KindsMeet}
 use Rattle.manual.specs.Footprints.{Meets}
 use Rattle.machine.specs.Footprints.{mmxNumber, integerNumber, numbersOf, bytesOf, mask, setOf, masked, overlap, share, meet, meetTest}
 use Rattle.machine.proofs.laws.meetings.Masks.{masks-meet}
 use Rattle.machine.proofs.laws.meetings.Ranges.{Range, OneRange, RangedFootprint}
-use Rattle.machine.proofs.laws.meetings.Masking.{mmx-exactly, integer-exactly, byte-masked}
+use Rattle.machine.proofs.laws.meetings.Masking.{mmx-exactly, integer-exactly, byte-masked, zero-exactly}
 
 -- Tests and what they test
 
@@ -81,23 +81,28 @@ share-exactly ps qs range-p range-q = (λ e. place (tests .0 e), λ c. tests .1 
   where
     Sorts : Type 0
     Sorts =
-        (((k : ℕ) × In k (numbersOf mmxNumber ps) × In k (numbersOf mmxNumber qs)) ⊎ ((k : ℕ) × In k (numbersOf integerNumber ps) × In k (numbersOf integerNumber qs)))
-        ⊎ InBoth (getD (bytesOf ps) 0 0) (length (bytesOf ps)) (getD (bytesOf qs) 0 0) (length (bytesOf qs))
+        ((((k : ℕ) × In k (numbersOf mmxNumber ps) × In k (numbersOf mmxNumber qs)) ⊎ ((k : ℕ) × In k (numbersOf integerNumber ps) × In k (numbersOf integerNumber qs)))
+        ⊎ InBoth (getD (bytesOf ps) 0 0) (length (bytesOf ps)) (getD (bytesOf qs) 0 0) (length (bytesOf qs)))
+        ⊎ (In zeroMark ps × In zeroMark qs)
 
     tests : (share (setOf ps) (setOf qs) ≡ true) ↔ Sorts
     tests =
-        or-exactly _ _ (or-exactly _ _ (masks-exactly (numbersOf mmxNumber ps) (numbersOf mmxNumber qs)) (masks-exactly (numbersOf integerNumber ps) (numbersOf integerNumber qs)))
-        (overlaps _ _ _ _, overlapping _ _ _ _)
+        or-exactly _ _
+        (or-exactly _ _ (or-exactly _ _ (masks-exactly (numbersOf mmxNumber ps) (numbersOf mmxNumber qs)) (masks-exactly (numbersOf integerNumber ps) (numbersOf integerNumber qs)))
+        (overlaps _ _ _ _, overlapping _ _ _ _))
+        (and-exactly _ _ (zero-exactly ps) (zero-exactly qs))
 
     place : Sorts → Common ps qs
-    place (inl (inl (k, i, j))) = (mmx k, mmx-exactly k ps .0 i, mmx-exactly k qs .0 j)
-    place (inl (inr (k, i, j))) = (integer k, integer-exactly k ps .0 i, integer-exactly k qs .0 j)
-    place (inr (a, i, j)) = (byte a, byte-masked a ps range-p .0 i, byte-masked a qs range-q .0 j)
+    place (inl (inl (inl (k, i, j)))) = (mmx k, mmx-exactly k ps .0 i, mmx-exactly k qs .0 j)
+    place (inl (inl (inr (k, i, j)))) = (integer k, integer-exactly k ps .0 i, integer-exactly k qs .0 j)
+    place (inl (inr (a, i, j))) = (byte a, byte-masked a ps range-p .0 i, byte-masked a qs range-q .0 j)
+    place (inr (i, j)) = (zeroMark, i, j)
 
     sort : Common ps qs → Sorts
-    sort (mmx k, i, j) = inl (inl (k, mmx-exactly k ps .1 i, mmx-exactly k qs .1 j))
-    sort (integer k, i, j) = inl (inr (k, integer-exactly k ps .1 i, integer-exactly k qs .1 j))
-    sort (byte a, i, j) = inr (a, byte-masked a ps range-p .1 i, byte-masked a qs range-q .1 j)
+    sort (mmx k, i, j) = inl (inl (inl (k, mmx-exactly k ps .1 i, mmx-exactly k qs .1 j)))
+    sort (integer k, i, j) = inl (inl (inr (k, integer-exactly k ps .1 i, integer-exactly k qs .1 j)))
+    sort (byte a, i, j) = inl (inr (a, byte-masked a ps range-p .1 i, byte-masked a qs range-q .1 j))
+    sort (zeroMark, i, j) = inr (i, j)
 
 -- the program's test of two footprints is true exactly where they meet
 pub meet-exactly : (f g : places.Footprint Place Kind) → OneRange f → OneRange g → (meet (masked f) (masked g) ≡ true) ↔ Meets (done f) (done g)

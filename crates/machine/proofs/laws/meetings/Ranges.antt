@@ -1,19 +1,19 @@
 -- The memory bytes of a footprint are one range, since an instruction has at most one operand in memory: by the shapes of effects.
-use Rattle.basis.specs.Names.{_≡_, refl, Bool, true, false, cond, _&&_, List, [], _∷_, _++_, map, List·Memᴰ as In, ℕ, zero, suc, _+_, _≤_, _<_, length, getD}
+use Rattle.basis.specs.Names.{_≡_, refl, Bool, true, false, cond, _&&_, List, [], _∷_, _++_, map, List·Memᴰ as In, ℕ, zero, suc, _+_, _≤_, _%_, _<_, length, getD}
 use Rattle.basis.proofs.Names.{sym, ap, subst, _↔_, false≢true, List·Memᴰ·head as here, List·Memᴰ·tail as later, decLt, arith}
 use Rattle.lanes.specs.Operations.{Operation}
 use Rattle.words.proofs.Laws.{and-both}
 use Rattle.reorder.specs.Result.{Result, done, refused, andThen, mapResult}
 use Rattle.reorder.specs.Plan.{Plan}
 use Rattle.reorder.specs.Footprint.{Footprint, footprintIn}
-use Rattle.codec.specs.Forms.{File, mmxFile, integerFile, Slot, reg, rm, rm/mem, mem, edi, fixed, Form}
-use Rattle.codec.specs.Opcodes.{formAt, operationAt}
+use Rattle.codec.specs.Forms.{File, mmxFile, integerFile, Slot, reg, rm, rm/mem, mem, edi, fixed, opcode, zeroSlot, Form}
+use Rattle.codec.specs.Opcodes.{formFor, operationFor}
 use Rattle.codec.specs.declared.Instruction.{Instruction}
 use Rattle.codec.specs.declared.Kind.{Kind}
-use Rattle.codec.proofs.Bytes.{form-passes}
+use Rattle.codec.proofs.Bytes.{opcode-passes}
 use Rattle.manual.specs.Refusals.{belowFloor}
 use Rattle.manual.specs.State.{State}
-use Rattle.manual.specs.Places.{Place, integer, look, allWritable}
+use Rattle.manual.specs.Places.{Place, integer, zeroMark, look, allWritable}
 use Rattle.manual.specs.Addresses.{address, addressOf}
 use Rattle.manual.specs.declared.Marks.{Marks}
 use Rattle.manual.specs.Kinds.{heeded}
@@ -79,6 +79,8 @@ atMost one (rm/mem file size ∷ xs) = one && atMost false xs
 atMost one (mem size ∷ xs) = one && atMost false xs
 atMost one (edi size ∷ xs) = one && atMost false xs
 atMost one (fixed k ∷ xs) = atMost one xs
+atMost one (opcode file ∷ xs) = atMost one xs
+atMost one (zeroSlot ∷ xs) = atMost one xs
 
 -- and so their bytes
 abbrev AtMost : Bool → List ℕ → Type 0
@@ -98,6 +100,10 @@ module _ (s : State) (i : Instruction) where
   register-before Q mmxFile k (refused n) h = tt
   register-before Q integerFile k (done qs) h = h
   register-before Q integerFile k (refused n) h = tt
+
+  zero-before : (Q : List ℕ → Type 0) (rest : Result (List Place)) → Each Q rest → Each Q (before (done (zeroMark ∷ [])) rest)
+  zero-before Q (done qs) h = h
+  zero-before Q (refused n) h = tt
 
   bytes-before : (t : Bool) (size a miss : ℕ) (rest : Result (List Place)) → Each (AtMost false) rest
       → Each Range (before (cond t (done (bytesFrom a size)) (refused miss)) rest)
@@ -124,6 +130,8 @@ module _ (s : State) (i : Instruction) where
   at-most one (reg file ∷ xs) e = register-before (AtMost one) file (i .operand .reg) (places xs) (at-most one xs e)
   at-most one (rm file ∷ xs) e = register-before (AtMost one) file (i .operand .rm) (places xs) (at-most one xs e)
   at-most one (fixed k ∷ xs) e = register-before (AtMost one) mmxFile k (places xs) (at-most one xs e)
+  at-most one (opcode file ∷ xs) e = register-before (AtMost one) file (i .first % 8) (places xs) (at-most one xs e)
+  at-most one (zeroSlot ∷ xs) e = zero-before (AtMost one) (places xs) (at-most one xs e)
   at-most false (rm/mem file size ∷ xs) e = absurd (false≢true e)
   at-most false (mem size ∷ xs) e = absurd (false≢true e)
   at-most false (edi size ∷ xs) e = absurd (false≢true e)
@@ -176,4 +184,6 @@ module _ (floor : ℕ) (s : State) (i : Instruction) where
 
 pub ranged : (floor : ℕ) (s : State) (i : Instruction) → RangedFootprint (footprint floor i s)
 unfolding footprint effectOf
-ranged floor s i = ranged-form floor s i (formAt (i .second)) (operationAt (i .second) (i .operand .reg)) (form-passes oneEach refl refl (i .second))
+ranged floor s i =
+    ranged-form floor s i (formFor (i .first) (i .second)) (operationFor (i .first) (i .second) (i .operand .reg))
+    (opcode-passes oneEach refl refl refl (i .first) (i .second))

@@ -1,5 +1,5 @@
 -- What the tests of two footprints come to, by what the code has learned: one rule for each answer.
-use Rattle.basis.specs.Names.{_≡_, refl, Bool, true, false, ℕ, _+_, _-_, _≤_, _<_, bitAnd, ltb}
+use Rattle.basis.specs.Names.{_≡_, refl, Bool, true, false, _&&_, _||_, ℕ, _+_, _-_, _≤_, _<_, bitAnd, ltb}
 use Rattle.basis.proofs.Names.{sym, _∙_, and-true, arith, needs, lt-ltb, le-ltb, eq-eqb, ne-eqb, ltb-true, ltb-false}
 use Rattle.manual.specs.Kinds.{kindsMeet}
 use Rattle.machine.specs.declared.Places.{Places}
@@ -53,9 +53,19 @@ module _ (p q : Places) where
     unfolding share
     share-integers e = simp (eq-eqb (bitAnd (p .mmx) (q .mmx)) 0 no-mmx, ne-eqb (bitAnd (p .integers) (q .integers)) 0 e)
 
-    pub share-bytes : (t : Bool) → bitAnd (p .integers) (q .integers) ≡ 0 → t ≡ overlap (p .start) (p .length) (q .start) (q .length) → t ≡ share p q
-    unfolding share
-    share-bytes t e h = simp (eq-eqb (bitAnd (p .mmx) (q .mmx)) 0 no-mmx, eq-eqb (bitAnd (p .integers) (q .integers)) 0 e) h
+    module _ (no-integer : bitAnd (p .integers) (q .integers) ≡ 0) (t : Bool) (ranges : t ≡ overlap (p .start) (p .length) (q .start) (q .length)) where
+      unregistered : share p q ≡ (t || (p .zero && q .zero))
+      unfolding share
+      unregistered = simp (eq-eqb (bitAnd (p .mmx) (q .mmx)) 0 no-mmx, eq-eqb (bitAnd (p .integers) (q .integers)) 0 no-integer, ← ranges)
+
+      pub share-bytes : t ≡ true → true ≡ share p q
+      share-bytes e = sym (unregistered ∙ simp e)
+
+      pub share-zero : t ≡ false → p .zero ≡ true → q .zero ≡ share p q
+      share-zero e h = sym (unregistered ∙ simp (e, h))
+
+      pub share-none : t ≡ false → p .zero ≡ false → false ≡ share p q
+      share-none e h = sym (unregistered ∙ simp (e, h))
 
 -- footprints
 module _ (f g : Footprint) (k : Bool) (by-kind : k ≡ kindsMeet (f .kind) (g .kind)) where
@@ -77,4 +87,4 @@ module _ (f g : Footprint) (k : Bool) (by-kind : k ≡ kindsMeet (f .kind) (g .k
       unfolding meet
       meet-reads-writes v e h = simp (← by-kind, no-kind, ← by-reads, no-read, ← by-writes, e) h
 
-pub ruleset meet-rules = (needs, none-first, none-second, starts-before, starts-after, share-mmx, share-integers, share-bytes, meet-kinds, meet-writes-reads, meet-writes, meet-reads-writes)
+pub ruleset meet-rules = (needs, none-first, none-second, starts-before, starts-after, share-mmx, share-integers, share-bytes, share-zero, share-none, meet-kinds, meet-writes-reads, meet-writes, meet-reads-writes)

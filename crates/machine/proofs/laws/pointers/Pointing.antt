@@ -1,13 +1,13 @@
 -- Past the bytes of an operand in memory: what the code has read is what the reader reads, and what it has summed up is the address. Rules for the
 -- functions of pointers.
-use Rattle.basis.specs.Names.{_≡_, refl, false, true, some, List, ℕ, _+_, _*_, _/_, _%_, _^_, _≤_, _<_, bitXor, length, getD, take, drop}
+use Rattle.basis.specs.Names.{_≡_, refl, Bool, false, true, cond, some, List, ℕ, _+_, _*_, _/_, _%_, _^_, _≤_, _<_, bitXor, eqb, length, getD, take, drop}
 use Rattle.basis.proofs.Names.{sym, ap, subst, _∙_, dite, decLe, add-zero, zero-add, add-mod-mod, mod-add-mod, mod-mod, and-false, or-false, arith, needs, eq-eqb, ne-eqb, le-leb, lt-leb}
 use Rattle.lanes.proofs.TopBits.{turn-low, turn-high}
 use Rattle.words.specs.Number.{number}
 use Rattle.words.specs.Buffer.{loaded}
 use Rattle.codec.specs.Operands.{hasSib, displacementSize, operandOf}
 use Rattle.codec.proofs.Steps.{sib-on, sib-not, displacement-on, number-1}
-use Rattle.manual.specs.Addresses.{displacementOf, baseOf, indexOf, registerPart, address}
+use Rattle.manual.specs.Addresses.{signedByte, displacementOf, baseOf, indexOf, registerPart, address}
 use Rattle.machine.specs.declared.pointers.Pointer.{Pointer}
 use Rattle.machine.specs.inner.Pointers.{Unless, Displaced, Points}
 use Rattle.machine.proofs.laws.addresses.Addressing.{base-is, base-is-five, no-base, sum-plain, sum-sib}
@@ -35,7 +35,14 @@ module _ (start : ℕ) (code : List ℕ) (at : ℕ) where
   -- no displacement, a byte, and four bytes
   past-nothing : (mode : ℕ) → start < 2 ^ 32 → at ≤ length code → Displaced (pointer start at) start mode 0 code at
   unfolding displacementOf
-  past-nothing mode h l = record { room = omega arith; next = sym (add-zero at); address = simp (and-false) (omega arith) }
+  past-nothing mode h l = record { room = omega arith; next = sym (add-zero at); address = still ∙ ap (λ (n : ℕ). (start + n % 2 ^ 32) % 2 ^ 32) (sym (none (eqb mode 1))) }
+    where
+      still : start ≡ (start + 0 % 2 ^ 32) % 2 ^ 32
+      still = omega arith
+
+      none : (t : Bool) → cond t (signedByte 0) 0 ≡ 0
+      none true = refl
+      none false = refl
 
   pub past-byte : (A : Type 0) (modrm x r : ℕ) → 64 ≤ modrm → modrm < 128 → at < length code → x ≡ displacementOf 1 (getD code at 0) % 2 ^ 32
       → r ≡ (start + x) % 2 ^ 32 → Unless A (Displaced (pointer r (at + 1)) start (modrm / 64) (displacementSize (modrm / 64) 0 0) code at)

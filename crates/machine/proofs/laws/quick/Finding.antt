@@ -1,7 +1,7 @@
 -- What is found after an opcode: two registers, a register and memory, a shift's register and immediate, or nothing more.
 use Rattle.basis.specs.Names.{_≡_, refl, true, List, ℕ, _+_, _/_, _^_, _≤_, _<_, length, getD, drop}
 use Rattle.basis.proofs.Names.{sym, ap, ap₂, _∙_, add-zero, arith}
-use Rattle.codec.specs.Forms.{Form, allows}
+use Rattle.codec.specs.Forms.{Form, hasOperand, allows}
 use Rattle.codec.specs.Opcodes.{escape}
 use Rattle.codec.specs.Operands.{upper, middle, lower, operandOf, noOperand}
 use Rattle.codec.specs.Table.{formOf}
@@ -10,7 +10,7 @@ use Rattle.codec.specs.Reads.{instructionOf, immediateReader, sibReader}
 use Rattle.codec.specs.Finding.{found}
 use Rattle.codec.specs.declared.Found.{Found}
 use Rattle.codec.specs.declared.Operand.{Operand}
-use Rattle.codec.proofs.FormNumbers.{allowed-past, allowed-in-memory, immediate-past, immediate-before, immediate-there}
+use Rattle.codec.proofs.FormNumbers.{operand-past, operand-before, operand-there, allowed-past, allowed-in-memory, immediate-past, immediate-before, immediate-there}
 use Rattle.codec.proofs.Steps.{form-bare, form-on, modrm-on, sib-register, immediate-on, number-1}
 use Rattle.machine.specs.declared.pointers.Pointer.{Pointer}
 use Rattle.machine.specs.inner.Pointers.{Points}
@@ -35,34 +35,34 @@ module _ (entry second : ℕ) (code : List ℕ) (at : ℕ) where
   after-alone e h =
       immediate-on code at form escape second entry (foundAs entry second noOperand 0 at) noOperand 0 (immediate-before n (omega arith)) 0 (omega arith) refl
       (ap (foundAs entry second noOperand 0) (sym (add-zero at)))
-      ∙ ap (found entry) (sym (form-bare n escape second at (drop at code) e))
+      ∙ ap (found entry) (sym (form-bare n escape second at (drop at code) (λ z. omega arith) (sym (operand-before n (omega arith)))))
 
-  -- a ModRM byte that the form allows
-  module _ (more : 2 ≤ n) (here : at < length code) where
-    after-modrm : (x : Found) → true ≡ allows form (upper modrm) (middle modrm) (lower modrm)
+  -- a ModRM byte, which the form has, and allows
+  module _ (here : at < length code) where
+    after-modrm : (x : Found) → (n ≡ 0 → ⊥) → true ≡ hasOperand form → true ≡ allows form (upper modrm) (middle modrm) (lower modrm)
         → x ≡ found entry (reads (sibReader form escape second modrm) (at + 1) (drop (at + 1) code)) → x ≡ afterOpcode entry second code at
-    after-modrm x t e =
+    after-modrm x there has t e =
         modrm-on code at form escape second entry x true t here refl e
-        ∙ ap (found entry) (sym (form-on n escape second at (drop at code) (λ z. omega arith) (λ z. omega arith)))
+        ∙ ap (found entry) (sym (form-on n escape second at (drop at code) there (sym has)))
 
     module _ (register : 192 ≤ modrm) (byte : modrm < 256) where
-      after-register : (v k : ℕ) → true ≡ allows form (upper modrm) (middle modrm) (lower modrm)
+      after-register : (v k : ℕ) → (n ≡ 0 → ⊥) → true ≡ hasOperand form → true ≡ allows form (upper modrm) (middle modrm) (lower modrm)
           → foundAs entry second (operandOf modrm 0 0) v (at + 1 + k) ≡ found entry (reads (immediateReader form escape second (operandOf modrm 0 0)) (at + 1) (drop (at + 1) code))
           → foundAs entry second (operandOf modrm 0 0) v (at + 1 + k) ≡ afterOpcode entry second code at
-      after-register v k t e =
-          after-modrm (foundAs entry second (operandOf modrm 0 0) v (at + 1 + k)) t
+      after-register v k there has t e =
+          after-modrm (foundAs entry second (operandOf modrm 0 0) v (at + 1 + k)) there has t
           (sib-register code (at + 1) form escape second entry (foundAs entry second (operandOf modrm 0 0) v (at + 1 + k)) modrm (operandOf modrm 0 0) register byte refl e)
 
       pub after-registers : 15 < n → foundAs entry second (operandOf modrm 0 0) 0 (at + 1) ≡ afterOpcode entry second code at
       after-registers h =
           ap (foundAs entry second (operandOf modrm 0 0) 0) (sym (add-zero (at + 1)))
-          ∙ after-register 0 0 (allowed-past n _ _ _ h)
+          ∙ after-register 0 0 (λ z. omega arith) (operand-past n (omega arith)) (allowed-past n _ _ _ h)
           (immediate-on code (at + 1) form escape second entry (foundAs entry second (operandOf modrm 0 0) 0 (at + 1 + 0)) (operandOf modrm 0 0) 0 (immediate-past n (omega arith)) 0 (omega arith) refl refl)
 
-      pub after-shift : (v : ℕ) → n ≤ 3 → true ≡ allows form (upper modrm) (middle modrm) (lower modrm) → at + 1 < length code → v ≡ getD code (at + 1) 0
+      pub after-shift : (v : ℕ) → 2 ≤ n → n ≤ 3 → true ≡ allows form (upper modrm) (middle modrm) (lower modrm) → at + 1 < length code → v ≡ getD code (at + 1) 0
           → foundAs entry second (operandOf modrm 0 0) v (at + 1 + 1) ≡ afterOpcode entry second code at
-      after-shift v h t l e =
-          after-register v 1 t
+      after-shift v more h t l e =
+          after-register v 1 (λ z. omega arith) (operand-there n more (omega arith)) t
           (immediate-on code (at + 1) form escape second entry (foundAs entry second (operandOf modrm 0 0) v (at + 1 + 1)) (operandOf modrm 0 0) 1 (immediate-there n (omega arith) more) v
           (omega arith) (number-1 code (at + 1) 1 v refl (omega (arith, e)) (omega arith)) refl)
 
@@ -70,7 +70,7 @@ module _ (entry second : ℕ) (code : List ℕ) (at : ℕ) where
         → foundAs entry second (operandOf byte (t .sib) (t .displacement)) 0 (p .next) ≡ afterOpcode entry second code at
     after-memory integers p from byte f e t b h =
         let w = operandOf byte (t .sib) (t .displacement) in
-        after-modrm (foundAs entry second w 0 (p .next)) (allowed-in-memory n _ _ _ h (λ z. omega arith))
+        after-modrm (foundAs entry second w 0 (p .next)) (λ z. omega arith) (operand-past n (omega arith)) (allowed-in-memory n _ _ _ h (λ z. omega arith))
         (immediate-on code (p .next) form escape second entry (foundAs entry second w 0 (p .next)) w 0 (immediate-past n (omega arith)) 0 (omega arith) refl
         (ap (foundAs entry second w 0) (sym (add-zero (p .next))))
         ∙ t .read form escape second entry

@@ -1,6 +1,6 @@
 -- What was read and gathered at once is what the reader finds, and so it is the step. Rules for the functions that read from the start.
 use Rattle.basis.specs.Names.{_≡_, refl, Bool, true, false, List, ℕ, zero, suc, _+_, _/_, _^_, _≤_, eqb, length, getD, drop, replicate}
-use Rattle.basis.proofs.Names.{sym, ap, subst, _∙_, arith, needs, eqb-true, eqb-false}
+use Rattle.basis.proofs.Names.{sym, ap, subst, arith, needs, eq-eqb, eqb-true, eqb-false}
 use Rattle.codec.specs.Opcodes.{escape}
 use Rattle.codec.specs.Table.{formOf, formIn, opcodeTable}
 use Rattle.codec.specs.Reader.{reads}
@@ -27,10 +27,9 @@ module _ (table code : List ℕ) (at entry : ℕ) (room : at + 3 ≤ length code
   past-opcode =
       let second = getD code (at + 1) 0 in
       let x = afterOpcode entry second code (at + 2) in
-      let same : x ≡ found entry (reads (formReader (formOf (entry / 2 ^ 24)) (getD code at 0) second) (at + 1 + 1) (drop (at + 1 + 1) code)) =
-      ap (λ (k : ℕ). found entry (reads (formReader (formOf (entry / 2 ^ 24)) escape second) k (drop k code))) (omega arith)
-      ∙ ap (λ (b : ℕ). found entry (reads (formReader (formOf (entry / 2 ^ 24)) b second) (at + 1 + 1) (drop (at + 1 + 1) code))) (sym escaped) in
-      first-on code at table x (omega arith) escaped (second-found code (at + 1) table (getD code at 0) x (omega arith) entry looked-up same)
+      let same : x ≡ found entry (reads (formReader (formOf (entry / 2 ^ 24)) escape second) (at + 1 + 1) (drop (at + 1 + 1) code)) =
+      ap (λ (k : ℕ). found entry (reads (formReader (formOf (entry / 2 ^ 24)) escape second) k (drop k code))) (omega arith) in
+      first-on code at table x (omega arith) escaped (second-found code (at + 1) table x (omega arith) entry looked-up same)
 
   module _ (A : Type 0) (work : Work) (registers integers m : List ℕ) where
     pub found-after : Unless A (QuickAfter work registers integers m entry code (at + 2)) → Unless A (Quick work registers integers m (findWith table code at))
@@ -57,17 +56,17 @@ zeros (suc n) zero = refl
 zeros (suc n) (suc k) = zeros n k
 
 -- nothing is found in a table without an entry
-none-found : (code : List ℕ) (at : ℕ) → findWith (replicate 256 0) code at .entry ≡ 0
+none-found : (code : List ℕ) (at : ℕ) → let x = findWith (replicate 256 0) code at in x .instruction .first ≡ escape → x .entry ≡ 0
 unfolding findWith
 none-found code at = by (reads (instructionReader (formIn (replicate 256 0))) at (drop at code))
   where
-    by : (z : Decoded) → foundIn (replicate 256 0) z .entry ≡ 0
-    by (good i n) = zeros 256 (i .second)
-    by (refused n) = refl
+    by : (z : Decoded) → let x = foundIn (replicate 256 0) z in x .instruction .first ≡ escape → x .entry ≡ 0
+    by (good i n) e = simp (eq-eqb (i .first) escape e) (zeros 256 (i .second))
+    by (refused n) e = refl
 
 -- ---- the step
 
-module _ (quick code : List ℕ) (at : ℕ) (registers integers m : List ℕ) (bar : ℕ) (work : Work) (o : Opened bar quick)
+module _ (quick code : List ℕ) (at : ℕ) (registers integers m : List ℕ) (bar : ℕ) (zero : Bool) (work : Work) (o : Opened bar quick)
     (u : Unless (work .what ≡ toRefuse) (Quick work registers integers m (findWith quick code at))) (answered : work .what ≡ toRefuse → ⊥) where
   abbrev x : Found
   x = findWith quick code at
@@ -81,13 +80,14 @@ module _ (quick code : List ℕ) (at : ℕ) (registers integers m : List ℕ) (b
       by : (t : Bool) → eqb bar 0 ≡ t → bar ≡ 0
       by true t = eqb-true bar 0 t
       by false t =
-          let none : x .entry ≡ 0 = ap (λ (l : List ℕ). findWith l code at .entry) (o .empty (eqb-false bar 0 t)) ∙ none-found code at in
+          let none : x .entry ≡ 0 =
+          subst (λ (l : List ℕ). findWith l code at .instruction .first ≡ escape → findWith l code at .entry ≡ 0) (sym (o .empty (eqb-false bar 0 t))) (none-found code at) (q .escaped) in
           absurd (q .present (ap (λ (n : ℕ). n / 2 ^ 24) none))
 
-  pub gathered-quick : length code ≤ longestCode → length m ≤ longestMemory → Gathered work registers integers bar code at m
+  pub gathered-quick : length code ≤ longestCode → length m ≤ longestMemory → Gathered work registers integers bar zero code at m
   gathered-quick code-fits memory-fits =
       let ours = o .ours unbarred in
-      gathered-sorted quick code at x ours refl registers integers m bar code-fits memory-fits work (q .passed) _ refl (none-stops bar (x .entry / 2 ^ 24) unbarred)
-      (q .does (is-listed quick code at x ours refl (q .passed)))
+      gathered-sorted quick code at x ours refl registers integers m bar zero code-fits memory-fits work (q .passed) (q .escaped) _ refl (none-stops bar (x .entry / 2 ^ 24) unbarred)
+      (q .does (is-listed quick code at x ours refl (q .passed) (q .escaped)))
 
 pub ruleset quickening = (needs, gathered-quick)

@@ -2,6 +2,7 @@
 use Rattle.basis.specs.Names.{_≡_, refl, _⊎_, Bool, true, false, _||_, List, ℕ, _+_, _/_, _%_, _^_, _≤_, _<_, eqb, leb, length, getD}
 use Rattle.basis.proofs.Names.{sym, ap, subst, _∙_, inl, inr, false≢true, or-true, arith, needs, eq-eqb, ne-eqb, eqb-true, eqb-false}
 use Rattle.words.specs.Buffer.{loaded}
+use Rattle.reorder.specs.Result.{done}
 use Rattle.codec.specs.Forms.{memorySize}
 use Rattle.codec.specs.Table.{formOf}
 use Rattle.codec.specs.inner.Fields.{Registers}
@@ -122,13 +123,13 @@ module _ (registers integers m : List ℕ) (entry : ℕ) (i : Instruction) (next
   abbrev k : ℕ
   k = entry / 2 ^ 24
 
-  pub does-two : Does work registers integers m (effectIn entry i) next
+  pub does-two : Does work registers integers m (effectIn entry i) (done next)
   does-two = by (eqb k 15) (eqb k 16 || eqb k 18) (eqb k 17 || eqb k 19) refl refl refl
     where
-      store : Stores ≡ wayOf k → isStore k ≡ true → Does work registers integers m (effectIn entry i) next
+      store : Stores ≡ wayOf k → isStore k ≡ true → Does work registers integers m (effectIn entry i) (done next)
       store y e = does-store registers integers m entry i next r l (wayOf k) refl work _ (sym y) refl (simp e at made)
 
-      by : (d s t : Bool) → eqb k 15 ≡ d → (eqb k 16 || eqb k 18) ≡ s → (eqb k 17 || eqb k 19) ≡ t → Does work registers integers m (effectIn entry i) next
+      by : (d s t : Bool) → eqb k 15 ≡ d → (eqb k 16 || eqb k 18) ≡ s → (eqb k 17 || eqb k 19) ≡ t → Does work registers integers m (effectIn entry i) (done next)
       by true s t g e f = store (way-streams k (eqb-true k 15 g)) (simp g)
       by false true t g e f = store (way-stores k (either k 16 18 e)) (simp (g, e))
       by false false true g e f =

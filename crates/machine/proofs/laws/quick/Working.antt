@@ -70,6 +70,7 @@ module _ (entry modrm : ℕ) (code : List ℕ) (at : ℕ) (here : at < length co
                 (λ m second.
                 record {
                   passed = refl;
+                  escaped = refl;
                   present = λ z. omega arith;
                   does = λ l. does-two registers integers m entry _ (at + 1) (registers-of modrm 0 0) l (omega arith) work (made m l);
                 });
@@ -77,7 +78,7 @@ module _ (entry modrm : ℕ) (code : List ℕ) (at : ℕ) (here : at < length co
         where
           found-here : (second : ℕ) → foundAs entry second w 0 (at + 1) ≡ afterOpcode entry second code at
           found-here second =
-              rw (← named) at (after-registers entry second code at (omega arith) here (rw (← named) register) (rw (← named) byte) (omega arith))
+              rw (← named) at (after-registers entry second code at here (rw (← named) register) (rw (← named) byte) (omega arith))
 
       -- the work of a register that is there
       take-there : (m : List ℕ) (x : Spot) → x ≡ Here (length m) → isStore form ≡ false → work ≡ takeWork registers integers m (entry % 256) (middle modrm) x (at + 1)
@@ -139,6 +140,7 @@ module _ (entry modrm : ℕ) (code : List ℕ) (at : ℕ) (here : at < length co
               (λ registers integers m second.
               record {
                 passed = refl;
+                escaped = refl;
                 present = λ z. omega arith;
                 does = λ l.
                     does-shift registers integers m entry _ (at + 2) (registers-of modrm 0 0) l (wayOf form) refl work number
@@ -152,7 +154,7 @@ module _ (entry modrm : ℕ) (code : List ℕ) (at : ℕ) (here : at < length co
         found-here : (second : ℕ) → foundAs entry second w v (at + 2) ≡ afterOpcode entry second code at
         found-here second =
             let past : at + 2 ≡ at + 1 + 1 = omega arith in
-            ap (foundAs entry second w v) past ∙ rw (← named) at (after-shift entry second code at low here (rw (← named) register) (rw (← named) byte) v high allows-it more e)
+            ap (foundAs entry second w v) past ∙ rw (← named) at (after-shift entry second code at here (rw (← named) register) (rw (← named) byte) v low high allows-it more e)
 
   -- EMMS
   pub empties : (A : Type 0) → Unless A ((form ≡ 1) × (work ≡ workOf toEmpty 0 0 0 at)) → Unless A (QuickAnyhow work entry code at)
@@ -164,6 +166,7 @@ module _ (entry modrm : ℕ) (code : List ℕ) (at : ℕ) (here : at < length co
       (λ registers integers m second.
       record {
         passed = refl;
+        escaped = refl;
         present = λ z. omega arith;
         does = λ l.
             does-empties registers integers m entry _ at no-registers l
@@ -181,9 +184,10 @@ module _ (entry modrm : ℕ) (code : List ℕ) (at : ℕ) (here : at < length co
         quick = λ second.
             let w = operandOf modrm (t .sib) (t .displacement) in
             does-found entry code at work registers integers m second (foundAs entry second w 0 (p .next))
-            (after-memory entry second code at (omega (arith, a .two)) here integers p (at + 1) modrm refl named t memory (omega (arith, a .two)))
+            (after-memory entry second code at here integers p (at + 1) modrm refl named t memory (omega (arith, a .two)))
             (record {
               passed = refl;
+              escaped = refl;
               present = λ z. omega (arith, a .two);
               does = λ l.
                   does-two registers integers m entry _ (p .next) (registers-of modrm (t .sib) (t .displacement)) l (a .two) work

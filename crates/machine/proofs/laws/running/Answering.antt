@@ -7,6 +7,7 @@ use Rattle.codec.specs.Reads.{longestCode, instructionReader, readAt}
 use Rattle.manual.specs.Refusals.{memoryTooLong, floorTooHigh}
 use Rattle.manual.specs.State.{State, longestMemory}
 use Rattle.manual.specs.Instructions.{execute}
+use Rattle.manual.specs.Jumps.{next}
 use Rattle.manual.specs.Steps.{Outcome, completed, refusedWith, instructionAt, stepAt}
 use Rattle.manual.specs.Reasons.{Fits}
 use Rattle.manual.specs.Runs.{read}
@@ -68,7 +69,7 @@ module _ (floor : ℕ) (code : List ℕ) (at : ℕ) (k : Machine) (m : List ℕ)
           either true next s = refl
           either false next s = refl
 
-          by : (o : Outcome) → taken (onward (runFrom read (execute floor) 0 code) 0 o) ≡ o
+          by : (o : Outcome) → taken (onward (runFrom read (execute floor) next 0 code) 0 o) ≡ o
           by (completed next s) = either (eqb next (length code)) next s
           by (refusedWith n next s) = refl
 

@@ -6,8 +6,9 @@ use Rattle.codec.specs.Reads.{longestCode}
 use Rattle.codec.specs.Refusals.{codeTooLong}
 use Rattle.manual.specs.declared.Marks.{Marks}
 use Rattle.manual.specs.Refusals.{memoryTooLong, floorTooHigh}
-use Rattle.manual.specs.State.{State, longestMemory, tagged}
+use Rattle.manual.specs.State.{State, longestMemory}
 use Rattle.manual.specs.Instructions.{execute}
+use Rattle.manual.specs.Jumps.{next}
 use Rattle.manual.specs.Steps.{completed, refusedWith, stepAt}
 use Rattle.manual.specs.Reasons.{Fits}
 use Rattle.manual.specs.Runs.{read, runOf}
@@ -18,7 +19,7 @@ use Rattle.machine.specs.declared.Machine.{Machine}
 use Rattle.machine.specs.declared.stepping.Moved.{Moved}
 use Rattle.machine.specs.State.{stateOf}
 use Rattle.machine.specs.Runs.{paperOfRun}
-use Rattle.machine.specs.inner.Works.{machineOf, barredBy, Advanced}
+use Rattle.machine.specs.inner.Works.{machineOf, renewed, barredBy, Advanced}
 use Rattle.machine.specs.inner.Runs.{remaining}
 
 -- the tests of the limits, and then the run from position 0 on
@@ -62,7 +63,7 @@ module _ (floor : ℕ) (code : List ℕ) (at rest budget : ℕ) (R : Answer Stat
         ends : eqb at (length code) ≡ true
         ends = eq-eqb at (length code) (omega arith)
 
-        by : (n : ℕ) → runFrom read (execute floor) n code at count (stateOf k m) ≡ R → finished at count (stateOf k m) ≡ R
+        by : (n : ℕ) → runFrom read (execute floor) next n code at count (stateOf k m) ≡ R → finished at count (stateOf k m) ≡ R
         by zero z = simp ends at z
         by (suc n) z = simp ends at z
 
@@ -71,23 +72,23 @@ module _ (floor : ℕ) (code : List ℕ) (at rest budget : ℕ) (R : Answer Stat
     run-spent h e =
         let all : budget ≡ count = omega arith in
         let more : eqb at (length code) ≡ false = ne-eqb at (length code) (λ z. omega arith) in
-        ap (λ (n : ℕ). spent at n (stateOf k m)) all ∙ (simp more at (subst (λ (n : ℕ). runFrom read (execute floor) n code at count (stateOf k m) ≡ R) e run))
+        ap (λ (n : ℕ). spent at n (stateOf k m)) all ∙ (simp more at (subst (λ (n : ℕ). runFrom read (execute floor) next n code at count (stateOf k m) ≡ R) e run))
 
   -- a step over lent registers
   module _ (registers integers m : List ℕ) (marks : Marks) (run : remaining floor rest code at count (stateOf (machineOf registers integers marks) m) ≡ R)
       (here : at < length code) (within : rest ≤ budget) (unspent : rest ≡ 0 → ⊥) (code-fits : length code ≤ longestCode)
       (m₀ : List ℕ) (kept : length m ≡ length m₀) (memory-fits : length m₀ ≤ longestMemory) (floor-fits : floor ≤ length m₀)
       (moved : Moved) (registers′ integers′ m′ : List ℕ) (bar : ℕ) (barred : bar ≡ barredBy marks)
-      (valid : Bool) (tag : valid ≡ marks .valid) (advanced : Advanced moved registers integers bar valid code at m floor registers′ integers′ m′) where
+      (valid zero : Bool) (tag : valid ≡ marks .valid) (mark : zero ≡ marks .zero) (advanced : Advanced moved registers integers bar valid zero code at m floor registers′ integers′ m′) where
     abbrev s : State
     s = stateOf (machineOf registers integers marks) m
 
     abbrev t : State
-    t = stateOf (machineOf registers′ integers′ (tagged marks (moved .valid))) m′
+    t = stateOf (machineOf registers′ integers′ (renewed marks (moved .valid) (moved .zero))) m′
 
     -- how the run goes on after it
     abbrev after : ℕ → ℕ → State → Answer State
-    after = runFrom read (execute floor) (rest - 1) code
+    after = runFrom read (execute floor) next (rest - 1) code
 
     within-both : Fits floor s
     within-both = within-limits floor s (omega arith) (omega arith)
@@ -96,13 +97,13 @@ module _ (floor : ℕ) (code : List ℕ) (at rest budget : ℕ) (R : Answer Stat
     unfolding remaining
     turned =
         sym (turn floor code at s within-both (le-ltb longestCode (length code) code-fits) (rest - 1) count (ne-eqb at (length code) (λ z. omega arith)))
-        ∙ ap (λ (n : ℕ). runFrom read (execute floor) n code at count s) one ∙ run
+        ∙ ap (λ (n : ℕ). runFrom read (execute floor) next n code at count s) one ∙ run
       where
         one : suc (rest - 1) ≡ rest
         one = omega (arith, unspent)
 
     completes : moved .refusal ≡ 0 → completed (moved .next) t ≡ stepAt floor code at s
-    completes e = simp (eq-eqb (moved .refusal) 0 e) at (advanced .ends marks barred tag)
+    completes e = simp (eq-eqb (moved .refusal) 0 e) at (advanced .ends marks barred tag mark)
 
     pub run-within : moved .refusal ≡ 0 → moved .next ≤ length code
     run-within e = step-within floor code (le-ltb longestCode (length code) code-fits) at (moved .next) s t within-both (sym (completes e))
@@ -118,13 +119,13 @@ module _ (floor : ℕ) (code : List ℕ) (at rest budget : ℕ) (R : Answer Stat
         → paperOfRun (record { end = Refused (moved .refusal); at = moved .next; count = count; machine = machineOf registers′ integers′ marks }) m′ ≡ R
     run-refused e =
         let refuses : refusedWith (moved .refusal) (moved .next) (stateOf (machineOf registers′ integers′ marks) m′) ≡ stepAt floor code at s =
-        simp (ne-eqb (moved .refusal) 0 e) at (advanced .ends marks barred tag) in
+        simp (ne-eqb (moved .refusal) 0 e) at (advanced .ends marks barred tag mark) in
         ap (onward after count) refuses ∙ turned
 
--- the tag mark bars nothing
-pub still-barred : (bar : ℕ) (marks : Marks) (valid : Bool) → bar ≡ barredBy marks → bar ≡ barredBy (tagged marks valid)
+-- the tag mark and the zero mark bar nothing
+pub still-barred : (bar : ℕ) (marks : Marks) (tag mark : Bool) → bar ≡ barredBy marks → bar ≡ barredBy (renewed marks tag mark)
 unfolding barredBy
-still-barred bar marks valid h = h
+still-barred bar marks tag mark h = h
 
 pub ruleset starting = (needs, run-memory, run-floor, run-code, run-whole)
 

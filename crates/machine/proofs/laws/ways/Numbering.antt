@@ -1,6 +1,6 @@
 -- The forms by their numbers in the table, each with its way: those of a destination and a source whatever register file and size r/m has. Rules for the
 -- functions that sort them.
-use Rattle.basis.specs.Names.{_≡_, refl, _⊎_, Bool, true, false, cond, _||_, some, [], _∷_, ℕ, _/_, _%_, _^_, _≤_, _<_, eqb}
+use Rattle.basis.specs.Names.{_≡_, refl, _⊎_, Bool, true, false, cond, _||_, some, [], _∷_, ℕ, _/_, _%_, _^_, _≤_, _<_, eqb, leb}
 use Rattle.basis.proofs.Names.{sym, ap, subst, _∙_, inl, inr, false≢true, arith, needs, ne-eqb, le-leb, lt-leb, le-ltb, lt-ltb}
 use Rattle.words.specs.Number.{bytes}
 use Rattle.lanes.specs.Operations.{described, MOVE}
@@ -11,7 +11,7 @@ use Rattle.manual.specs.Instructions.{keptBy}
 use Rattle.machine.specs.declared.ways.Way.{Way}
 use Rattle.machine.specs.declared.ways.Way.the-variants.{Empties, Passes, Shifts, Extracts, Stores, Loads, Computes, Inserts, Shuffles, Masks}
 use Rattle.machine.specs.inner.Spots.{fileIn}
-use Rattle.machine.specs.inner.Ways.{isSilent, isInteger, isStore, wayOf, hasOther}
+use Rattle.machine.specs.inner.Ways.{isUnstopped, isInteger, isStore, wayOf, hasOther}
 use Rattle.machine.specs.inner.Works.{owned, numbers, isListed, Listed}
 
 -- the register file and the size of the operand that may be in memory: by the number an integer register or an MMX register; one to eight bytes; and
@@ -174,11 +174,11 @@ module _ (n : ℕ) where
   way-computes h d s l =
       simp (le-ltb n 15 h, ne-eqb n 15 d, ne-eqb n 16 (λ e. s (inl e)), ne-eqb n 18 (λ e. s (inr e)), ne-eqb n 17 (λ e. l (inl e)), ne-eqb n 19 (λ e. l (inr e)))
 
-  pub silent-fence : n ≡ 9 → true ≡ isSilent n
-  silent-fence e = simp e
+  pub stopped-before : n < 9 → false ≡ isUnstopped n
+  stopped-before h = simp (lt-leb 9 n h)
 
-  pub silent-prefetch : (n ≡ 9 → ⊥) → eqb n 14 ≡ isSilent n
-  silent-prefetch e = simp (ne-eqb n 9 e)
+  pub unstopped-from : 9 ≤ n → leb n 14 ≡ isUnstopped n
+  unstopped-from h = simp (le-leb 9 n h)
 
   pub integer-insert : n ≡ 4 → true ≡ isInteger n
   integer-insert e = simp e
@@ -203,4 +203,4 @@ two-from n h = simp (le-ltb n 15 h) (by (isStore n) (eqb n 17 || eqb n 19))
 pub two-by : (y z : Way) (t : Bool) → y ≡ z → t ≡ hasOther z → t ≡ hasOther y
 two-by y z t e h = h ∙ ap hasOther (sym e)
 
-pub ruleset way-rules = (needs, way-empties, way-shifts, way-extracts, way-inserts, way-shuffles, way-masks, way-passes, way-streams, way-stores, way-loads, way-computes, silent-fence, silent-prefetch, integer-insert, integer-store, integer-load, two-by)
+pub ruleset way-rules = (needs, way-empties, way-shifts, way-extracts, way-inserts, way-shuffles, way-masks, way-passes, way-streams, way-stores, way-loads, way-computes, stopped-before, unstopped-from, integer-insert, integer-store, integer-load, two-by)

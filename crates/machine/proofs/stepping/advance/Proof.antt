@@ -12,4 +12,5 @@ advance-spec =
     (λ c. search needs) (λ c. search operating) (λ c. search needs) (λ c. search storing) (λ c. search needs) (λ c κs. search needs)
     (λ c. search needs) (λ c. search storing) (λ c. search needs) (λ c κs. search needs) (λ c. search needs) (λ c. search storing)
     (λ c κs. search putting) (λ c. search needs) (λ c. search putting) (λ c. search needs) (λ c. search ending) (λ c. search needs)
-    (λ c. search ending) (λ c. search needs) (λ c. search ending))
+    (λ c. search ending) (λ c κs. search putting) (λ c. search needs) (λ c. search putting) (λ c κs. search putting) (λ c. search needs)
+    (λ c. search putting) (λ c. search needs) (λ c. search ending))

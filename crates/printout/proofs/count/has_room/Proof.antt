@@ -9,4 +9,4 @@ has-room-spec =
     (tie.spec
     (λ c κs. search counting) (λ c κs. search counting) (λ c. search counting) (λ c κs. search counting) (λ c. search counting)
     (λ c κs. search counting) (λ c. search counting) (λ c. search counting) (λ c. search counting) (λ c. search counting) (λ c. search counting)
-    (λ c. search counting) (λ c. search counting) (λ c. search counting))
+    (λ c. search counting) (λ c. search counting) (λ c. search counting) (λ c. search counting))

@@ -1,0 +1,2 @@
+-- The rules for the instructions of loops.
+pub mod Looping

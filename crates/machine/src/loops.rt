@@ -1,0 +1,183 @@
+// The instructions of loops: what remains of one to be done, where a jump leads, and their footprints.
+use crate::Footprint;
+use crate::Places;
+use crate::Tracing;
+use crate::addresses;
+use crate::gathering;
+use crate::gathering::Work;
+use crate::reaches;
+use crate::refusals::JUMPS_OUTSIDE;
+use codec::Instruction;
+use codec::Kind;
+use codec::fields::VALUES;
+use codec::forms::ADD;
+use codec::forms::DECREMENT;
+use codec::forms::FORM;
+use codec::forms::SET;
+use codec::modes::BYTE_DISPLACEMENT;
+ghost use Rattle.basis.specs.Names.{_≡_, not, cond, _+_, _/_, _%_, _^_, _≤_, _<_, getD};
+ghost use Rattle.reorder.specs.Result.{done, mapResult};
+ghost use Rattle.codec.specs.inner.Fields.{Registers};
+ghost use Rattle.codec.specs.Reads.{longestCode};
+ghost use Rattle.manual.specs.Jumps.{jumped};
+ghost use Rattle.machine.specs.Footprints.{paperOfFootprint};
+ghost use Rattle.machine.specs.inner.Loops.{Looping, onwardBy, paperOfTarget, targetWithin, landing, Loops, countingFootprint, loopFootprint};
+ghost use Rattle.machine.specs.inner.Works.{toCount, workOf, effectIn};
+
+// What minus 1 is in 32 bits.
+const MINUS_ONE: u32 = 0xffffffff;
+
+// The least byte that stands for a negative displacement, and how many values a displacement has.
+const SIGN: usize = 128;
+
+const DISPLACEMENTS: usize = 256;
+
+// The zero mark alone.
+const ZERO_MARK: Places = Places {
+    mmx: 0,
+    integers: 0,
+    start: 0,
+    length: 0,
+    zero: true,
+};
+
+// Where a run goes on: at a position, or the refusal of a jump.
+pub(crate) enum Target {
+    At(usize),
+    Refused(u8),
+}
+
+// The target, where this is 256 more, in a code of so many bytes.
+fn within(length: usize, ahead: usize) -> Target
+    requires { ⌜ length ≤ longestCode ⌝ }
+    ensures { λ r. ⌜ paperOfTarget r ≡ targetWithin length ahead ⌝ }
+{
+    if ahead < DISPLACEMENTS {
+        return Target::Refused(JUMPS_OUTSIDE);
+    }
+    if length + DISPLACEMENTS < ahead {
+        return Target::Refused(JUMPS_OUTSIDE);
+    }
+    Target::At(ahead - DISPLACEMENTS)
+}
+
+// Where a jump by a signed byte leads, with the position behind it, in a code of so many bytes: it is taken where the zero mark is clear.
+fn target_of(zero: bool, length: usize, behind: usize, displacement: u32) -> Target
+    requires { ⌜ (length ≤ longestCode) × (behind ≤ length) ⌝ }
+    ensures { λ r. ⌜ paperOfTarget r ≡ cond (not zero) (jumped length behind displacement) (done behind) ⌝ }
+{
+    if zero {
+        return Target::At(behind);
+    }
+    let byte = displacement as usize;
+    if byte < SIGN {
+        return within(length, behind + byte + DISPLACEMENTS);
+    }
+    within(length, behind + byte)
+}
+
+// An integer register to which a number is added, in 32 bits.
+fn counted(integers: &[u32; 8], register: usize, addend: u32, next: usize) -> Work
+    requires { ⌜ register < 8 ⌝ }
+    ensures { λ r. ⌜ r ≡ workOf toCount 0 register ((getD (now (integers .entry)) register 0 + addend) % 2 ^ 32) next ⌝ }
+{
+    let sum = std::num::wrapping_add_u32(integers[register], addend);
+    gathering::work_of(gathering::COUNT, 0, register, gathering::widened(sum), next)
+}
+
+// A jump: nothing remains but to go on at its target.
+fn jump(zero: bool, length: usize, next: usize, displacement: u32) -> Work
+    requires { ⌜ (length ≤ longestCode) × (next ≤ length) ⌝ }
+    ensures { λ r. ⌜ r ≡ landing (cond (not zero) (jumped length next displacement) (done next)) ⌝ }
+{
+    match target_of(zero, length, next, displacement) {
+        Target::At(target) => gathering::work_of(gathering::PASS, 0, 0, 0, target),
+        Target::Refused(refusal) => gathering::refused(refusal),
+    }
+}
+
+// What remains of one, by the zero mark.
+pub(crate) fn looped(
+    integers: &[u32; 8],
+    zero: bool,
+    entry: u32,
+    instruction: Instruction,
+    length: usize,
+    next: usize,
+) -> Work
+    requires { ⌜ Registers (instruction .operand) × (Looping entry instruction × ((length ≤ longestCode) × (next ≤ length))) ⌝ }
+    ensures { λ r. ⌜ Loops r (now (integers .entry)) (effectIn entry instruction) (onwardBy length instruction zero next) ⌝ }
+{
+    let form = entry / FORM;
+    let register = (instruction.first % VALUES) as usize;
+    if form == DECREMENT {
+        return counted(integers, register, MINUS_ONE, next);
+    }
+    if form == ADD {
+        let operand = instruction.operand;
+        let addend = addresses::extended(BYTE_DISPLACEMENT, instruction.immediate);
+        return counted(integers, operand.rm as usize, addend, next);
+    }
+    if form == SET {
+        return gathering::work_of(
+            gathering::SET,
+            0,
+            register,
+            gathering::widened(instruction.immediate),
+            next,
+        );
+    }
+    jump(zero, length, next, instruction.immediate)
+}
+
+// The footprint of ADD and DEC: an integer register, and the zero mark.
+fn counting(register: u8) -> Footprint
+    requires { ⌜ register < 8 ⌝ }
+    ensures { λ r. ⌜ r ≡ countingFootprint register ⌝ }
+{
+    let mut writes = reaches::of_integer(register);
+    let reads = writes;
+    writes.zero = true;
+    Footprint {
+        reads: reads,
+        writes: writes,
+        kind: Kind::Loop,
+    }
+}
+
+// What one reads and writes; a jump that is taken and leads outside has no footprint.
+pub(crate) fn traced(
+    zero: bool,
+    entry: u32,
+    instruction: Instruction,
+    length: usize,
+    next: usize,
+) -> Tracing
+    requires { ⌜ Registers (instruction .operand) × (Looping entry instruction × ((length ≤ longestCode) × (next ≤ length))) ⌝ }
+    ensures { λ r. ⌜ paperOfFootprint r ≡ mapResult (λ position. loopFootprint (entry / 2 ^ 24) instruction) (onwardBy length instruction zero next) ⌝ }
+{
+    let form = entry / FORM;
+    let register = instruction.first % VALUES;
+    if form == SET {
+        return Tracing::Traced(Footprint {
+            reads: reaches::NOWHERE,
+            writes: reaches::of_integer(register),
+            kind: Kind::Loop,
+        });
+    }
+    if form == ADD {
+        let operand = instruction.operand;
+        return Tracing::Traced(counting(operand.rm));
+    }
+    if form == DECREMENT {
+        return Tracing::Traced(counting(register));
+    }
+    match target_of(zero, length, next, instruction.immediate) {
+        Target::At(_) => Tracing::Traced(Footprint {
+            reads: ZERO_MARK,
+            writes: reaches::NOWHERE,
+            kind: Kind::Loop,
+        }),
+        Target::Refused(refusal) => Tracing::Refused(refusal),
+    }
+}
