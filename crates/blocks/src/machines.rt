@@ -1,36 +1,33 @@
-// The machines that blocks, steps and footprints start from.
+// The machine that every case starts from.
 use machine::Machine;
 use manual::Marks;
 
-// Where nothing is said: MM0, and an address in EAX.
-pub(crate) const FIRST: u64 = 0xff;
+// The bits of the marks, as a page file has them.
+const EM: u8 = 1;
 
-pub(crate) const START: u32 = 0;
+const TS: u8 = 2;
 
-// A machine with numbers in MM0 and EAX and with EM and TS; MM1 is 2, ECX 128, ESP and EBP are 4, EDI 16.
-pub(crate) fn machine_with(first: u64, address: u32, em: bool, ts: bool) -> Machine {
-    Machine {
-        mmx: [first, 2, 3, 4, 5, 6, 7, 8],
-        integers: [address, 128, 0, 0, 4, 4, 0, 16],
-        marks: Marks {
-            valid: false,
-            em: em,
-            ts: ts,
-            pending: false,
-        },
+const PENDING: u8 = 4;
+
+const VALID: u8 = 8;
+
+const ZERO: u8 = 16;
+
+fn marks_of(bits: u8) -> Marks {
+    Marks {
+        valid: bits & VALID != 0,
+        zero: bits & ZERO != 0,
+        em: bits & EM != 0,
+        ts: bits & TS != 0,
+        pending: bits & PENDING != 0,
     }
 }
 
-// The same with every control mark, and a tag mark.
-pub(crate) fn stopped_machine(valid: bool) -> Machine {
+// A machine with numbers in MM0 and EAX and with marks; MM1 is 2, ECX 128, ESP and EBP are 4, EDI 16.
+pub(crate) fn machine_with(first: u64, eax: u32, bits: u8) -> Machine {
     Machine {
-        mmx: [FIRST, 2, 3, 4, 5, 6, 7, 8],
-        integers: [START, 128, 0, 0, 4, 4, 0, 16],
-        marks: Marks {
-            valid: valid,
-            em: true,
-            ts: true,
-            pending: true,
-        },
+        mmx: [first, 2, 3, 4, 5, 6, 7, 8],
+        integers: [eax, 128, 0, 0, 4, 4, 0, 16],
+        marks: marks_of(bits),
     }
 }

@@ -1,23 +1,38 @@
 // Blocks through `run`: the customer's example, the edges of documents 01 and 02; single steps; blocks and steps over a floor; footprints and
-// meetings; and then the block on standard input.
+// meetings; loops; and then the block on standard input.
+mod cases;
 mod floor_steps;
 mod floors;
 mod footprints;
+mod loop_steps;
+mod loops;
 mod machines;
 mod meetings;
 mod runs;
 mod steps;
+mod tables;
 mod texts;
 
+use cases::Form;
+use cases::Left;
 use libc::STDIN_FILENO;
-use machines::FIRST;
-use machines::START;
-use machines::machine_with;
-use runs::BUDGET;
-use runs::play;
 
 // The memory lent to the block on standard input.
 const MEMORY: usize = 256;
+
+fn standard_input() {
+    let mut space = io::buffer();
+    let size = io::read_full(STDIN_FILENO, &mut space);
+    let mut memory = [0u8; MEMORY];
+    texts::text(b"standard input: ");
+    cases::play(
+        Form::Run(Left::Picture),
+        tables::usual_given(),
+        &space[0..size],
+        &mut memory,
+    );
+    texts::text(b"\n");
+}
 
 fn main() {
     runs::all();
@@ -26,14 +41,7 @@ fn main() {
     floor_steps::all();
     footprints::all();
     meetings::all();
-    let mut space = io::buffer();
-    let size = io::read_full(STDIN_FILENO, &mut space);
-    let mut memory = [0u8; MEMORY];
-    play(
-        b"standard input: ",
-        machine_with(FIRST, START, false, false),
-        &space[0..size],
-        &mut memory,
-        BUDGET,
-    );
+    loops::all();
+    loop_steps::all();
+    standard_input();
 }

@@ -9,6 +9,8 @@ use machine::Tracing;
 
 const DIGITS: usize = 16;
 
+const DOUBLEWORD_DIGITS: usize = 8;
+
 // The bytes of a quadword.
 const QUADWORD: usize = 8;
 
@@ -20,7 +22,7 @@ pub(crate) fn decimal(number: u64) {
     io::print_decimal(STDOUT_FILENO, number);
 }
 
-pub(crate) fn hexadecimal(number: u64) {
+fn hexadecimal(number: u64) {
     io::print_hex(STDOUT_FILENO, number, DIGITS);
 }
 
@@ -53,19 +55,44 @@ fn first_bytes(memory: &[u8]) -> u64 {
     words::load(memory, 0, QUADWORD)
 }
 
-// What a run or a step leaves: MM0, the tag mark and the first bytes of the memory.
-pub(crate) fn show_left(left: Machine, memory: &[u8]) {
+// MM0 and the tag mark.
+fn show_first(machine: Machine) {
     text(b", mm0 ");
-    hexadecimal(left.mmx[0]);
-    show_tags(left.marks.valid);
+    hexadecimal(machine.mmx[0]);
+    show_tags(machine.marks.valid);
+}
+
+// The same with the first bytes of the memory.
+pub(crate) fn show_memory(machine: Machine, memory: &[u8]) {
+    show_first(machine);
     text(b", memory ");
     hexadecimal(first_bytes(memory));
-    text(b"\n");
+}
+
+fn show_integer(name: &[u8], value: u32) {
+    text(name);
+    io::print_hex(STDOUT_FILENO, value as u64, DOUBLEWORD_DIGITS);
+}
+
+fn show_zero(zero: bool) {
+    if zero {
+        text(b" zero 1");
+    } else {
+        text(b" zero 0");
+    }
+}
+
+// EAX, ECX, EDI, the zero mark, MM0 and the tag mark.
+pub(crate) fn show_counters(machine: Machine) {
+    show_integer(b", eax ", machine.integers[0]);
+    show_integer(b" ecx ", machine.integers[1]);
+    show_integer(b" edi ", machine.integers[7]);
+    show_zero(machine.marks.zero);
+    show_first(machine);
 }
 
 // What a step came to, and the position that it hands back.
-pub(crate) fn show_step(title: &[u8], answer: Taken, at: usize) {
-    text(title);
+pub(crate) fn show_step(answer: Taken, at: usize) {
     match answer {
         Taken::Completed => text(b"completed"),
         Taken::Refused(refusal) => show_refusal(refusal),
@@ -79,7 +106,7 @@ pub(crate) fn show_refusal(refusal: u8) {
     decimal(refusal as u64);
 }
 
-// Places: the masks of the registers, and the range of the bytes.
+// Places: the masks of the registers, the range of the bytes, and the zero mark where it is one.
 fn show_places(name: &[u8], places: Places) {
     text(name);
     decimal(places.mmx as u64);
@@ -89,6 +116,9 @@ fn show_places(name: &[u8], places: Places) {
     decimal(places.length as u64);
     text(b" bytes at ");
     decimal(places.start as u64);
+    if places.zero {
+        text(b" and zero");
+    }
 }
 
 fn show_footprint(footprint: Footprint) {
@@ -96,13 +126,11 @@ fn show_footprint(footprint: Footprint) {
     show_places(b", writes ", footprint.writes);
 }
 
-pub(crate) fn show_tracing(title: &[u8], tracing: Tracing) {
-    text(title);
+pub(crate) fn show_tracing(tracing: Tracing) {
     match tracing {
         Tracing::Traced(footprint) => show_footprint(footprint),
         Tracing::Refused(refusal) => show_refusal(refusal),
     }
-    text(b"\n");
 }
 
 pub(crate) fn show_meeting(meet: bool) {
