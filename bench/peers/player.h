@@ -14,7 +14,7 @@ enum {
     NOT_AVAILABLE = 8, IS_PENDING = 9, OUTSIDE_MEMORY = 10, MALFORMED = 13, DONE = 100, SPENT = 101
 };
 
-enum { EM = 1, TS = 2, PENDING = 4, VALID = 8 };
+enum { EM = 1, TS = 2, PENDING = 4, VALID = 8, ZERO = 16, MARKS = 32 };
 
 struct page {
     const uint8_t *code, *memory, *mmx, *integers, *marks;
@@ -28,7 +28,7 @@ struct machine {
     size_t memory_length, at;
     unsigned count;
     int barred; /* the refusal that the control marks ask for, or GOES_ON */
-    bool valid;
+    bool valid, zero; /* no instruction here changes the zero mark */
 };
 
 /* Performs the packed instruction with this second byte; a shift by an immediate comes as the shift by a register. */
@@ -170,6 +170,7 @@ static void start(struct machine *m, const struct page *page) {
     m->memory_length = page->memory_length;
     m->barred = marks & EM ? INVALID_OPCODE : marks & TS ? NOT_AVAILABLE : marks & PENDING ? IS_PENDING : GOES_ON;
     m->valid = marks & VALID;
+    m->zero = marks & ZERO;
 }
 
 /* The parts of a page file: fields with ascending tags, each of a length that its tag may have. A part that is absent is empty or zero. */
@@ -189,7 +190,7 @@ static int read_page(const uint8_t *file, size_t length, struct page *page) {
         case 2: page->memory = contents; page->memory_length = held; break;
         case 3: if (held != 64) return MALFORMED; page->mmx = contents; break;
         case 4: if (held != 32) return MALFORMED; page->integers = contents; break;
-        case 5: if (held != 1 || *contents > 15) return MALFORMED; page->marks = contents; break;
+        case 5: if (held != 1 || *contents >= MARKS) return MALFORMED; page->marks = contents; break;
         default: return MALFORMED;
         }
         last = tag;
@@ -206,7 +207,7 @@ static void print(const struct machine *m, int end) {
     printf(" %u at %zu\n", m->count, m->at);
     for (int k = 0; k < 8; k++) printf("mm%d %016llX\n", k, (unsigned long long)m->mmx[k]);
     for (int k = 0; k < 8; k++) printf("%s %08X\n", names[k], (unsigned)m->integers[k]);
-    printf("tags %s\nmemory %zu\n", m->valid ? "valid" : "empty", m->memory_length);
+    printf("tags %s\nzero %d\nmemory %zu\n", m->valid ? "valid" : "empty", m->zero, m->memory_length);
     for (size_t i = 0; i < m->memory_length; i++) printf("%02X%c", m->memory[i], i % 16 == 15 || i + 1 == m->memory_length ? '\n' : ' ');
 }
 
