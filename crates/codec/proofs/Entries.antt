@@ -4,9 +4,11 @@ use Rattle.basis.proofs.Names.{sym, ap, subst, _∙_, arith, needs, zero-add, a
 use Rattle.lanes.specs.Operations.{described, KEEP}
 use Rattle.codec.specs.Contents.{OneByte, loops}
 use Rattle.codec.specs.Opcodes.{formAt, operationAt, isOf, formOfFirst, formFor, escape}
-use Rattle.codec.specs.Table.{formOf, entryAt, listed, opcodeTable, formIn}
+use Rattle.codec.specs.Table.{formOf, entryAt, entryOfFirst, listed, opcodeTable, formIn}
+use Rattle.codec.specs.Finding.{entryFor}
 use Rattle.codec.specs.inner.Entries.{shiftOf, operationIn}
 use Rattle.codec.specs.Forms.{absent, memorySize}
+use Rattle.codec.specs.declared.Instruction.{Instruction}
 use Rattle.codec.specs.Reader.{byte}
 use Rattle.codec.specs.Reads.{formReader, secondReader, firstReader, instructionReader}
 use Rattle.codec.proofs.Bytes.{found-each, form-beyond}
@@ -135,3 +137,15 @@ module _ (first second : ℕ) where
 
   pub form-one : (n : ℕ) → (first ≡ escape → ⊥) → n ≡ formOfFirst first .number → formOf n ≡ formFor first second
   form-one n e h = ap formOf h ∙ first-form-is first ∙ simp (ne-eqb first escape e)
+
+-- the entry of a first byte has its form's number
+pub entry-numbered : (first : ℕ) → entryOfFirst first / 2 ^ 24 ≡ formOfFirst first .number
+entry-numbered first = omega arith
+
+-- So what is found of an instruction names its form.
+pub entry-form : (i : Instruction) → formOf (entryFor opcodeTable i / 2 ^ 24) ≡ formFor (i .first) (i .second)
+entry-form i = by (eqb (i .first) escape)
+  where
+    by : (t : Bool) → formOf (cond t (getD opcodeTable (i .second) 0) (entryOfFirst (i .first)) / 2 ^ 24) ≡ cond t (formAt (i .second)) (formOfFirst (i .first))
+    by true = form-is (i .second)
+    by false = ap formOf (entry-numbered (i .first)) ∙ first-form-is (i .first)

@@ -13,7 +13,7 @@ use Rattle.codec.specs.inner.Entries.{operationIn}
 use Rattle.codec.specs.declared.Instruction.{Instruction}
 use Rattle.codec.specs.declared.Kind.the-variants.{Loop}
 use Rattle.words.proofs.Laws.{and-both}
-use Rattle.codec.proofs.Entries.{agree, table-entry, form-is, operation-is}
+use Rattle.codec.proofs.Entries.{agree, table-entry, form-is, operation-is, first-form-is, entry-numbered}
 use Rattle.codec.proofs.Bytes.{found-each, form-beyond}
 use Rattle.manual.specs.Instructions.{effectBy, effectOf}
 use Rattle.machine.specs.inner.Works.{effectIn, owned, isListed, Listed}
@@ -73,21 +73,12 @@ table-effect i r = by (ltb (i .second) 256) refl
         ap (λ (f : Form). effectBy f (operationIn (getD opcodeTable (i .second) 0) (i .operand .reg)) i) (form-is (i .second) ∙ none)
         ∙ ap (λ (f : Form). effectBy f (operationAt (i .second) (i .operand .reg)) i) (sym none)
 
--- the number of another first byte has the form of that byte
-numbered : (first : ℕ) → entryOfFirst first / 2 ^ 24 ≡ formOfFirst first .number
-numbered first = omega arith
-
-form-numbered : (first : ℕ) → formOf (formOfFirst first .number) ≡ formOfFirst first
-unfolding formOfFirst
-form-numbered first =
-    found-each (λ x. x .form) absent (λ f. formOf (f .number) ≡ f) (λ x. isOf x first) refl loops (λ h. refl, (λ h. refl, (λ h. refl, (λ h. refl, tt))))
-
--- and its effect, for which no operation counts
+-- so has the number of another first byte, for which no operation counts
 first-effect : (i : Instruction) → effectIn (entryOfFirst (i .first)) i ≡ effectBy (formOfFirst (i .first)) KEEP i
 unfolding formOfFirst
 first-effect i =
     let entry = entryOfFirst (i .first) in
-    ap (λ (f : Form). effectBy f (operationIn entry (i .operand .reg)) i) (ap formOf (numbered (i .first)) ∙ form-numbered (i .first))
+    ap (λ (f : Form). effectBy f (operationIn entry (i .operand .reg)) i) (ap formOf (entry-numbered (i .first)) ∙ first-form-is (i .first))
     ∙ any (operationIn entry (i .operand .reg)) KEEP
   where
     any : (o p : Operation) → effectBy (formOfFirst (i .first)) o i ≡ effectBy (formOfFirst (i .first)) p i
@@ -109,9 +100,9 @@ pub entry-looping : (i : Instruction) → isAbsent (formOfFirst (i .first)) ≡ 
 unfolding formOfFirst
 entry-looping i there =
     record {
-      least = subst (λ (n : ℕ). 10 ≤ n) (sym (numbered (i .first))) (among .0);
-      most = subst (λ (n : ℕ). n ≤ 13) (sym (numbered (i .first))) (among .1);
-      jumps = jumping (eqb (i .first) jumpIfNotZero) refl ∙ ap (λ (n : ℕ). eqb n 13) (sym (numbered (i .first)));
+      least = subst (λ (n : ℕ). 10 ≤ n) (sym (entry-numbered (i .first))) (among .0);
+      most = subst (λ (n : ℕ). n ≤ 13) (sym (entry-numbered (i .first))) (among .1);
+      jumps = jumping (eqb (i .first) jumpIfNotZero) refl ∙ ap (λ (n : ℕ). eqb n 13) (sym (entry-numbered (i .first)));
     }
   where
     among : (10 ≤ formOfFirst (i .first) .number) × (formOfFirst (i .first) .number ≤ 13)
