@@ -153,7 +153,7 @@ impl Machine {
                 found.next,
             );
         }
-        let bar = gathering::barred(self.marks);
+        let bar = works::barred(self.marks);
         let stop = gathering::stopping(bar, found.entry);
         if stop != 0 {
             return Tracing::Refused(stop);

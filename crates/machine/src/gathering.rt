@@ -4,9 +4,6 @@ use crate::operands;
 use crate::operands::Spot;
 use crate::picking;
 use crate::quick;
-use crate::refusals::INVALID_OPCODE;
-use crate::refusals::IS_PENDING;
-use crate::refusals::NOT_AVAILABLE;
 use crate::shifts;
 use crate::ways;
 use crate::ways::Way;
@@ -17,7 +14,15 @@ use codec::forms::LANE;
 use codec::forms::PART;
 use codec::prefixes::ESCAPE;
 use lanes::MOVE;
-use manual::Marks;
+use works::EMPTY;
+use works::OPERATE;
+use works::PASS;
+use works::REFUSE;
+use works::STORE;
+use works::TO_INTEGER;
+use works::Work;
+use works::refused;
+use works::work_of;
 ghost use Rattle.basis.specs.Names.{_≡_, true, _/_, _%_, _^_, _≤_, length, getD};
 ghost use Rattle.reorder.specs.Result.{done};
 ghost use Rattle.codec.specs.inner.Fields.{Registers};
@@ -28,83 +33,9 @@ ghost use Rattle.machine.specs.inner.Picks.{pickedWork};
 ghost use Rattle.machine.specs.inner.Quick.{Opened};
 ghost use Rattle.machine.specs.inner.Spots.{otherOf, spotOf};
 ghost use Rattle.machine.specs.inner.Ways.{hasOther, wayOf};
-ghost use Rattle.machine.specs.inner.Works.{barredBy, stoppingBy, effectIn, Listed, workOf, refusedWork, putWork, takeWork, Does, Gathered};
-
-// The bytes of a doubleword and of a quadword.
-pub(crate) const DOUBLEWORD: u8 = 4;
-
-pub(crate) const QUADWORD: u8 = 8;
-
-// How many values a doubleword has.
-pub(crate) const DOUBLEWORD_RANGE: u64 = 0x100000000;
-
-// What remains of an instruction: what to do, with a number (the operation, the bytes to store, or the refusal), a place (the register, or the address)
-// and a value, and the position after it.
-pub(crate) struct Work {
-    pub(crate) what: u8,
-    pub(crate) number: u8,
-    pub(crate) place: usize,
-    pub(crate) value: u64,
-    pub(crate) next: usize,
-}
-
-// The operation of that number on the MMX register of that place, with the value as its source.
-pub(crate) const OPERATE: u8 = 0;
-
-// So many bytes of the value to that address.
-pub(crate) const STORE: u8 = 1;
-
-// The value's low half to the integer register of that place.
-pub(crate) const TO_INTEGER: u8 = 2;
-
-// The tag mark empty.
-pub(crate) const EMPTY: u8 = 3;
-
-// Nothing, and it completes.
-pub(crate) const PASS: u8 = 4;
-
-// The value's low half to the integer register of that place; the tag mark stays.
-pub(crate) const SET: u8 = 5;
-
-// The same, and the zero mark says whether it is 0.
-pub(crate) const COUNT: u8 = 6;
-
-// Nothing: the refusal of that number.
-const REFUSE: u8 = 7;
-
-pub(crate) fn work_of(what: u8, number: u8, place: usize, value: u64, next: usize) -> Work
-    ensures { λ r. ⌜ r ≡ workOf what number place value next ⌝ }
-{
-    Work {
-        what: what,
-        number: number,
-        place: place,
-        value: value,
-        next: next,
-    }
-}
-
-pub(crate) fn refused(refusal: u8) -> Work
-    ensures { λ r. ⌜ r ≡ refusedWork refusal ⌝ }
-{
-    work_of(REFUSE, refusal, 0, 0, 0)
-}
-
-// The refusal of the control marks, EM before TS before pending, or 0.
-pub(crate) fn barred(marks: Marks) -> u8
-    ensures { λ r. ⌜ r ≡ barredBy marks ⌝ }
-{
-    if marks.em {
-        return INVALID_OPCODE;
-    }
-    if marks.ts {
-        return NOT_AVAILABLE;
-    }
-    if marks.pending {
-        return IS_PENDING;
-    }
-    0
-}
+ghost use Rattle.works.specs.Bars.{barredBy};
+ghost use Rattle.works.specs.Works.{workOf, refusedWork};
+ghost use Rattle.machine.specs.inner.Works.{stoppingBy, effectIn, Listed, putWork, takeWork, Does, Gathered};
 
 // The refusal of the control marks, or 0, where they stop the form of an entry; else 0.
 pub(crate) fn stopping(bar: u8, entry: u32) -> u8

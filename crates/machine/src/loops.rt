@@ -4,7 +4,6 @@ use crate::Places;
 use crate::Tracing;
 use crate::addresses;
 use crate::gathering;
-use crate::gathering::Work;
 use crate::reaches;
 use crate::refusals::JUMPS_OUTSIDE;
 use codec::Instruction;
@@ -15,6 +14,10 @@ use codec::forms::DECREMENT;
 use codec::forms::FORM;
 use codec::forms::SET;
 use codec::modes::BYTE_DISPLACEMENT;
+use works::COUNT;
+use works::PASS;
+use works::Work;
+use works::work_of;
 ghost use Rattle.basis.specs.Names.{_≡_, not, cond, _+_, _/_, _%_, _^_, _≤_, _<_, getD};
 ghost use Rattle.reorder.specs.Result.{done, mapResult};
 ghost use Rattle.codec.specs.inner.Fields.{Registers};
@@ -22,7 +25,8 @@ ghost use Rattle.codec.specs.Reads.{longestCode};
 ghost use Rattle.manual.specs.Jumps.{jumped};
 ghost use Rattle.machine.specs.Footprints.{paperOfFootprint};
 ghost use Rattle.machine.specs.inner.Loops.{Looping, onwardBy, paperOfTarget, targetWithin, landing, Loops, countingFootprint, loopFootprint};
-ghost use Rattle.machine.specs.inner.Works.{toCount, workOf, effectIn};
+ghost use Rattle.works.specs.Works.{toCount, workOf};
+ghost use Rattle.machine.specs.inner.Works.{effectIn};
 
 // What minus 1 is in 32 bits.
 const MINUS_ONE: u32 = 0xffffffff;
@@ -82,7 +86,7 @@ fn counted(integers: &[u32; 8], register: usize, addend: u32, next: usize) -> Wo
     ensures { λ r. ⌜ r ≡ workOf toCount 0 register ((getD (now (integers .entry)) register 0 + addend) % 2 ^ 32) next ⌝ }
 {
     let sum = std::num::wrapping_add_u32(integers[register], addend);
-    gathering::work_of(gathering::COUNT, 0, register, gathering::widened(sum), next)
+    work_of(COUNT, 0, register, gathering::widened(sum), next)
 }
 
 // A jump: nothing remains but to go on at its target.
@@ -91,8 +95,8 @@ fn jump(zero: bool, length: usize, next: usize, displacement: u32) -> Work
     ensures { λ r. ⌜ r ≡ landing (cond (not zero) (jumped length next displacement) (done next)) ⌝ }
 {
     match target_of(zero, length, next, displacement) {
-        Target::At(target) => gathering::work_of(gathering::PASS, 0, 0, 0, target),
-        Target::Refused(refusal) => gathering::refused(refusal),
+        Target::At(target) => work_of(PASS, 0, 0, 0, target),
+        Target::Refused(refusal) => works::refused(refusal),
     }
 }
 
@@ -119,8 +123,8 @@ pub(crate) fn looped(
         return counted(integers, operand.rm as usize, addend, next);
     }
     if form == SET {
-        return gathering::work_of(
-            gathering::SET,
+        return work_of(
+            works::SET,
             0,
             register,
             gathering::widened(instruction.immediate),

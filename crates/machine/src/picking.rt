@@ -1,8 +1,5 @@
 // The work of the instructions that pick lanes: PINSRW, PSHUFW, PEXTRW, PMOVMSKB and MASKMOVQ. What they leave is computed when the work is made.
 use crate::addresses;
-use crate::gathering;
-use crate::gathering::QUADWORD;
-use crate::gathering::Work;
 use crate::operands;
 use crate::operands::AT_EDI;
 use crate::refusals::OUTSIDE_MEMORY;
@@ -11,6 +8,13 @@ use codec::forms::EXTRACT;
 use codec::forms::FORM;
 use codec::forms::INSERT;
 use lanes::MOVE;
+use works::OPERATE;
+use works::QUADWORD;
+use works::STORE;
+use works::TO_INTEGER;
+use works::Work;
+use works::refused;
+use works::work_of;
 ghost use Rattle.basis.specs.Names.{_≡_, _/_, _^_, getD};
 ghost use Rattle.codec.specs.inner.Fields.{Registers};
 ghost use Rattle.machine.specs.inner.Picks.{pickedOf, pickedWork, extractedOf, extractWork, maskWork};
@@ -30,11 +34,11 @@ pub(crate) fn picked(entry: u32, old: u64, immediate: u32, work: Work) -> Work
     ensures { λ r. ⌜ r ≡ pickedWork (entry / 2 ^ 24) old immediate work ⌝ }
 {
     let what = work.what;
-    if what != gathering::OPERATE {
+    if what != OPERATE {
         return work;
     }
-    gathering::work_of(
-        gathering::OPERATE,
+    work_of(
+        OPERATE,
         MOVE,
         work.place,
         picked_of(entry, old, work.value, immediate),
@@ -56,8 +60,8 @@ fn extracted_of(entry: u32, value: u64, immediate: u32) -> u64
 pub(crate) fn extracted(entry: u32, value: u64, immediate: u32, register: u8, next: usize) -> Work
     ensures { λ r. ⌜ r ≡ extractWork (entry / 2 ^ 24) value immediate register next ⌝ }
 {
-    gathering::work_of(
-        gathering::TO_INTEGER,
+    work_of(
+        TO_INTEGER,
         0,
         register as usize,
         extracted_of(entry, value, immediate),
@@ -80,7 +84,7 @@ pub(crate) fn masked(
     if operands::is_inside(memory.len(), address, QUADWORD as usize) {
         let old = words::load(memory, address, QUADWORD as usize);
         let blended = lanes::blend(old, mmx[operand.reg as usize], mmx[operand.rm as usize]);
-        return gathering::work_of(gathering::STORE, QUADWORD, address, blended, next);
+        return work_of(STORE, QUADWORD, address, blended, next);
     }
-    gathering::refused(OUTSIDE_MEMORY)
+    refused(OUTSIDE_MEMORY)
 }

@@ -1,9 +1,6 @@
 // Instructions read and gathered at once. One that is to be refused has no answer here, nor have the odd forms of manual 000 and EMMS as the code's last
 // two bytes: they are left to the reader.
 use crate::gathering;
-use crate::gathering::DOUBLEWORD;
-use crate::gathering::QUADWORD;
-use crate::gathering::Work;
 use crate::operands;
 use crate::pointers;
 use crate::shifts;
@@ -28,6 +25,14 @@ use codec::forms::TWO_OPERANDS;
 use codec::modes::REGISTER;
 use codec::prefixes::ESCAPE;
 use lanes::MOVE;
+use works::DOUBLEWORD;
+use works::EMPTY;
+use works::OPERATE;
+use works::QUADWORD;
+use works::STORE;
+use works::TO_INTEGER;
+use works::Work;
+use works::work_of;
 ghost use Rattle.basis.specs.Names.{_≡_, _/_, _%_, _^_, _≤_, _<_, length, getD};
 ghost use Rattle.words.specs.Buffer.{loaded};
 ghost use Rattle.codec.specs.Forms.{isAmong};
@@ -35,7 +40,7 @@ ghost use Rattle.codec.specs.Table.{formOf};
 ghost use Rattle.codec.specs.Finding.{findWith};
 ghost use Rattle.machine.specs.inner.Pointers.{Unless};
 ghost use Rattle.machine.specs.inner.Quick.{Opened, Quick, QuickAfter, QuickAnywhere, QuickAnyhow, Within, AtAddress};
-ghost use Rattle.machine.specs.inner.Works.{toOperate, toStore, toEmpty, toRefuse, workOf, refusedWork};
+ghost use Rattle.works.specs.Works.{toOperate, toStore, toEmpty, toRefuse, workOf, refusedWork};
 
 // The bytes before the ModRM byte, and with it.
 const OPCODE: usize = 2;
@@ -54,7 +59,7 @@ const FROM_MMX: u32 = FORM * LOAD_Q;
 fn none() -> Work
     ensures { λ r. ⌜ r ≡ refusedWork 0 ⌝ }
 {
-    gathering::refused(0)
+    works::refused(0)
 }
 
 // An operation on a register with so many bytes of memory.
@@ -63,13 +68,7 @@ fn load(entry: u32, register: usize, address: usize, size: u8, next: usize, memo
 {
     if operands::is_inside(memory.len(), address, size as usize) {
         let value = words::load(memory, address, size as usize);
-        return gathering::work_of(
-            gathering::OPERATE,
-            (entry % PART) as u8,
-            register,
-            value,
-            next,
-        );
+        return work_of(OPERATE, (entry % PART) as u8, register, value, next);
     }
     none()
 }
@@ -87,7 +86,7 @@ fn store(
     ensures { λ r. ⌜ Unless (r .what ≡ toRefuse) (Within r (workOf toStore size address (getD (now (mmx .entry)) register 0) next) address size room) ⌝ }
 {
     if operands::is_inside(room, address, size as usize) {
-        return gathering::work_of(gathering::STORE, size, address, mmx[register], next);
+        return work_of(STORE, size, address, mmx[register], next);
     }
     none()
 }
@@ -126,7 +125,7 @@ fn alone(entry: u32, at: usize) -> Work
     ensures { λ r. ⌜ Unless (r .what ≡ toRefuse) ((entry / 2 ^ 24 ≡ 1) × (r ≡ workOf toEmpty 0 0 0 at)) ⌝ }
 {
     if entry / FORM == EMMS {
-        return gathering::work_of(gathering::EMPTY, 0, 0, 0, at);
+        return work_of(EMPTY, 0, 0, 0, at);
     }
     none()
 }
@@ -152,13 +151,7 @@ fn has_digit(form: u32, digit: u8) -> bool
 fn shift(number: u8, register: u8, immediate: u8, next: usize) -> Work
     ensures { λ r. ⌜ r ≡ workOf toOperate number register immediate next ⌝ }
 {
-    gathering::work_of(
-        gathering::OPERATE,
-        number,
-        register as usize,
-        immediate as u64,
-        next,
-    )
+    work_of(OPERATE, number, register as usize, immediate as u64, next)
 }
 
 // A shift by an immediate of the register that rm names, or EMMS; no other form.
@@ -193,14 +186,14 @@ fn moved(mmx: &[u64; 8], integers: &[u32; 8], entry: u32, modrm: u8, code: &[u8]
     let other = (modrm % VALUES) as usize;
     let form = entry / FORM;
     if form == STORE_Q {
-        return gathering::work_of(gathering::OPERATE, MOVE, other, mmx[register], at + 1);
+        return work_of(OPERATE, MOVE, other, mmx[register], at + 1);
     }
     if form == STORE_D {
-        return gathering::work_of(gathering::TO_INTEGER, 0, other, mmx[register], at + 1);
+        return work_of(TO_INTEGER, 0, other, mmx[register], at + 1);
     }
     if form == LOAD_D {
-        return gathering::work_of(
-            gathering::OPERATE,
+        return work_of(
+            OPERATE,
             (entry % PART) as u8,
             register,
             gathering::widened(integers[other]),
@@ -223,8 +216,8 @@ fn in_registers(
     ensures { λ r. ⌜ Unless (r .what ≡ toRefuse) (QuickAnywhere r (now (mmx .entry)) (now (integers .entry)) entry (now (code .entry)) at) ⌝ }
 {
     if FROM_MMX <= entry {
-        return gathering::work_of(
-            gathering::OPERATE,
+        return work_of(
+            OPERATE,
             (entry % PART) as u8,
             (modrm / MIDDLE % VALUES) as usize,
             mmx[(modrm % VALUES) as usize],

@@ -5,12 +5,6 @@ pub const LONGEST_MEMORY: usize = 32768;
 
 pub const MEMORY_TOO_LONG: u8 = 1;
 
-pub(crate) const INVALID_OPCODE: u8 = 7;
-
-pub(crate) const NOT_AVAILABLE: u8 = 8;
-
-pub(crate) const IS_PENDING: u8 = 9;
-
 pub(crate) const OUTSIDE_MEMORY: u8 = 10;
 
 pub(crate) const OUTSIDE_BY_STACK: u8 = 14;
@@ -18,5 +12,3 @@ pub(crate) const OUTSIDE_BY_STACK: u8 = 14;
 pub(crate) const JUMPS_OUTSIDE: u8 = 19;
 
 pub(crate) const FLOOR_TOO_HIGH: u8 = 20;
-
-pub(crate) const BELOW_FLOOR: u8 = 21;

@@ -5,7 +5,6 @@ use crate::Machine;
 use crate::Ran;
 use crate::Stepped;
 use crate::Taken;
-use crate::gathering;
 use crate::quick;
 use crate::refusals::FLOOR_TOO_HIGH;
 use crate::refusals::LONGEST_MEMORY;
@@ -42,7 +41,7 @@ impl Machine {
         let mut mmx = self.mmx;
         let mut integers = self.integers;
         let mut marks = self.marks;
-        let bar = gathering::barred(marks);
+        let bar = works::barred(marks);
         let quick = quick::quick_table(bar);
         let mut at = start;
         let mut remaining = budget;

@@ -7,10 +7,11 @@ use Rattle.manual.specs.Refusals.{jumpsOutside}
 use Rattle.manual.specs.Effects.{Effect}
 use Rattle.manual.specs.Jumps.{isJump, jumped}
 use Rattle.machine.specs.declared.Footprint.{Footprint}
-use Rattle.machine.specs.declared.gathering.Work.{Work}
+use Rattle.works.specs.declared.Work.{Work}
 use Rattle.machine.specs.declared.loops.Target.{Target}
 use Rattle.machine.specs.declared.loops.Target.the-variants.{At, Refused}
-use Rattle.machine.specs.inner.Works.{toPass, workOf, refusedWork, Does}
+use Rattle.works.specs.Works.{toPass, workOf, refusedWork}
+use Rattle.machine.specs.inner.Works.{Does}
 use Rattle.machine.specs.inner.Reaches.{nowhere, integerAlone}
 
 -- an entry is that of an instruction of loops, and tells whether it is the jump

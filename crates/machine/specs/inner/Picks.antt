@@ -5,8 +5,8 @@ use Rattle.words.specs.Buffer.{loaded}
 use Rattle.manual.specs.Refusals.{outsideMemory}
 use Rattle.manual.specs.Addresses.{address}
 use Rattle.manual.specs.Locations.{atEdi, liesInside}
-use Rattle.machine.specs.declared.gathering.Work.{Work}
-use Rattle.machine.specs.inner.Works.{toOperate, toStore, toInteger, workOf, refusedWork}
+use Rattle.works.specs.declared.Work.{Work}
+use Rattle.works.specs.Works.{toOperate, toStore, toInteger, workOf, refusedWork}
 
 -- what PINSRW, by its form's number, or else PSHUFW leaves of the old register, the operand's number and the immediate
 abbrev pub pickedOf : ℕ → ℕ → ℕ → ℕ → ℕ

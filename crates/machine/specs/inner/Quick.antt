@@ -7,7 +7,7 @@ use Rattle.codec.specs.Reader.{reads}
 use Rattle.codec.specs.Reads.{formReader}
 use Rattle.codec.specs.Finding.{found}
 use Rattle.codec.specs.declared.Found.{Found}
-use Rattle.machine.specs.declared.gathering.Work.{Work}
+use Rattle.works.specs.declared.Work.{Work}
 use Rattle.machine.specs.declared.operands.Spot.{Spot}
 use Rattle.machine.specs.declared.operands.Spot.the-variants.{Bytes}
 use Rattle.machine.specs.inner.Ways.{isStore}

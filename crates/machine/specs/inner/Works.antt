@@ -11,7 +11,7 @@ use Rattle.codec.specs.inner.Entries.{operationIn}
 use Rattle.codec.specs.declared.Instruction.{Instruction}
 use Rattle.codec.specs.declared.Kind.the-variants.{Ordinary, Emms}
 use Rattle.manual.specs.declared.Marks.{Marks}
-use Rattle.manual.specs.Refusals.{invalidOpcode, notAvailable, isPending, belowFloor}
+use Rattle.manual.specs.Refusals.{belowFloor}
 use Rattle.manual.specs.State.{State, withMemory}
 use Rattle.manual.specs.Places.{mmx, integer, zeroMark, look, put}
 use Rattle.manual.specs.Kinds.{marked}
@@ -19,11 +19,13 @@ use Rattle.manual.specs.Effects.{Effect}
 use Rattle.manual.specs.inner.Unmarked.{directly}
 use Rattle.manual.specs.Instructions.{isLoop, effectBy}
 use Rattle.manual.specs.Steps.{concluded, Outcome, completed, refusedWith, stepAt}
+use Rattle.works.specs.declared.Work.{Work}
+use Rattle.works.specs.declared.performing.Moved.{Moved}
+use Rattle.works.specs.Bars.{barredBy}
+use Rattle.works.specs.Works.{toOperate, toStore, toInteger, toEmpty, toPass, toSet, toCount, workOf, refusedWork, Left, left}
 use Rattle.machine.specs.declared.Machine.{Machine}
-use Rattle.machine.specs.declared.gathering.Work.{Work}
 use Rattle.machine.specs.declared.operands.Spot.{Spot}
 use Rattle.machine.specs.declared.operands.Spot.the-variants.{Mmx, Integer, Bytes, Refused}
-use Rattle.machine.specs.declared.stepping.Moved.{Moved}
 use Rattle.machine.specs.State.{stateOf}
 use Rattle.machine.specs.inner.Ways.{isUnstopped}
 
@@ -34,10 +36,6 @@ machineOf registers integers marks = record { mmx = registers; integers = intege
 -- the marks with another tag mark and another zero mark
 abbrev pub renewed : Marks → Bool → Bool → Marks
 renewed marks valid zero = record { valid = valid; zero = zero; em = marks .em; ts = marks .ts; pending = marks .pending }
-
--- the refusal of the control marks, or 0
-unfoldable pub barredBy : Marks → ℕ
-barredBy marks = cond (marks .em) invalidOpcode (cond (marks .ts) notAvailable (cond (marks .pending) isPending 0))
 
 -- the same, where they stop the form of this number; else 0
 abbrev pub stoppingBy : ℕ → ℕ → ℕ
@@ -75,39 +73,6 @@ pub record Listed (entry : ℕ) : Type 0 where
   pub present : entry / 2 ^ 24 ≡ 0 → ⊥
   pub sized : entry / 2 ^ 16 % 256 ≡ memorySize (formOf (entry / 2 ^ 24))
   pub owns : (k : ℕ) → owned (entry / 2 ^ 24) ≡ some k → entry % 256 ≡ k
-
--- what remains to be done, by the code's numbers
-abbrev pub toOperate : ℕ
-toOperate = 0
-
-abbrev pub toStore : ℕ
-toStore = 1
-
-abbrev pub toInteger : ℕ
-toInteger = 2
-
-abbrev pub toEmpty : ℕ
-toEmpty = 3
-
-abbrev pub toPass : ℕ
-toPass = 4
-
-abbrev pub toSet : ℕ
-toSet = 5
-
-abbrev pub toCount : ℕ
-toCount = 6
-
-abbrev pub toRefuse : ℕ
-toRefuse = 7
-
--- the works that the code makes
-
-abbrev pub workOf : ℕ → ℕ → ℕ → ℕ → ℕ → Work
-workOf what number place value next = record { what = what; number = number; place = place; value = value; next = next }
-
-abbrev pub refusedWork : ℕ → Work
-refusedWork refusal = workOf toRefuse refusal 0 0 0
 
 -- a value is put where an operand is
 abbrev pub putWork : Spot → ℕ → ℕ → Work
@@ -158,11 +123,15 @@ pub record Gathered (work : Work) (registers integers : List ℕ) (bar : ℕ) (z
   pub sound : Sound work
   pub steps : (floor : ℕ) → floor ≤ length memory → (marks : Marks) → bar ≡ barredBy marks → zero ≡ marks .zero → let s = stateOf (machineOf registers integers marks) memory in performed floor work at s ≡ stepAt floor code at s
 
+-- what a step has left, as an outcome with these marks
+abbrev pub outcomeOf : Marks → Left → Outcome
+outcomeOf marks x =
+    cond (eqb (x .moved .refusal) 0)
+    (completed (x .moved .next) (stateOf (machineOf (x .mmx) (x .integers) (renewed marks (x .moved .valid) (x .moved .zero))) (x .memory)))
+    (refusedWith (x .moved .refusal) (x .moved .next) (stateOf (machineOf (x .mmx) (x .integers) marks) (x .memory)))
+
 -- a step that ended so, with what is then in the lent registers and memory, is the step over a floor at a position of the code, for all marks whose
 -- refusal is `bar`, whose tag mark is `valid` and whose zero mark is `zero`
 pub record Advanced (moved : Moved) (registers integers : List ℕ) (bar : ℕ) (valid zero : Bool) (code : List ℕ) (at : ℕ) (memory : List ℕ) (floor : ℕ) (registers′ integers′ memory′ : List ℕ) : Type 0 where
   pub ends : (marks : Marks) → bar ≡ barredBy marks → valid ≡ marks .valid → zero ≡ marks .zero
-      → cond (eqb (moved .refusal) 0)
-      (completed (moved .next) (stateOf (machineOf registers′ integers′ (renewed marks (moved .valid) (moved .zero))) memory′))
-      (refusedWith (moved .refusal) (moved .next) (stateOf (machineOf registers′ integers′ marks) memory′))
-      ≡ stepAt floor code at (stateOf (machineOf registers integers marks) memory)
+      → outcomeOf marks (left moved registers′ integers′ memory′) ≡ stepAt floor code at (stateOf (machineOf registers integers marks) memory)

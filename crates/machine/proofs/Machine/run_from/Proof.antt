@@ -2,7 +2,8 @@
 use Rattle.basis.specs.Names.{_≡_, refl, _-_, _≤_, length}
 use Rattle.basis.proofs.Names.{needs}
 use Rattle.machine.specs.State.{stateOf}
-use Rattle.machine.specs.inner.Works.{machineOf, barredBy}
+use Rattle.works.specs.Bars.{barredBy}
+use Rattle.machine.specs.inner.Works.{machineOf}
 use Rattle.machine.specs.inner.Runs.{remaining}
 use Rattle.machine.proofs.laws.running.Budgets.{run-refused, turning}
 use Rattle.machine.proofs.Machine.run_from.Statement.{statement}

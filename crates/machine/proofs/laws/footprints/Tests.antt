@@ -35,7 +35,8 @@ use Rattle.machine.specs.declared.Tracing.{Tracing}
 use Rattle.machine.specs.State.{stateOf}
 use Rattle.machine.specs.Footprints.{masked, maskedAt, paperOfFootprint}
 use Rattle.machine.specs.inner.Reaches.{unmarkedFootprint}
-use Rattle.machine.specs.inner.Works.{barredBy, stoppingBy, effectIn}
+use Rattle.works.specs.Bars.{barredBy}
+use Rattle.machine.specs.inner.Works.{stoppingBy, effectIn}
 use Rattle.machine.specs.inner.Loops.{onwardBy, loopFootprint}
 use Rattle.machine.proofs.laws.gathering.Fetching.{names-registers, is-listed, is-looping, effect-found, kind-found, found-within}
 use Rattle.machine.proofs.laws.loops.Looping.{loop-footprint}

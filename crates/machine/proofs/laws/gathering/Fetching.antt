@@ -30,9 +30,11 @@ use Rattle.manual.specs.Runs.{read}
 use Rattle.manual.proofs.Jumps.{no-jump}
 use Rattle.manual.proofs.Turns.{within-limits, instruction-here}
 use Rattle.manual.proofs.Direct.{marks-first}
-use Rattle.machine.specs.declared.gathering.Work.{Work}
+use Rattle.works.specs.declared.Work.{Work}
 use Rattle.machine.specs.State.{stateOf}
-use Rattle.machine.specs.inner.Works.{machineOf, barredBy, stoppingBy, effectIn, Listed, performed, Does, Gathered, refusedWork}
+use Rattle.works.specs.Bars.{barredBy}
+use Rattle.works.specs.Works.{refusedWork}
+use Rattle.machine.specs.inner.Works.{machineOf, stoppingBy, effectIn, Listed, performed, Does, Gathered}
 use Rattle.machine.specs.inner.Loops.{Looping, onwardBy, Loops}
 use Rattle.machine.proofs.laws.gathering.Listing.{entry-listed, entry-looping, effect-is, loop-kind}
 use Rattle.machine.proofs.laws.gathering.Soundness.{sound-refusal}

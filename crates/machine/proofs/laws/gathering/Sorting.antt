@@ -25,7 +25,7 @@ use Rattle.manual.specs.Instructions.{keptBy, effectBy}
 use Rattle.manual.specs.Steps.{completed, refusedWith, concluded}
 use Rattle.manual.proofs.Floors.{past-test, writable-bytes}
 use Rattle.manual.proofs.Direct.{valueAt, putAt, move-direct, both-direct, three-direct}
-use Rattle.machine.specs.declared.gathering.Work.{Work}
+use Rattle.works.specs.declared.Work.{Work}
 use Rattle.machine.specs.declared.operands.Spot.{Spot}
 use Rattle.machine.specs.declared.ways.Way.{Way}
 use Rattle.machine.specs.declared.ways.Way.the-variants.{Empties, Passes, Shifts, Extracts, Stores, Loads, Computes, Inserts, Shuffles, Masks}
@@ -33,7 +33,8 @@ use Rattle.machine.specs.State.{stateOf}
 use Rattle.machine.specs.inner.Spots.{fileIn, otherOf, spotOf, Named}
 use Rattle.machine.specs.inner.Ways.{wayOf, hasOther}
 use Rattle.machine.specs.inner.Picks.{pickedOf, pickedWork, extractedOf, extractWork, maskWork}
-use Rattle.machine.specs.inner.Works.{machineOf, effectIn, owned, Listed, toOperate, toEmpty, toPass, workOf, putWork, takeWork, performed, Sound, Does}
+use Rattle.works.specs.Works.{toOperate, toEmpty, toPass, workOf}
+use Rattle.machine.specs.inner.Works.{machineOf, effectIn, owned, Listed, putWork, takeWork, performed, Sound, Does}
 use Rattle.machine.proofs.laws.gathering.Soundness.{sound-operation, sound-empties, sound-passes, sound-integer, sound-put, sound-take, sound-picked, sound-mask}
 use Rattle.machine.proofs.laws.operands.Locating.{by-place, spot-named, register-mmx, register-integer}
 use Rattle.machine.proofs.laws.ways.Numbering.{Other, Moves, HasWay, empties, passes-fence, passes-prefetch, shifts-WD, shifts-Q, extracts-word, extracts-bits, inserts, shuffles, masks, streams, stores, loads, computes, goes, other, two-operands}

@@ -10,7 +10,8 @@ use Rattle.machine.specs.declared.operands.Spot.{Spot}
 use Rattle.machine.specs.declared.operands.Spot.the-variants.{Mmx, Integer, Bytes, Refused}
 use Rattle.machine.specs.inner.Spots.{Named}
 use Rattle.machine.specs.inner.Picks.{pickedOf, pickedWork, maskWork}
-use Rattle.machine.specs.inner.Works.{toOperate, toStore, toInteger, toEmpty, toPass, toSet, toCount, workOf, refusedWork, putWork, takeWork, Sound}
+use Rattle.works.specs.Works.{toOperate, toStore, toInteger, toEmpty, toPass, toSet, toCount, workOf, refusedWork}
+use Rattle.machine.specs.inner.Works.{putWork, takeWork, Sound}
 
 pub sound-operation : (number place value next : ℕ) → place < 8 → Sound (workOf toOperate number place value next)
 sound-operation number place value next h =

@@ -1,4 +1,4 @@
--- The tests before an instruction's work: the control marks in their order, where they stop it, and the bytes of an operand below the memory's length.
+-- The tests before an instruction's work: the control marks, where they stop it, and the bytes of an operand below the memory's length.
 use Rattle.basis.specs.Names.{_≡_, refl, Bool, true, false, not, _||_, cond, ℕ, _+_, _-_, _≤_, _<_, eqb, leb}
 use Rattle.basis.proofs.Names.{sym, ap, _∙_, false≢true, arith, needs, ne-eqb, eqb-true, le-leb, lt-leb, leb-true, leb-false}
 use Rattle.words.proofs.Laws.{and-both}
@@ -11,29 +11,13 @@ use Rattle.codec.proofs.Bytes.{found-has}
 use Rattle.codec.proofs.FormNumbers.{in-range}
 use Rattle.manual.specs.declared.Marks.{Marks}
 use Rattle.manual.specs.Kinds.{heeded}
-use Rattle.manual.specs.Refusals.{invalidOpcode, notAvailable, isPending}
 use Rattle.manual.specs.Effects.{unlessMarked}
 use Rattle.manual.proofs.Marking.{controlled}
 use Rattle.machine.specs.inner.Ways.{isUnstopped}
-use Rattle.machine.specs.inner.Works.{barredBy, stoppingBy}
+use Rattle.works.specs.Bars.{barredBy}
+use Rattle.machine.specs.inner.Works.{stoppingBy}
 
 module _ (marks : Marks) where
-  pub barred-em : marks .em ≡ true → invalidOpcode ≡ barredBy marks
-  unfolding barredBy
-  barred-em e = simp e
-
-  pub barred-ts : marks .em ≡ false → marks .ts ≡ true → notAvailable ≡ barredBy marks
-  unfolding barredBy
-  barred-ts e t = simp (e, t)
-
-  pub barred-pending : marks .em ≡ false → marks .ts ≡ false → marks .pending ≡ true → isPending ≡ barredBy marks
-  unfolding barredBy
-  barred-pending e t p = simp (e, t, p)
-
-  pub barred-none : marks .em ≡ false → marks .ts ≡ false → marks .pending ≡ false → 0 ≡ barredBy marks
-  unfolding barredBy
-  barred-none e t p = simp (e, t, p)
-
   -- what is left of an answer, by the number of the marks
   by-number : {A : Type 0} (o : Result A) → unlessMarked marks o ≡ cond (eqb (barredBy marks) 0) o (refused (barredBy marks))
   unfolding barredBy
@@ -112,4 +96,4 @@ module _ (bar n : ℕ) (t : Bool) (test : t ≡ isUnstopped n) where
   pub stopping-other : t ≡ false → bar ≡ stoppingBy bar n
   stopping-other e = simp (← test, e)
 
-pub ruleset testing = (needs, barred-em, barred-ts, barred-pending, barred-none, outside, inside, stopping-not, stopping-other)
+pub ruleset testing = (needs, outside, inside, stopping-not, stopping-other)

@@ -17,10 +17,11 @@ use Rattle.manual.specs.Jumps.{ahead, jumped}
 use Rattle.manual.specs.Instructions.{effectBy}
 use Rattle.machine.specs.declared.Places.{Places}
 use Rattle.machine.specs.declared.Footprint.{Footprint}
-use Rattle.machine.specs.declared.gathering.Work.{Work}
+use Rattle.works.specs.declared.Work.{Work}
 use Rattle.machine.specs.declared.loops.Target.{Target}
 use Rattle.machine.specs.declared.loops.Target.the-variants.{At, Refused}
-use Rattle.machine.specs.inner.Works.{effectIn, toPass, toSet, toCount, workOf, refusedWork, performed}
+use Rattle.works.specs.Works.{toPass, toSet, toCount, workOf, refusedWork}
+use Rattle.machine.specs.inner.Works.{effectIn, performed}
 use Rattle.machine.specs.inner.Reaches.{nowhere, integerAlone, unmarkedFootprint}
 use Rattle.machine.specs.Footprints.{masked}
 use Rattle.machine.specs.inner.Loops.{Looping, onwardBy, paperOfTarget, targetWithin, landing, Loops, countingFootprint, loopFootprint}

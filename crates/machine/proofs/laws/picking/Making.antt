@@ -8,10 +8,10 @@ use Rattle.manual.specs.Refusals.{outsideMemory}
 use Rattle.manual.specs.Addresses.{address, displacementOf, baseOf, addressOf}
 use Rattle.codec.specs.Operands.{hasSib}
 use Rattle.manual.specs.Locations.{atEdi}
-use Rattle.machine.specs.declared.gathering.Work.{Work}
+use Rattle.works.specs.declared.Work.{Work}
 use Rattle.machine.specs.inner.Picks.{pickedOf, pickedWork, extractedOf, extractWork, maskWork}
 use Rattle.machine.specs.inner.Reaches.{ediOperand}
-use Rattle.machine.specs.inner.Works.{toOperate, toStore, toInteger, workOf, refusedWork}
+use Rattle.works.specs.Works.{toOperate, toStore, toInteger, workOf, refusedWork}
 
 -- what the lanes leave
 module _ (form : ℕ) where

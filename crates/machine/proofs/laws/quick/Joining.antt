@@ -10,10 +10,11 @@ use Rattle.codec.specs.declared.Found.{Found}
 use Rattle.codec.specs.Answers.{Decoded, good, refused}
 use Rattle.codec.proofs.Steps.{first-on, second-found}
 use Rattle.manual.specs.State.{longestMemory}
-use Rattle.machine.specs.declared.gathering.Work.{Work}
+use Rattle.works.specs.declared.Work.{Work}
 use Rattle.machine.specs.inner.Pointers.{Unless}
 use Rattle.machine.specs.inner.Quick.{Opened, Quick, afterOpcode, QuickAfter, QuickAnywhere}
-use Rattle.machine.specs.inner.Works.{toRefuse, Gathered}
+use Rattle.works.specs.Works.{toRefuse}
+use Rattle.machine.specs.inner.Works.{Gathered}
 use Rattle.machine.proofs.laws.gathering.Fetching.{is-listed, gathered-sorted}
 use Rattle.machine.proofs.laws.gathering.Testing.{none-stops}
 use Rattle.machine.proofs.laws.pointers.Pointing.{follows}

@@ -8,13 +8,14 @@ use Rattle.codec.specs.Table.{formOf}
 use Rattle.codec.specs.inner.Fields.{Registers}
 use Rattle.codec.specs.declared.Instruction.{Instruction}
 use Rattle.codec.proofs.Bytes.{among}
-use Rattle.machine.specs.declared.gathering.Work.{Work}
+use Rattle.works.specs.declared.Work.{Work}
 use Rattle.machine.specs.declared.ways.Way.the-variants.{Stores}
 use Rattle.machine.specs.inner.Pointers.{Unless}
 use Rattle.machine.specs.inner.Quick.{Within, workAt, AtAddress}
 use Rattle.machine.specs.inner.Spots.{otherOf, spotOf}
 use Rattle.machine.specs.inner.Ways.{isStore, wayOf}
-use Rattle.machine.specs.inner.Works.{effectIn, numbers, isListed, Listed, toOperate, toStore, toEmpty, toRefuse, workOf, refusedWork, Does}
+use Rattle.works.specs.Works.{toOperate, toStore, toEmpty, toRefuse, workOf, refusedWork}
+use Rattle.machine.specs.inner.Works.{effectIn, numbers, isListed, Listed, Does}
 use Rattle.machine.proofs.laws.gathering.Sorting.{does-store, does-load, does-compute}
 use Rattle.machine.proofs.laws.ways.Numbering.{way-streams, way-stores, way-loads, way-computes}
 use Rattle.machine.proofs.laws.pointers.Pointing.{follows}

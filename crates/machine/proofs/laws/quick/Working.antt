@@ -11,7 +11,7 @@ use Rattle.codec.specs.declared.Found.{Found}
 use Rattle.codec.specs.declared.Operand.{Operand}
 use Rattle.codec.proofs.FormNumbers.{allowed-digit}
 use Rattle.codec.proofs.Given.{no-registers, registers-of}
-use Rattle.machine.specs.declared.gathering.Work.{Work}
+use Rattle.works.specs.declared.Work.{Work}
 use Rattle.machine.specs.declared.operands.Spot.{Spot}
 use Rattle.machine.specs.declared.operands.Spot.the-variants.{Mmx, Integer}
 use Rattle.machine.specs.declared.pointers.Pointer.{Pointer}
@@ -19,7 +19,8 @@ use Rattle.machine.specs.inner.Pointers.{Unless, Points}
 use Rattle.machine.specs.inner.Quick.{Quick, afterOpcode, QuickAfter, QuickAnywhere, QuickAnyhow, workAt, AtAddress}
 use Rattle.machine.specs.inner.Spots.{otherOf, spotOf}
 use Rattle.machine.specs.inner.Ways.{isInteger, isStore, wayOf}
-use Rattle.machine.specs.inner.Works.{Listed, toOperate, toInteger, toEmpty, workOf, putWork, takeWork}
+use Rattle.works.specs.Works.{toOperate, toInteger, toEmpty, workOf}
+use Rattle.machine.specs.inner.Works.{Listed, putWork, takeWork}
 use Rattle.machine.proofs.laws.gathering.Sorting.{does-empties, does-shift}
 use Rattle.machine.proofs.laws.operands.Locating.{spot-mmx, spot-integer, spot-inside}
 use Rattle.machine.proofs.laws.ways.Numbering.{way-empties, way-shifts, two-from}

@@ -16,10 +16,11 @@ use Rattle.manual.proofs.Turns.{within-limits, onward, turn}
 use Rattle.manual.proofs.Bounds.{step-within}
 use Rattle.machine.specs.declared.End.the-variants.{Done, Spent, Refused}
 use Rattle.machine.specs.declared.Machine.{Machine}
-use Rattle.machine.specs.declared.stepping.Moved.{Moved}
+use Rattle.works.specs.declared.performing.Moved.{Moved}
 use Rattle.machine.specs.State.{stateOf}
 use Rattle.machine.specs.Runs.{paperOfRun}
-use Rattle.machine.specs.inner.Works.{machineOf, renewed, barredBy, Advanced}
+use Rattle.works.specs.Bars.{barredBy}
+use Rattle.machine.specs.inner.Works.{machineOf, renewed, Advanced}
 use Rattle.machine.specs.inner.Runs.{remaining}
 
 -- the tests of the limits, and then the run from position 0 on

@@ -1,6 +1,6 @@
--- `stepping::advance` meets its contract: what is left in the lent registers and memory is what the work performs, and that is the step.
+-- `stepping::advance` meets its contract: its work is gathered, and then done.
 use Rattle.basis.proofs.Names.{needs}
-use Rattle.machine.proofs.laws.stepping.Advancing.{operating, storing, putting, ending}
+use Rattle.machine.proofs.laws.stepping.Advancing.{advanced}
 use Rattle.machine.proofs.stepping.advance.Statement.{statement}
 use Rattle.machine.proofs.stepping.advance.Tie as tie
 
@@ -8,9 +8,9 @@ pub advance-spec : {M : Type 1} → statement M
 advance-spec =
     tie.close
     (tie.spec
-    (λ c κs. search needs) (λ c. search operating) (λ c. search operating) (λ c κs. search needs) (λ c. search operating) (λ c. search operating)
-    (λ c. search needs) (λ c. search operating) (λ c. search needs) (λ c. search storing) (λ c. search needs) (λ c κs. search needs)
-    (λ c. search needs) (λ c. search storing) (λ c. search needs) (λ c κs. search needs) (λ c. search needs) (λ c. search storing)
-    (λ c κs. search putting) (λ c. search needs) (λ c. search putting) (λ c. search needs) (λ c. search ending) (λ c. search needs)
-    (λ c. search ending) (λ c κs. search putting) (λ c. search needs) (λ c. search putting) (λ c κs. search putting) (λ c. search needs)
-    (λ c. search putting) (λ c. search needs) (λ c. search ending))
+    (λ c κs. search needs) (λ c κs. search needs) (λ c. search needs)
+    (λ c.
+    let done = c .before .before in
+    let gathered = done .before .before .before .before in
+    let pre = gathered .before .before .before .before .before .before .pre in
+    advanced _ _ _ _ _ _ _ _ _ _ _ _ _ _ (pre .1 .1 .1 .1) (gathered .gathered .ensures) (done .perform .ensures)))

@@ -1,0 +1,39 @@
+-- Any two answers that a contract allows at one input are equal: both are what the definition says; and so is what they leave in what is lent.
+use Rattle.basis.specs.Names.{_≡_}
+use Rattle.basis.proofs.Names.{sym, ap, _∙_}
+use contract.Lifetimes.{Lfts}
+use borrow.Fn.Kinds.{Dens, resT, endedOf}
+use denote.Triple.Clauses.{AtExit}
+use denote.Ref.{now}
+use Rattle.works.specs.Works.{Left}
+use Rattle.works.proofs.work_of.Reads as work-of-reads
+use Rattle.works.proofs.work_of.Kinds as work-of-kinds
+use Rattle.works.proofs.refused.Reads as refused-reads
+use Rattle.works.proofs.refused.Kinds as refused-kinds
+use Rattle.works.proofs.bars.barred.Reads as barred-reads
+use Rattle.works.proofs.bars.barred.Kinds as barred-kinds
+use Rattle.works.proofs.performing.perform.Reads as perform-reads
+use Rattle.works.proofs.performing.perform.Kinds as perform-kinds
+
+pub work-of-one : (κs : Lfts 0) (a : Dens κs work-of-kinds.ps) (r₁ r₂ : resT work-of-kinds.r κs .Denot)
+    (s₁ s₂ : AtExit (endedOf 0 work-of-kinds.ps work-of-kinds.r) κs)
+    → work-of-reads.Post κs a r₁ s₁ → work-of-reads.Post κs a r₂ s₂ → r₁ ≡ r₂
+work-of-one κs a r₁ r₂ s₁ s₂ p q = p ∙ sym q
+
+pub refused-one : (κs : Lfts 0) (a : Dens κs refused-kinds.ps) (r₁ r₂ : resT refused-kinds.r κs .Denot)
+    (s₁ s₂ : AtExit (endedOf 0 refused-kinds.ps refused-kinds.r) κs)
+    → refused-reads.Post κs a r₁ s₁ → refused-reads.Post κs a r₂ s₂ → r₁ ≡ r₂
+refused-one κs a r₁ r₂ s₁ s₂ p q = p ∙ sym q
+
+pub barred-one : (κs : Lfts 0) (a : Dens κs barred-kinds.ps) (r₁ r₂ : resT barred-kinds.r κs .Denot)
+    (s₁ s₂ : AtExit (endedOf 0 barred-kinds.ps barred-kinds.r) κs)
+    → barred-reads.Post κs a r₁ s₁ → barred-reads.Post κs a r₂ s₂ → r₁ ≡ r₂
+barred-one κs a r₁ r₂ s₁ s₂ p q = p ∙ sym q
+
+pub perform-one : (κs : Lfts 3) (a : Dens κs perform-kinds.ps) (r₁ r₂ : resT perform-kinds.r κs .Denot)
+    (s₁ s₂ : AtExit (endedOf 3 perform-kinds.ps perform-kinds.r) κs)
+    → perform-reads.Post κs a r₁ s₁ → perform-reads.Post κs a r₂ s₂
+    → (r₁ ≡ r₂) × ((now (s₁ .1 .0) ≡ now (s₂ .1 .0)) × ((now (s₁ .1 .1 .0) ≡ now (s₂ .1 .1 .0)) × (now (s₁ .1 .1 .1 .1 .1 .1 .0) ≡ now (s₂ .1 .1 .1 .1 .1 .1 .0))))
+perform-one κs a r₁ r₂ s₁ s₂ p q =
+    let same = p ∙ sym q in
+    (ap (λ (x : Left). x .moved) same, (ap (λ (x : Left). x .mmx) same, (ap (λ (x : Left). x .integers) same, ap (λ (x : Left). x .memory) same)))

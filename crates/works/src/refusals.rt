@@ -1,0 +1,8 @@
+// The refusals by the control marks and by a floor, by the paper's numbers.
+pub const INVALID_OPCODE: u8 = 7;
+
+pub const NOT_AVAILABLE: u8 = 8;
+
+pub const IS_PENDING: u8 = 9;
+
+pub const BELOW_FLOOR: u8 = 21;
