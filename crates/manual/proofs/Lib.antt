@@ -17,6 +17,7 @@ pub mod Exactly
 pub mod Bounds
 pub mod StackBases
 pub mod Stores
+pub mod JumpTargets
 pub mod Demand3
 pub mod Endings
 pub mod Uses
