@@ -3,10 +3,10 @@
 use Rattle.basis.specs.Names.{_≡_, refl, _⊎_, Bool, true, false, cond, List, ℕ, zero, suc, _+_, _≤_, _<_, eqb, ltb, length, drop}
 use Rattle.basis.proofs.Names.{sym, ap, subst, _∙_, inl, inr, ⊎-elim, arith, ltb-true, length-drop}
 use Rattle.reorder.specs.Run.{Answer, finished, spent, stopped, runFrom}
-use Rattle.codec.specs.Refusals.{notAllowed}
+use Rattle.codec.specs.Refusals.{codeTooLong, notAllowed}
 use Rattle.codec.specs.Reads.{longestCode}
 use Rattle.codec.specs.Reasons as codec
-use Rattle.manual.specs.Refusals.{jumpsOutside, belowFloor}
+use Rattle.manual.specs.Refusals.{memoryTooLong, outsideMemory, outsideByStack, jumpsOutside, floorTooHigh, belowFloor}
 use Rattle.manual.specs.State.{State, frozen}
 use Rattle.manual.specs.Instructions.{execute}
 use Rattle.manual.specs.Jumps.{next}
@@ -23,32 +23,38 @@ use Rattle.manual.proofs.Exactly.{step-exactly}
 abbrev pub greatestRefusal : ℕ
 greatestRefusal = 99
 
--- reading's is 6 at most
-part-small : (s : List ℕ) (n : ℕ) → codec.Reason s n → n ≤ notAllowed
+-- reading's is 2 to 6
+part-small : (s : List ℕ) (n : ℕ) → codec.Reason s n → (codeTooLong ≤ n) × (n ≤ notAllowed)
 part-small s n (codec.three x) = omega arith
 part-small s n (codec.four x) = omega arith
 part-small s n (codec.five x) = omega arith
 part-small s n (codec.six x) = omega arith
 
-pub reading-small : (code : List ℕ) (at n : ℕ) → codec.ReasonAt code at n → n ≤ notAllowed
+pub reading-small : (code : List ℕ) (at n : ℕ) → codec.ReasonAt code at n → (codeTooLong ≤ n) × (n ≤ notAllowed)
 reading-small code at n (codec.two h) = omega arith
 reading-small code at n (codec.reading h r) = part-small (drop at code) n r
 
--- a step's is 19 at most, or the floor's, which is above 0
-reason-number : (floor : ℕ) (code : List ℕ) (at : ℕ) (s : State) (n : ℕ) → Reason floor code at s n → (n ≤ jumpsOutside) ⊎ ((n ≤ belowFloor) × (0 < floor))
-reason-number floor code at s n (one h) = inl (omega arith)
-reason-number floor code at s n (twenty h g) = inr (omega arith, omega (arith, ltb-true (length (s .memory)) floor g))
-reason-number floor code at s n (reading h r) = inl (omega (arith, reading-small code at n r))
-reason-number floor code at s n (seven i size h em) = inl (omega arith)
-reason-number floor code at s n (eight i size h em ts) = inl (omega arith)
-reason-number floor code at s n (nine i size h em ts pending) = inl (omega arith)
-reason-number floor code at s n (ten i size h x touches o based) = inl (omega arith)
-reason-number floor code at s n (fourteen i size h x touches o based) = inl (omega arith)
-reason-number floor code at s n (twentyOne i size h x given b) = inr (omega arith, omega (arith, b .low))
-reason-number floor code at s n (nineteen i size h jump clear astray) = inl (omega arith)
+-- those that are no floor's: 1 to 10, 14 and 19
+abbrev pub Floorless : ℕ → Type 0
+Floorless n = ((memoryTooLong ≤ n) × (n ≤ outsideMemory)) ⊎ ((n ≡ outsideByStack) ⊎ (n ≡ jumpsOutside))
+
+-- a step's is one of these, or 20 or 21 of a floor above 0
+reason-number : (floor : ℕ) (code : List ℕ) (at : ℕ) (s : State) (n : ℕ) → Reason floor code at s n
+    → Floorless n ⊎ ((floorTooHigh ≤ n) × (n ≤ belowFloor) × (0 < floor))
+reason-number floor code at s n (one h) = inl (inl (omega arith))
+reason-number floor code at s n (twenty h g) = inr (omega (arith, ltb-true (length (s .memory)) floor g))
+reason-number floor code at s n (reading h r) = inl (inl (omega (arith, reading-small code at n r)))
+reason-number floor code at s n (seven i size h em) = inl (inl (omega arith))
+reason-number floor code at s n (eight i size h em ts) = inl (inl (omega arith))
+reason-number floor code at s n (nine i size h em ts pending) = inl (inl (omega arith))
+reason-number floor code at s n (ten i size h x touches o based) = inl (inl (omega arith))
+reason-number floor code at s n (fourteen i size h x touches o based) = inl (inr (inl refl))
+reason-number floor code at s n (twentyOne i size h x given b) = inr (omega (arith, b .low))
+reason-number floor code at s n (nineteen i size h jump clear astray) = inl (inr (inr refl))
 
 reason-small : (floor : ℕ) (code : List ℕ) (at : ℕ) (s : State) (n : ℕ) → Reason floor code at s n → n ≤ greatestRefusal
-reason-small floor code at s n r = ⊎-elim (λ h. omega arith) (λ (h, above). omega arith) (reason-number floor code at s n r)
+reason-small floor code at s n r =
+    ⊎-elim (⊎-elim (λ h. omega arith) (⊎-elim (λ h. omega arith) (λ h. omega arith))) (λ h. omega arith) (reason-number floor code at s n r)
 
 module _ (floor : ℕ) (code : List ℕ) (code-fits : ltb longestCode (length code) ≡ false) where
   -- a completed step leaves a position of the code
@@ -114,10 +120,10 @@ run-bounded floor code budget s =
     still : Bounds code budget s 0 0 s
     still = record { position = omega arith; completed-steps = omega arith; kept = refl }
 
--- Over floor 0 a refusal's number is at most 19: neither 20 nor 21 is given
+-- Over floor 0 a refusal is one of 1 to 10, 14 and 19: neither 20 nor 21 is given
 
-pub step-zero : (code : List ℕ) (at n : ℕ) (s : State) → stepAt 0 code at s ≡ refusedWith n at s → n ≤ jumpsOutside
-step-zero code at n s e = ⊎-elim (λ h. h) (λ (h, above). absurd (omega arith)) (reason-number 0 code at s n (step-exactly 0 code at s n .0 e))
+pub step-zero : (code : List ℕ) (at n : ℕ) (s : State) → stepAt 0 code at s ≡ refusedWith n at s → Floorless n
+step-zero code at n s e = ⊎-elim (λ h. h) (λ h. absurd (omega arith)) (reason-number 0 code at s n (step-exactly 0 code at s n .0 e))
 
-pub run-zero : (code : List ℕ) (budget n at count : ℕ) (s t : State) → runOf 0 code budget s ≡ stopped n at count t → n ≤ jumpsOutside
+pub run-zero : (code : List ℕ) (budget n at count : ℕ) (s t : State) → runOf 0 code budget s ≡ stopped n at count t → Floorless n
 run-zero code budget n at count s t e = step-zero code at n t (refused-run 0 code budget n at count s t e .0)
