@@ -1,6 +1,6 @@
 -- The laws of the manuals' rules: the places obey the laws of lists, reading is local, and so demand 3; where a run goes on, and that it is its
--- steps; what refusals and a floor keep; what the instructions of loops do; what a footprint says, and which meet; examples that the definitions
--- compute; the manuals' tables of opcodes.
+-- steps; what refusals and a floor keep; what the instructions of loops do, and whether reading reaches a jump; what a footprint says, and which
+-- meet; examples that the definitions compute; the manuals' tables of opcodes.
 pub mod Lists
 pub mod Marking
 pub mod Shapes
@@ -18,6 +18,7 @@ pub mod Bounds
 pub mod StackBases
 pub mod Stores
 pub mod JumpTargets
+pub mod Reaching
 pub mod Demand3
 pub mod Endings
 pub mod Uses

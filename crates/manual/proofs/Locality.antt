@@ -13,7 +13,7 @@ use Rattle.codec.proofs.Theorems.{Local, reading-is-local}
 use Rattle.manual.specs.Steps.{resultOf}
 use Rattle.manual.specs.Runs.{read}
 
-found-of : (x : Decoded) (r : Fetched Instruction) → resultOf x ≡ done r → x ≡ decoded.good (r .instruction) (r .size)
+pub found-of : (x : Decoded) (r : Fetched Instruction) → resultOf x ≡ done r → x ≡ decoded.good (r .instruction) (r .size)
 found-of (decoded.good i n) r e = cc
 found-of (decoded.refused n) r e = absurd (false≢true (cc))
 
