@@ -142,6 +142,8 @@ inRuns =
     -- DEC EAX; JNZ to it: instructions 2 and 3 are the same two again
     ∷ (0, 0x48 ∷ 0x75 ∷ 0xfd ∷ [], 2, done (record { reads = integer 0 ∷ []; writes = integer 0 ∷ zeroMark ∷ []; kind = Loop }))
     ∷ (0, 0x48 ∷ 0x75 ∷ 0xfd ∷ [], 3, done (record { reads = zeroMark ∷ []; writes = []; kind = Loop }))
+    -- DEC EAX; JNZ to the end
+    ∷ (0, 0x48 ∷ 0x75 ∷ 0 ∷ [], 1, done (record { reads = zeroMark ∷ []; writes = []; kind = Loop }))
     -- the step's own refusal: 90 is 5, a prefix after EMMS is 4, and past the last instruction the code ends
     ∷ (0, 0x90 ∷ [], 0, refused 5)
     ∷ (0, 0x0f ∷ 0x77 ∷ 0x66 ∷ [], 1, refused 4)

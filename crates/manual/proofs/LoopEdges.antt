@@ -13,12 +13,15 @@ abbrev start : ℕ → ℕ → Marks → State
 start eax ecx marks =
     record { mmx = 0 ∷ 0x0000000100000003 ∷ replicate 6 0; integers = eax ∷ ecx ∷ replicate 6 0; marks = marks; memory = replicate 8 0 }
 
--- no mark is set; the zero mark alone; all control marks
+-- no mark is set; the zero mark alone; EM alone; all control marks
 abbrev none : Marks
 none = clear false
 
 abbrev zero : Marks
 zero = zeroed none true
+
+abbrev em : Marks
+em = controlled none true false false
 
 abbrev barred : Marks
 barred = controlled none true true true
@@ -53,6 +56,12 @@ spentAt position total holds (finished at count t) = false
 spentAt position total holds (spent at count t) = eqb at position && eqb count total && holds t
 spentAt position total holds (stopped n at count t) = false
 
+-- refused by this number at a position, after so many instructions, in a state of which this holds
+abbrev refusedAt : ℕ → ℕ → ℕ → (State → Bool) → Answer State → Bool
+refusedAt number position total holds (finished at count t) = false
+refusedAt number position total holds (spent at count t) = false
+refusedAt number position total holds (stopped n at count t) = eqb n number && eqb at position && eqb count total && holds t
+
 -- a step goes on at a position
 abbrev goesTo : ℕ → Outcome → Bool
 goesTo position (completed at t) = eqb at position
@@ -82,8 +91,10 @@ loopEdges =
     -- to -1, and one past the end
     ∷ refuses 19 (run (0x75 ∷ 0xfd ∷ []))
     ∷ refuses 19 (run (0x75 ∷ 1 ∷ []))
-    -- as the second instruction: what DEC EAX did stays
-    ∷ refusedAfter 19 1 (left 0 6 false false) (run (0x48 ∷ 0x75 ∷ 0xfc ∷ []))
+    -- as the second instruction, at position 1: what DEC EAX did stays
+    ∷ refusedAt 19 1 1 (left 0 6 false false) (run (0x48 ∷ 0x75 ∷ 0xfc ∷ []))
+    -- a step at position 1, to the end
+    ∷ goesTo 3 (stepIn (0x48 ∷ 0x75 ∷ 0 ∷ []) 1)
     -- not taken, it completes wherever it would lead
     ∷ doneWith 1 (left 0 7 true false) (runFrom 7 zero (0x75 ∷ 0x80 ∷ []))
     ∷ doneWith 1 (left 0 7 true false) (runFrom 7 zero (0x75 ∷ 0x7f ∷ []))
@@ -113,9 +124,10 @@ loopEdges =
     ∷ eax 0x7e false (runFrom 0xffffffff none (0x83 ∷ 0xc0 ∷ 0x7f ∷ []))
     ∷ eax 7 false (runFrom 7 zero (0x83 ∷ 0xc0 ∷ 0 ∷ []))
     ∷ eax 0 true (runFrom 0 none (0x83 ∷ 0xc0 ∷ 0 ∷ []))
-    -- DEC of 0, of 1, and of 80000000 with the zero mark set
+    -- DEC of 0, of 1, of 101, and of 80000000 with the zero mark set
     ∷ eax 0xffffffff false (runFrom 0 none (0x48 ∷ []))
     ∷ eax 0 true (runFrom 1 none (0x48 ∷ []))
+    ∷ eax 0x100 false (runFrom 0x101 none (0x48 ∷ []))
     ∷ eax 0x7fffffff false (runFrom 0x80000000 zero (0x48 ∷ []))
     -- MMX instructions and EMMS keep the zero mark: DEC EAX; PXOR MM0, MM0; EMMS
     ∷ doneWith 3 (left 0 0 true false) (runFrom 1 none (0x48 ∷ 0x0f ∷ 0xef ∷ 0xc0 ∷ 0x0f ∷ 0x77 ∷ []))
@@ -126,6 +138,8 @@ loopEdges =
     ∷ doneWith 5 (λ t. left 1 0 true false t && t .marks .em && t .marks .ts && t .marks .pending) (runFrom 7 barred (0xb9 ∷ 2 ∷ 0 ∷ 0 ∷ 0 ∷ 0x49 ∷ 0x75 ∷ 0xfd ∷ []))
     ∷ refusedAfter 7 2 (left 0 8 false false) (runFrom 7 barred (0x83 ∷ 0xc0 ∷ 1 ∷ 0x75 ∷ 0 ∷ 0x0f ∷ 0xfe ∷ 0xc1 ∷ []))
     ∷ refuses 19 (runFrom 7 barred (0x75 ∷ 0xfd ∷ []))
+    -- with EM alone set DEC EAX completes, and no other mark is set then
+    ∷ doneWith 1 (λ t. left 0 6 false false t && t .marks .em && not (t .marks .ts) && not (t .marks .pending)) (runFrom 7 em (0x48 ∷ []))
     -- 1, 20 and 2 refuse them too; of 4,096 bytes the last is read
     ∷ refusedAfter 1 0 tagsEmpty (runOf 0 (0x48 ∷ []) 1 (over (replicate 32769 0)))
     ∷ refuses 20 (runOf 9 (0x48 ∷ []) 1 (start 7 0 none))
