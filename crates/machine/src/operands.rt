@@ -8,7 +8,7 @@ use codec::forms::PART;
 use codec::forms::SIZE;
 use codec::modes::NO_DISPLACEMENT;
 use codec::modes::REGISTER;
-ghost use Rattle.basis.specs.Names.{_≡_, true, _+_, _/_, _^_, leb};
+ghost use Rattle.basis.specs.Names.{_≡_, true, _/_, _^_};
 ghost use Rattle.codec.specs.inner.Fields.{Registers};
 ghost use Rattle.machine.specs.inner.Spots.{otherOf, spotOf};
 ghost use Rattle.machine.specs.inner.Ways.{hasOther, wayOf};
@@ -36,16 +36,6 @@ pub(crate) const AT_EDI: Operand = Operand {
     displacement: 0,
 };
 
-// Whether all bytes of an operand are below the memory's length.
-pub(crate) fn is_inside(room: usize, address: usize, size: usize) -> bool
-    ensures { λ r. ⌜ r ≡ leb (address + size) room ⌝ }
-{
-    if room < size {
-        return false;
-    }
-    address <= room - size
-}
-
 // Where an operand is: at mod 11 a register, by the form an integer register or an MMX register; else its bytes in memory, refused where
 // one is outside.
 pub(crate) fn located(integers: &[u32; 8], entry: u32, operand: Operand, room: usize) -> Spot
@@ -55,7 +45,7 @@ pub(crate) fn located(integers: &[u32; 8], entry: u32, operand: Operand, room: u
     if operand.mode != REGISTER {
         let address = addresses::address_of(integers, operand) as usize;
         let size = (entry / SIZE % PART) as u8;
-        if is_inside(room, address, size as usize) {
+        if works::is_inside(room, address, size as usize) {
             return Spot::Bytes(address, size);
         }
         return Spot::Refused(misses::miss_of(operand));

@@ -1,6 +1,5 @@
 // The work of the instructions that pick lanes: PINSRW, PSHUFW, PEXTRW, PMOVMSKB and MASKMOVQ. What they leave is computed when the work is made.
 use crate::addresses;
-use crate::operands;
 use crate::operands::AT_EDI;
 use crate::refusals::OUTSIDE_MEMORY;
 use codec::Operand;
@@ -81,7 +80,7 @@ pub(crate) fn masked(
     ensures { λ r. ⌜ r ≡ maskWork (now (integers .entry)) (now (memory .entry)) (getD (now (mmx .entry)) (operand .reg) 0) (getD (now (mmx .entry)) (operand .rm) 0) next ⌝ }
 {
     let address = addresses::address_of(integers, AT_EDI) as usize;
-    if operands::is_inside(memory.len(), address, QUADWORD as usize) {
+    if works::is_inside(memory.len(), address, QUADWORD as usize) {
         let old = words::load(memory, address, QUADWORD as usize);
         let blended = lanes::blend(old, mmx[operand.reg as usize], mmx[operand.rm as usize]);
         return work_of(STORE, QUADWORD, address, blended, next);

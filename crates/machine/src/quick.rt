@@ -1,7 +1,6 @@
 // Instructions read and gathered at once. One that is to be refused has no answer here, nor have the odd forms of manual 000 and EMMS as the code's last
 // two bytes: they are left to the reader.
 use crate::gathering;
-use crate::operands;
 use crate::pointers;
 use crate::shifts;
 use codec::fields::MIDDLE;
@@ -66,7 +65,7 @@ fn none() -> Work
 fn load(entry: u32, register: usize, address: usize, size: u8, next: usize, memory: &[u8]) -> Work
     ensures { λ r. ⌜ Unless (r .what ≡ toRefuse) (Within r (workOf toOperate (entry % 256) register (loaded (now (memory .entry)) address size) next) address size (length (now (memory .entry)))) ⌝ }
 {
-    if operands::is_inside(memory.len(), address, size as usize) {
+    if works::is_inside(memory.len(), address, size as usize) {
         let value = words::load(memory, address, size as usize);
         return work_of(OPERATE, (entry % PART) as u8, register, value, next);
     }
@@ -85,7 +84,7 @@ fn store(
     requires { ⌜ register < 8 ⌝ }
     ensures { λ r. ⌜ Unless (r .what ≡ toRefuse) (Within r (workOf toStore size address (getD (now (mmx .entry)) register 0) next) address size room) ⌝ }
 {
-    if operands::is_inside(room, address, size as usize) {
+    if works::is_inside(room, address, size as usize) {
         return work_of(STORE, size, address, mmx[register], next);
     }
     none()

@@ -1,4 +1,4 @@
--- The theorems that a contract allows one answer; and the laws of the two functions that test.
-pub mod Barring
+-- The laws of what tests and of what does a work, and the theorems that each contract allows one answer.
+pub mod Testing
 pub mod Ending
 pub mod Allowed

@@ -1,9 +1,11 @@
 // What remains to be done of an instruction, as plain numbers, and what does it.
 mod bars;
+mod inside;
 mod performing;
 pub mod refusals;
 
 pub use bars::barred;
+pub use inside::is_inside;
 pub use performing::Moved;
 pub use performing::perform;
 ghost use Rattle.basis.specs.Names.{_≡_};

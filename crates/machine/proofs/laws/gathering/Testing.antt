@@ -1,6 +1,6 @@
--- The tests before an instruction's work: the control marks, where they stop it, and the bytes of an operand below the memory's length.
-use Rattle.basis.specs.Names.{_≡_, refl, Bool, true, false, not, _||_, cond, ℕ, _+_, _-_, _≤_, _<_, eqb, leb}
-use Rattle.basis.proofs.Names.{sym, ap, _∙_, false≢true, arith, needs, ne-eqb, eqb-true, le-leb, lt-leb, leb-true, leb-false}
+-- The tests before an instruction's work: the control marks, where they stop it.
+use Rattle.basis.specs.Names.{_≡_, refl, Bool, true, false, not, _||_, cond, ℕ, _≤_, eqb, leb}
+use Rattle.basis.proofs.Names.{sym, ap, _∙_, false≢true, arith, needs, ne-eqb, eqb-true, leb-true}
 use Rattle.words.proofs.Laws.{and-both}
 use Rattle.reorder.specs.Result.{Result, refused}
 use Rattle.codec.specs.Forms.{mmreg1·mmreg2/mem64, forms}
@@ -69,17 +69,6 @@ module _ (n : ℕ) (marks : Marks) where
   pub stopped-by : barredBy (heeded (formOf n .kind) marks) ≡ stoppingBy (barredBy marks) n
   stopped-by = heeds (formOf n .kind) (isUnstopped n) (kind-unstopped (isUnstopped n) refl)
 
-module _ (n a size : ℕ) where
-  pub outside : n < size → false ≡ leb (a + size) n
-  outside h = let far : n < a + size = omega arith in sym (lt-leb (a + size) n far)
-
-  pub inside : size ≤ n → leb a (n - size) ≡ leb (a + size) n
-  inside h = by (leb a (n - size)) refl
-    where
-      by : (t : Bool) → leb a (n - size) ≡ t → leb a (n - size) ≡ leb (a + size) n
-      by true e = let near : a + size ≤ n = omega (arith, leb-true a (n - size) e) in e ∙ sym (le-leb (a + size) n near)
-      by false e = let far : n < a + size = omega (arith, leb-false a (n - size) e) in e ∙ sym (lt-leb (a + size) n far)
-
 -- where no mark is set, none stops a form
 pub none-stops : (bar n : ℕ) → bar ≡ 0 → stoppingBy bar n ≡ 0
 none-stops bar n e = by (isUnstopped n)
@@ -96,4 +85,4 @@ module _ (bar n : ℕ) (t : Bool) (test : t ≡ isUnstopped n) where
   pub stopping-other : t ≡ false → bar ≡ stoppingBy bar n
   stopping-other e = simp (← test, e)
 
-pub ruleset testing = (needs, outside, inside, stopping-not, stopping-other)
+pub ruleset testing = (needs, stopping-not, stopping-other)
