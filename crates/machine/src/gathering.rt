@@ -30,10 +30,9 @@ ghost use Rattle.codec.specs.Table.{opcodeTable};
 ghost use Rattle.codec.specs.Reads.{longestCode};
 ghost use Rattle.manual.specs.State.{longestMemory};
 ghost use Rattle.machine.specs.inner.Picks.{pickedWork};
-ghost use Rattle.machine.specs.inner.Quick.{Opened};
 ghost use Rattle.machine.specs.inner.Spots.{otherOf, spotOf};
 ghost use Rattle.machine.specs.inner.Ways.{hasOther, wayOf};
-ghost use Rattle.works.specs.Bars.{barredBy};
+ghost use Rattle.works.specs.Bars.{openTable};
 ghost use Rattle.works.specs.Works.{workOf, refusedWork};
 ghost use Rattle.machine.specs.inner.Works.{stoppingBy, effectIn, Listed, putWork, takeWork, Does, Gathered};
 
@@ -179,7 +178,7 @@ pub(crate) fn gathered(
     at: usize,
     memory: &[u8],
 ) -> Work
-    requires { ⌜ (now table ≡ opcodeTable) × (Opened bar (now quick) × ((length (now code) ≤ longestCode) × (length (now memory) ≤ longestMemory))) ⌝ }
+    requires { ⌜ (now table ≡ opcodeTable) × ((now quick ≡ openTable bar) × ((length (now code) ≤ longestCode) × (length (now memory) ≤ longestMemory))) ⌝ }
     ensures { λ r. ⌜ Gathered r (now (mmx .entry)) (now (integers .entry)) bar zero (now (code .entry)) at (now (memory .entry)) ⌝ }
 {
     let work = quick::at_once(quick, mmx, integers, code, at, memory);

@@ -38,7 +38,7 @@ ghost use Rattle.codec.specs.Forms.{isAmong};
 ghost use Rattle.codec.specs.Table.{formOf};
 ghost use Rattle.codec.specs.Finding.{findWith};
 ghost use Rattle.machine.specs.inner.Pointers.{Unless};
-ghost use Rattle.machine.specs.inner.Quick.{Opened, Quick, QuickAfter, QuickAnywhere, QuickAnyhow, Within, AtAddress};
+ghost use Rattle.machine.specs.inner.Quick.{Quick, QuickAfter, QuickAnywhere, QuickAnyhow, Within, AtAddress};
 ghost use Rattle.works.specs.Works.{toOperate, toStore, toEmpty, toRefuse, workOf, refusedWork};
 
 // The bytes before the ModRM byte, and with it.
@@ -258,7 +258,7 @@ fn entry_in(table: &[u32; 256], second: u8) -> u32
     table[second as usize]
 }
 
-// The instruction at a position, with a table of `quick_table`.
+// The instruction at a position, with a table of `works::table`.
 pub(crate) fn at_once(
     quick: &[u32; 256],
     mmx: &[u64; 8],
@@ -284,14 +284,4 @@ pub(crate) fn at_once(
         return in_registers(mmx, integers, entry, modrm, code, at + OPCODE);
     }
     in_memory(mmx, integers, entry, modrm, code, at + OPCODE, memory)
-}
-
-// Our table, or under control marks that refuse one without entries, so that no instruction has to ask for the marks.
-pub(crate) fn quick_table(bar: u8) -> [u32; 256]
-    ensures { λ r. ⌜ Opened bar r ⌝ }
-{
-    if bar == 0 {
-        return codec::table();
-    }
-    [0u32; 256]
 }

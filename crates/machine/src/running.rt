@@ -5,7 +5,6 @@ use crate::Machine;
 use crate::Ran;
 use crate::Stepped;
 use crate::Taken;
-use crate::quick;
 use crate::refusals::FLOOR_TOO_HIGH;
 use crate::refusals::LONGEST_MEMORY;
 use crate::refusals::MEMORY_TOO_LONG;
@@ -42,7 +41,7 @@ impl Machine {
         let mut integers = self.integers;
         let mut marks = self.marks;
         let bar = works::barred(marks);
-        let quick = quick::quick_table(bar);
+        let quick = works::table(bar);
         let mut at = start;
         let mut remaining = budget;
         while at < code.len() {

@@ -5,7 +5,7 @@ ghost use Rattle.basis.specs.Names.{_≡_, _≤_, length};
 ghost use Rattle.codec.specs.Table.{opcodeTable};
 ghost use Rattle.codec.specs.Reads.{longestCode};
 ghost use Rattle.manual.specs.State.{longestMemory};
-ghost use Rattle.machine.specs.inner.Quick.{Opened};
+ghost use Rattle.works.specs.Bars.{openTable};
 ghost use Rattle.machine.specs.inner.Works.{Advanced};
 
 // The step at a position over a floor, where memory, floor and code are within their limits, `bar` is the refusal of the control marks, or 0, `valid`
@@ -23,7 +23,7 @@ pub(crate) fn advance(
     memory: &mut [u8],
     floor: usize,
 ) -> Moved
-    requires { ⌜ (now table ≡ opcodeTable) × (Opened bar (now quick) × ((length (now code) ≤ longestCode) × ((length (now memory) ≤ longestMemory) × (floor ≤ length (now memory))))) ⌝ }
+    requires { ⌜ (now table ≡ opcodeTable) × ((now quick ≡ openTable bar) × ((length (now code) ≤ longestCode) × ((length (now memory) ≤ longestMemory) × (floor ≤ length (now memory))))) ⌝ }
     ensures { λ r. ⌜ Advanced r (now (mmx .entry)) (now (integers .entry)) bar valid zero (now (code .entry)) at (now (memory .entry)) floor (now (mmx .exit)) (now (integers .exit)) (now (memory .exit)) ⌝ }
 {
     let work = gathering::gathered(table, quick, mmx, integers, bar, zero, code, at, memory);

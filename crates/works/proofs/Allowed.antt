@@ -12,6 +12,8 @@ use Rattle.works.proofs.refused.Reads as refused-reads
 use Rattle.works.proofs.refused.Kinds as refused-kinds
 use Rattle.works.proofs.bars.barred.Reads as barred-reads
 use Rattle.works.proofs.bars.barred.Kinds as barred-kinds
+use Rattle.works.proofs.bars.table.Reads as table-reads
+use Rattle.works.proofs.bars.table.Kinds as table-kinds
 use Rattle.works.proofs.inside.is_inside.Reads as is-inside-reads
 use Rattle.works.proofs.inside.is_inside.Kinds as is-inside-kinds
 use Rattle.works.proofs.performing.perform.Reads as perform-reads
@@ -31,6 +33,11 @@ pub barred-one : (κs : Lfts 0) (a : Dens κs barred-kinds.ps) (r₁ r₂ : resT
     (s₁ s₂ : AtExit (endedOf 0 barred-kinds.ps barred-kinds.r) κs)
     → barred-reads.Post κs a r₁ s₁ → barred-reads.Post κs a r₂ s₂ → r₁ ≡ r₂
 barred-one κs a r₁ r₂ s₁ s₂ p q = p ∙ sym q
+
+pub table-one : (κs : Lfts 0) (a : Dens κs table-kinds.ps) (r₁ r₂ : resT table-kinds.r κs .Denot)
+    (s₁ s₂ : AtExit (endedOf 0 table-kinds.ps table-kinds.r) κs)
+    → table-reads.Post κs a r₁ s₁ → table-reads.Post κs a r₂ s₂ → r₁ ≡ r₂
+table-one κs a r₁ r₂ s₁ s₂ p q = p ∙ sym q
 
 pub is-inside-one : (κs : Lfts 0) (a : Dens κs is-inside-kinds.ps) (r₁ r₂ : resT is-inside-kinds.r κs .Denot)
     (s₁ s₂ : AtExit (endedOf 0 is-inside-kinds.ps is-inside-kinds.r) κs)

@@ -1,9 +1,10 @@
--- The tests: the control marks in their order, EM before TS before pending, and the bytes of an operand below the memory's length.
-use Rattle.basis.specs.Names.{_≡_, refl, Bool, true, false, ℕ, _+_, _-_, _≤_, _<_, leb}
-use Rattle.basis.proofs.Names.{sym, _∙_, arith, needs, le-leb, lt-leb, leb-true, leb-false}
+-- The control marks in their order, EM before TS before pending, and the table that goes with them; the bytes of an operand below the memory's length.
+use Rattle.basis.specs.Names.{_≡_, refl, Bool, true, false, ℕ, _+_, _-_, _≤_, _<_, leb, List, replicate}
+use Rattle.basis.proofs.Names.{sym, _∙_, arith, needs, ne-eqb, le-leb, lt-leb, leb-true, leb-false}
+use Rattle.codec.specs.Table.{opcodeTable}
 use Rattle.manual.specs.declared.Marks.{Marks}
 use Rattle.manual.specs.Refusals.{invalidOpcode, notAvailable, isPending}
-use Rattle.works.specs.Bars.{barredBy}
+use Rattle.works.specs.Bars.{barredBy, openTable}
 
 module _ (marks : Marks) where
   pub barred-em : marks .em ≡ true → invalidOpcode ≡ barredBy marks
@@ -33,4 +34,14 @@ module _ (n a size : ℕ) where
       by true e = let near : a + size ≤ n = omega (arith, leb-true a (n - size) e) in e ∙ sym (le-leb (a + size) n near)
       by false e = let far : n < a + size = omega (arith, leb-false a (n - size) e) in e ∙ sym (lt-leb (a + size) n far)
 
-pub ruleset testing = (needs, barred-em, barred-ts, barred-pending, barred-none, outside, inside)
+-- the table
+module _ (bar : ℕ) where
+  pub opens : (table : List ℕ) → bar ≡ 0 → table ≡ opcodeTable → table ≡ openTable bar
+  unfolding openTable
+  opens table e h = simp e h
+
+  pub shuts : (bar ≡ 0 → ⊥) → replicate 256 0 ≡ openTable bar
+  unfolding openTable
+  shuts h = simp (ne-eqb bar 0 h)
+
+pub ruleset testing = (needs, barred-em, barred-ts, barred-pending, barred-none, outside, inside, opens, shuts)

@@ -5,6 +5,7 @@ mod performing;
 pub mod refusals;
 
 pub use bars::barred;
+pub use bars::table;
 pub use inside::is_inside;
 pub use performing::Moved;
 pub use performing::perform;

@@ -1,8 +1,8 @@
 -- What the code knows of an instruction that it has read and gathered at once.
-use Rattle.basis.specs.Names.{_≡_, true, cond, List, [], ℕ, _+_, _/_, _%_, _^_, _≤_, leb, length, getD, drop, replicate}
+use Rattle.basis.specs.Names.{_≡_, true, cond, List, [], ℕ, _+_, _/_, _%_, _^_, _≤_, leb, length, getD, drop}
 use Rattle.reorder.specs.Result.{done}
 use Rattle.codec.specs.Opcodes.{escape}
-use Rattle.codec.specs.Table.{formOf, opcodeTable}
+use Rattle.codec.specs.Table.{formOf}
 use Rattle.codec.specs.Reader.{reads}
 use Rattle.codec.specs.Reads.{formReader}
 use Rattle.codec.specs.Finding.{found}
@@ -12,11 +12,6 @@ use Rattle.machine.specs.declared.operands.Spot.{Spot}
 use Rattle.machine.specs.declared.operands.Spot.the-variants.{Bytes}
 use Rattle.machine.specs.inner.Ways.{isStore}
 use Rattle.machine.specs.inner.Works.{effectIn, Listed, putWork, takeWork, Does}
-
--- the table for it: ours, or one without an entry where the control marks refuse
-pub record Opened (bar : ℕ) (table : List ℕ) : Type 0 where
-  pub ours : bar ≡ 0 → table ≡ opcodeTable
-  pub empty : (bar ≡ 0 → ⊥) → table ≡ replicate 256 0
 
 -- a work does what was found, where that has an entry of our table
 pub record Quick (work : Work) (registers integers memory : List ℕ) (x : Found) : Type 0 where

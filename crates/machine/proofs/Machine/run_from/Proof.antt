@@ -33,7 +33,7 @@ run-from-spec =
     (λ c κs.
     let start = c .before .before .before .before .before .before .before .before in
     let pre = start .before .before .before .before .before .before .before .before .pre in
-    (start .before .before .before .before .before .table .ensures, (start .quick-table .ensures, (pre .0, (search (needs, pre), search (needs, pre))))))
+    (start .before .before .before .before .before .table .ensures, (start .table2 .ensures, (pre .0, (search (needs, pre), search (needs, pre))))))
     (λ c. search needs) (λ c. search needs)
     (λ c.
     let turn = c .before .before .before .before .before .before .before .before .before in

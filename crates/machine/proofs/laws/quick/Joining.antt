@@ -11,8 +11,9 @@ use Rattle.codec.specs.Answers.{Decoded, good, refused}
 use Rattle.codec.proofs.Steps.{first-on, second-found}
 use Rattle.manual.specs.State.{longestMemory}
 use Rattle.works.specs.declared.Work.{Work}
+use Rattle.works.specs.Bars.{openTable}
 use Rattle.machine.specs.inner.Pointers.{Unless}
-use Rattle.machine.specs.inner.Quick.{Opened, Quick, afterOpcode, QuickAfter, QuickAnywhere}
+use Rattle.machine.specs.inner.Quick.{Quick, afterOpcode, QuickAfter, QuickAnywhere}
 use Rattle.works.specs.Works.{toRefuse}
 use Rattle.machine.specs.inner.Works.{Gathered}
 use Rattle.machine.proofs.laws.gathering.Fetching.{is-listed, gathered-sorted}
@@ -43,14 +44,6 @@ pub ruleset joining = (needs, unanswered, found-after, found-anywhere)
 
 -- ---- the table
 
-pub opens : (bar : ℕ) (table : List ℕ) → bar ≡ 0 → table ≡ opcodeTable → Opened bar table
-opens bar table e h = record { ours = λ z. h; empty = λ z. absurd (z e) }
-
-pub shuts : (bar : ℕ) → (bar ≡ 0 → ⊥) → Opened bar (replicate 256 0)
-shuts bar h = record { ours = λ z. absurd (h z); empty = λ z. refl }
-
-pub ruleset opening = (needs, opens, shuts)
-
 zeros : (n k : ℕ) → getD {A = ℕ} (replicate n 0) k 0 ≡ 0
 zeros zero k = refl
 zeros (suc n) zero = refl
@@ -67,13 +60,17 @@ none-found code at = by (reads (instructionReader (formIn (replicate 256 0))) at
 
 -- ---- the step
 
-module _ (quick code : List ℕ) (at : ℕ) (registers integers m : List ℕ) (bar : ℕ) (zero : Bool) (work : Work) (o : Opened bar quick)
+module _ (quick code : List ℕ) (at : ℕ) (registers integers m : List ℕ) (bar : ℕ) (zero : Bool) (work : Work) (o : quick ≡ openTable bar)
     (u : Unless (work .what ≡ toRefuse) (Quick work registers integers m (findWith quick code at))) (answered : work .what ≡ toRefuse → ⊥) where
   abbrev x : Found
   x = findWith quick code at
 
   abbrev q : Quick work registers integers m x
   q = u .holds answered
+
+  shut : eqb bar 0 ≡ false → openTable bar ≡ replicate 256 0
+  unfolding openTable
+  shut h = simp h
 
   unbarred : bar ≡ 0
   unbarred = by (eqb bar 0) refl
@@ -82,12 +79,12 @@ module _ (quick code : List ℕ) (at : ℕ) (registers integers m : List ℕ) (b
       by true t = eqb-true bar 0 t
       by false t =
           let none : x .entry ≡ 0 =
-          subst (λ (l : List ℕ). findWith l code at .instruction .first ≡ escape → findWith l code at .entry ≡ 0) (sym (o .empty (eqb-false bar 0 t))) (none-found code at) (q .escaped) in
+          subst (λ (l : List ℕ). findWith l code at .instruction .first ≡ escape → findWith l code at .entry ≡ 0) (sym (o ∙ shut t)) (none-found code at) (q .escaped) in
           absurd (q .present (ap (λ (n : ℕ). n / 2 ^ 24) none))
 
   pub gathered-quick : length code ≤ longestCode → length m ≤ longestMemory → Gathered work registers integers bar zero code at m
   gathered-quick code-fits memory-fits =
-      let ours = o .ours unbarred in
+      let ours = o ∙ ap openTable unbarred in
       gathered-sorted quick code at x ours refl registers integers m bar zero code-fits memory-fits work (q .passed) (q .escaped) _ refl (none-stops bar (x .entry / 2 ^ 24) unbarred)
       (q .does (is-listed quick code at x ours refl (q .passed) (q .escaped)))
 
