@@ -1,13 +1,13 @@
 -- Our table says of each second byte what the list says: a computation for the 256 bytes. And the number of a first byte's form names that form.
-use Rattle.basis.specs.Names.{[], ℕ, zero, suc, _+_, _/_, _^_, _≤_, _<_, _≡_, refl, Bool, true, false, cond, _&&_, eqb, leb, ltb, length, getD, _%_}
+use Rattle.basis.specs.Names.{List, [], _∷_, ℕ, zero, suc, _+_, _/_, _^_, _≤_, _<_, _≡_, refl, Bool, true, false, cond, _&&_, eqb, leb, ltb, length, getD, _%_}
 use Rattle.basis.proofs.Names.{sym, ap, subst, _∙_, arith, needs, zero-add, add-zero, leb-true, ltb-true, ltb-false, eq-eqb, ne-eqb, List·getD-eq-default}
-use Rattle.lanes.specs.Operations.{described, KEEP}
+use Rattle.lanes.specs.Operations.{Operation, described, KEEP}
 use Rattle.codec.specs.Contents.{OneByte, loops}
 use Rattle.codec.specs.Opcodes.{formAt, operationAt, isOf, formOfFirst, formFor, escape}
 use Rattle.codec.specs.Table.{formOf, entryAt, entryOfFirst, listed, opcodeTable, formIn}
 use Rattle.codec.specs.Finding.{entryFor}
 use Rattle.codec.specs.inner.Entries.{shiftOf, operationIn}
-use Rattle.codec.specs.Forms.{absent, memorySize}
+use Rattle.codec.specs.Forms.{absent, isAmong, memorySize}
 use Rattle.codec.specs.declared.Instruction.{Instruction}
 use Rattle.codec.specs.Reader.{byte}
 use Rattle.codec.specs.Reads.{formReader, secondReader, firstReader, instructionReader}
@@ -43,14 +43,21 @@ table-past second h =
     let g : length (listed entryAt 0 256) ≤ second = subst (λ (n : ℕ). n ≤ second) (sym (length-listed entryAt 0 256)) h in
     List·getD-eq-default (listed entryAt 0 256) 0 g
 
--- the 256 forms, and the operations with each of eight digits, come back from their numbers
+-- the 256 forms come back from their numbers
 forms-back : listed (λ k. formOf (entryAt k / 2 ^ 24)) 0 256 ≡ listed formAt 0 256
 unfolding formAt operationAt
 forms-back = refl
 
-operations-back : listed (λ b. listed (operationIn (entryAt b)) 0 8) 0 256 ≡ listed (λ b. listed (operationAt b) 0 8) 0 256
+-- and so do the operations: with each of eight digits after a second byte that has digits, else with any
+abbrev hasDigits : ℕ → Bool
+hasDigits b = isAmong b (0x18 ∷ 0x71 ∷ 0x72 ∷ 0x73 ∷ 0xae ∷ [])
+
+abbrev withDigits : ℕ → (ℕ → ℕ → Operation) → ℕ → List Operation
+withDigits digit f b = cond (hasDigits b) (listed (f b) 0 8) (f b digit ∷ [])
+
+operations-back : (digit : ℕ) → listed (withDigits digit (λ b. operationIn (entryAt b))) 0 256 ≡ listed (withDigits digit operationAt) 0 256
 unfolding formAt operationAt operationIn shiftOf
-operations-back = refl
+operations-back digit = refl
 
 -- and so do the sizes of the operands in memory and the lane widths
 pub sizes-back : listed (λ b. entryAt b / 2 ^ 16 % 256) 0 256 ≡ listed (λ b. memorySize (formAt b)) 0 256
@@ -78,8 +85,12 @@ form-is second = by (ltb second 256) refl
 pub operation-is : (second digit : ℕ) → second < 256 → digit < 8 → operationIn (getD opcodeTable second 0) digit ≡ operationAt second digit
 operation-is second digit h g =
     ap (λ (x : ℕ). operationIn x digit) (table-entry second h)
-    ∙ agree (operationIn (entryAt second)) (operationAt second) KEEP 8 digit
-    (agree (λ b. listed (operationIn (entryAt b)) 0 8) (λ b. listed (operationAt b) 0 8) [] 256 second operations-back h) g
+    ∙ by (hasDigits second) (agree (withDigits digit (λ b. operationIn (entryAt b))) (withDigits digit operationAt) [] 256 second (operations-back digit) h)
+  where
+    by : (t : Bool) → cond t (listed (operationIn (entryAt second)) 0 8) (operationIn (entryAt second) digit ∷ [])
+        ≡ cond t (listed (operationAt second) 0 8) (operationAt second digit ∷ []) → operationIn (entryAt second) digit ≡ operationAt second digit
+    by true e = agree (operationIn (entryAt second)) (operationAt second) KEEP 8 digit e g
+    by false e = ap (λ l. getD l 0 KEEP) e
 
 -- So it asks for the same bytes as the list.
 pub same-reader : instructionReader (formIn opcodeTable) ≡ instructionReader formAt
