@@ -1,4 +1,5 @@
 -- `starting::mmx_of` meets its contract: each of the eight is its own load.
+use Rattle.basis.specs.Names.{[], _∷_}
 use Rattle.basis.proofs.Names.{needs}
 use Rattle.machine.proofs.starting.mmx_of.Statement.{statement}
 use Rattle.machine.proofs.starting.mmx_of.Tie as tie
@@ -9,4 +10,7 @@ mmx-of-spec =
     (tie.spec
     (λ c κs. search needs) (λ c κs. search needs) (λ c κs. search needs) (λ c κs. search needs) (λ c κs. search needs) (λ c κs. search needs)
     (λ c κs. search needs) (λ c κs. search needs)
-    (λ c. cc))
+    (λ c i.
+    let d = c .before .before .before .before in
+    d .before .before .before .quadword .ensures i ∷ d .before .before .quadword2 .ensures i ∷ d .before .quadword3 .ensures i ∷ d .quadword4 .ensures i
+    ∷ c .before .before .before .quadword5 .ensures i ∷ c .before .before .quadword6 .ensures i ∷ c .before .quadword7 .ensures i ∷ c .quadword8 .ensures i ∷ []))
