@@ -11,7 +11,7 @@ use Rattle.codec.specs.Forms.{absent, isAmong, memorySize}
 use Rattle.codec.specs.declared.Instruction.{Instruction}
 use Rattle.codec.specs.Reader.{byte}
 use Rattle.codec.specs.Reads.{formReader, secondReader, firstReader, instructionReader}
-use Rattle.codec.proofs.Bytes.{found-each, form-beyond}
+use Rattle.codec.proofs.Bytes.{found-each, form-beyond, among}
 use Rattle.codec.proofs.FormNumbers.{in-range}
 
 -- a list of what a function gives, at a place
@@ -48,14 +48,18 @@ forms-back : listed (λ k. formOf (entryAt k / 2 ^ 24)) 0 256 ≡ listed formAt 
 unfolding formAt operationAt
 forms-back = refl
 
--- and so do the operations: with each of eight digits after a second byte that has digits, else with any
-abbrev hasDigits : ℕ → Bool
-hasDigits b = isAmong b (0x18 ∷ 0x71 ∷ 0x72 ∷ 0x73 ∷ 0xae ∷ [])
+-- and so do the operations: after a second byte that has digits with each of eight, after another with any
+abbrev withDigits : List ℕ
+withDigits = 0x18 ∷ 0x71 ∷ 0x72 ∷ 0x73 ∷ 0xae ∷ []
 
-abbrev withDigits : ℕ → (ℕ → ℕ → Operation) → ℕ → List Operation
-withDigits digit f b = cond (hasDigits b) (listed (f b) 0 8) (f b digit ∷ [])
+digits-back : (second : ℕ) → isAmong second withDigits ≡ true → listed (operationIn (entryAt second)) 0 8 ≡ listed (operationAt second) 0 8
+unfolding formAt operationAt operationIn shiftOf
+digits-back second e = among (λ b. listed (operationIn (entryAt b)) 0 8 ≡ listed (operationAt b) 0 8) second withDigits e refl refl refl refl refl
 
-operations-back : (digit : ℕ) → listed (withDigits digit (λ b. operationIn (entryAt b))) 0 256 ≡ listed (withDigits digit operationAt) 0 256
+abbrev withAny : (ℕ → Operation) → ℕ → Operation
+withAny f b = cond (isAmong b withDigits) KEEP (f b)
+
+operations-back : (digit : ℕ) → listed (withAny (λ b. operationIn (entryAt b) digit)) 0 256 ≡ listed (withAny (λ b. operationAt b digit)) 0 256
 unfolding formAt operationAt operationIn shiftOf
 operations-back digit = refl
 
@@ -85,12 +89,13 @@ form-is second = by (ltb second 256) refl
 pub operation-is : (second digit : ℕ) → second < 256 → digit < 8 → operationIn (getD opcodeTable second 0) digit ≡ operationAt second digit
 operation-is second digit h g =
     ap (λ (x : ℕ). operationIn x digit) (table-entry second h)
-    ∙ by (hasDigits second) (agree (withDigits digit (λ b. operationIn (entryAt b))) (withDigits digit operationAt) [] 256 second (operations-back digit) h)
+    ∙ by (isAmong second withDigits) refl
+    (agree (withAny (λ b. operationIn (entryAt b) digit)) (withAny (λ b. operationAt b digit)) KEEP 256 second (operations-back digit) h)
   where
-    by : (t : Bool) → cond t (listed (operationIn (entryAt second)) 0 8) (operationIn (entryAt second) digit ∷ [])
-        ≡ cond t (listed (operationAt second) 0 8) (operationAt second digit ∷ []) → operationIn (entryAt second) digit ≡ operationAt second digit
-    by true e = agree (operationIn (entryAt second)) (operationAt second) KEEP 8 digit e g
-    by false e = ap (λ l. getD l 0 KEEP) e
+    by : (t : Bool) → isAmong second withDigits ≡ t → cond t KEEP (operationIn (entryAt second) digit) ≡ cond t KEEP (operationAt second digit)
+        → operationIn (entryAt second) digit ≡ operationAt second digit
+    by true e q = agree (operationIn (entryAt second)) (operationAt second) KEEP 8 digit (digits-back second e) g
+    by false e q = q
 
 -- So it asks for the same bytes as the list.
 pub same-reader : instructionReader (formIn opcodeTable) ≡ instructionReader formAt
