@@ -1,8 +1,8 @@
 -- Our table says of each second byte what the list says: a computation for the 256 bytes. And the number of a first byte's form names that form.
-use Rattle.basis.specs.Names.{List, [], _∷_, ℕ, zero, suc, _+_, _/_, _^_, _≤_, _<_, _≡_, refl, Bool, true, false, cond, _&&_, eqb, leb, ltb, length, getD, _%_}
-use Rattle.basis.proofs.Names.{sym, ap, subst, _∙_, arith, needs, zero-add, add-zero, leb-true, ltb-true, ltb-false, eq-eqb, ne-eqb, List·getD-eq-default}
-use Rattle.lanes.specs.Operations.{Operation, described, KEEP}
-use Rattle.codec.specs.Contents.{OneByte, loops}
+use Rattle.basis.specs.Names.{List, [], _∷_, none, some, ℕ, zero, suc, _+_, _/_, _^_, _≤_, _<_, _≡_, refl, Bool, true, false, cond, _&&_, eqb, leb, ltb, length, getD, _%_}
+use Rattle.basis.proofs.Names.{sym, ap, ap₂, subst, _∙_, arith, needs, zero-add, add-zero, leb-true, ltb-true, ltb-false, eq-eqb, ne-eqb, List·getD-eq-default}
+use Rattle.lanes.specs.Operations.{Operation, Described, described, KEEP}
+use Rattle.codec.specs.Contents.{lines, OneByte, loops}
 use Rattle.codec.specs.Opcodes.{formAt, operationAt, isOf, formOfFirst, formFor, escape}
 use Rattle.codec.specs.Table.{formOf, entryAt, entryOfFirst, listed, opcodeTable, formIn}
 use Rattle.codec.specs.Finding.{entryFor}
@@ -11,7 +11,7 @@ use Rattle.codec.specs.Forms.{absent, isAmong, memorySize}
 use Rattle.codec.specs.declared.Instruction.{Instruction}
 use Rattle.codec.specs.Reader.{byte}
 use Rattle.codec.specs.Reads.{formReader, secondReader, firstReader, instructionReader}
-use Rattle.codec.proofs.Bytes.{found-each, form-beyond, among}
+use Rattle.codec.proofs.Bytes.{allPass, found-each, found-has, form-passes, form-beyond, among}
 use Rattle.codec.proofs.FormNumbers.{in-range}
 
 -- a list of what a function gives, at a place
@@ -27,6 +27,10 @@ length-listed f from (suc count) = ap suc (length-listed f (suc from) count)
 
 at-byte : {A : Type 0} (f : ℕ → A) (z : A) (second : ℕ) → second < 256 → getD (listed f 0 256) second z ≡ f second
 at-byte f z second h = getD-listed f z 0 256 second h ∙ ap f (zero-add second)
+
+same-listed : {A : Type 0} (f g : ℕ → A) → ((k : ℕ) → f k ≡ g k) → (from count : ℕ) → listed f from count ≡ listed g from count
+same-listed f g h from zero = refl
+same-listed f g h from (suc count) = ap₂ _∷_ (h from) (same-listed f g h (suc from) count)
 
 -- two lists of what functions give agree at each place
 pub agree : {A : Type 0} (f g : ℕ → A) (z : A) (count k : ℕ) → listed f 0 count ≡ listed g 0 count → k < count → f k ≡ g k
@@ -63,14 +67,29 @@ operations-back : (digit : ℕ) → listed (withAny (λ b. operationIn (entryAt 
 unfolding formAt operationAt operationIn shiftOf
 operations-back digit = refl
 
--- and so do the sizes of the operands in memory and the lane widths
+-- and so do the sizes of the operands in memory and the lane widths, as each part of an entry is less than 256
+module _ (second : ℕ) where
+  size-fits : memorySize (formAt second) < 256
+  size-fits = ltb-true _ _ (form-passes (λ f. ltb (memorySize f) 256) refl refl second)
+
+  of-operation : (part : Described → ℕ) → part (described KEEP) < 256 → allPass (λ x. ltb (part (described (x .operation))) 256) lines ≡ true
+      → part (described (operationAt second 2)) < 256
+  unfolding operationAt
+  of-operation part z h =
+      found-has (λ x. x .operation) KEEP (λ o. part (described o) < 256) (λ x. eqb second (x .second) && elim (x .digit) [ none ↦ true | some d ↦ eqb 2 d ])
+      (λ x. ltb (part (described (x .operation))) 256) z (λ x e q. ltb-true _ _ q) lines h
+
+  width-fits : described (operationAt second 2) .width < 256
+  width-fits = of-operation (λ o. o .width) (omega arith) refl
+
+  number-fits : described (operationAt second 2) .number < 256
+  number-fits = of-operation (λ o. o .number) (omega arith) refl
+
 pub sizes-back : listed (λ b. entryAt b / 2 ^ 16 % 256) 0 256 ≡ listed (λ b. memorySize (formAt b)) 0 256
-unfolding formAt operationAt
-sizes-back = refl
+sizes-back = same-listed (λ b. entryAt b / 2 ^ 16 % 256) (λ b. memorySize (formAt b)) (λ b. omega (arith, size-fits b, width-fits b, number-fits b)) 0 256
 
 pub widths-back : listed (λ b. entryAt b / 2 ^ 8 % 256) 0 256 ≡ listed (λ b. described (operationAt b 2) .width) 0 256
-unfolding formAt operationAt
-widths-back = refl
+widths-back = same-listed (λ b. entryAt b / 2 ^ 8 % 256) (λ b. described (operationAt b 2) .width) (λ b. omega (arith, width-fits b, number-fits b)) 0 256
 
 -- It has the form of every number.
 pub form-is : (second : ℕ) → formIn opcodeTable second ≡ formAt second
