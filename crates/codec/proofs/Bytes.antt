@@ -1,7 +1,7 @@
 -- What is found in a list: what every line passes is passed by the line found. So it is said of every second byte, of every first byte, and of every
 -- form's number. And what is among the numbers of a list.
-use Rattle.basis.specs.Names.{ℕ, _≤_, _≡_, refl, Bool, true, false, cond, _&&_, _||_, List, [], _∷_, eqb, ltb}
-use Rattle.basis.proofs.Names.{sym, subst, false≢true, arith, ltb-true, le-ltb, eqb-true}
+use Rattle.basis.specs.Names.{ℕ, _≤_, _≡_, refl, Bool, true, false, cond, _&&_, _||_, List, [], _∷_, map, eqb, ltb, getD, drop}
+use Rattle.basis.proofs.Names.{sym, ap, subst, false≢true, arith, ltb-true, le-ltb, eqb-true}
 use Rattle.codec.specs.Forms.{Form, absent, mmreg1·mmreg2/mem64, forms, isAmong}
 use Rattle.codec.specs.Contents.{lines, loops}
 use Rattle.codec.specs.Opcodes.{find, isOf, formAt, formOfFirst, formFor, escape}
@@ -35,6 +35,15 @@ module _ {A B : Type 0} (part : A → B) (default : B) (Q : B → Type 0) (passe
 
   pub found-has : (xs : List A) → allPass test xs ≡ true → Q (find passes part default xs)
   found-has xs h = found-each part default Q passes none xs (each-passed xs h)
+
+-- And two functions agree on what is found, where they do on each in the list
+pub found-same : {A B C : Type 0} (part : A → B) (default : B) (f g : B → C) (passes : A → Bool) → f default ≡ g default
+    → (xs : List A) → map (λ x. f (part x)) xs ≡ map (λ x. g (part x)) xs → f (find passes part default xs) ≡ g (find passes part default xs)
+found-same {A = A} part default f g passes none xs e = found-each part default (λ y. f y ≡ g y) passes none xs (each xs e)
+  where
+    each : (xs : List A) → map (λ x. f (part x)) xs ≡ map (λ x. g (part x)) xs → Each (λ x. passes x ≡ true → f (part x) ≡ g (part x)) xs
+    each [] e = tt
+    each (x ∷ xs) e = (λ p. ap (λ l. getD l 0 (f default)) e, each xs (ap (drop 1) e))
 
 -- the form of a second byte passes a test of forms
 pub form-passes : (test : Form → Bool) → test absent ≡ true → allPass (λ x. test (x .form)) lines ≡ true → (second : ℕ) → test (formAt second) ≡ true

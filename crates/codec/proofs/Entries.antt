@@ -1,4 +1,5 @@
--- Our table says of each second byte what the list says: a computation for the 256 bytes. And the number of a first byte's form names that form.
+-- Our table says of each second byte what the list says: the operations by a computation for the 256 bytes, the other parts by arithmetic. And the
+-- number of a first byte's form names that form.
 use Rattle.basis.specs.Names.{List, [], _∷_, none, some, ℕ, zero, suc, _+_, _/_, _^_, _≤_, _<_, _≡_, refl, Bool, true, false, cond, _&&_, eqb, leb, ltb, length, getD, _%_}
 use Rattle.basis.proofs.Names.{sym, ap, ap₂, subst, _∙_, arith, needs, zero-add, add-zero, leb-true, ltb-true, ltb-false, eq-eqb, ne-eqb, List·getD-eq-default}
 use Rattle.lanes.specs.Operations.{Operation, Described, described, KEEP}
@@ -11,7 +12,7 @@ use Rattle.codec.specs.Forms.{absent, isAmong, memorySize}
 use Rattle.codec.specs.declared.Instruction.{Instruction}
 use Rattle.codec.specs.Reader.{byte}
 use Rattle.codec.specs.Reads.{formReader, secondReader, firstReader, instructionReader}
-use Rattle.codec.proofs.Bytes.{allPass, found-each, found-has, form-passes, form-beyond, among}
+use Rattle.codec.proofs.Bytes.{allPass, found-each, found-same, found-has, form-passes, form-beyond, among}
 use Rattle.codec.proofs.FormNumbers.{in-range}
 
 -- a list of what a function gives, at a place
@@ -28,6 +29,7 @@ length-listed f from (suc count) = ap suc (length-listed f (suc from) count)
 at-byte : {A : Type 0} (f : ℕ → A) (z : A) (second : ℕ) → second < 256 → getD (listed f 0 256) second z ≡ f second
 at-byte f z second h = getD-listed f z 0 256 second h ∙ ap f (zero-add second)
 
+-- functions that agree give the same list
 same-listed : {A : Type 0} (f g : ℕ → A) → ((k : ℕ) → f k ≡ g k) → (from count : ℕ) → listed f from count ≡ listed g from count
 same-listed f g h from zero = refl
 same-listed f g h from (suc count) = ap₂ _∷_ (h from) (same-listed f g h (suc from) count)
@@ -47,27 +49,7 @@ table-past second h =
     let g : length (listed entryAt 0 256) ≤ second = subst (λ (n : ℕ). n ≤ second) (sym (length-listed entryAt 0 256)) h in
     List·getD-eq-default (listed entryAt 0 256) 0 g
 
--- the 256 forms come back from their numbers
-forms-back : listed (λ k. formOf (entryAt k / 2 ^ 24)) 0 256 ≡ listed formAt 0 256
-unfolding formAt operationAt
-forms-back = refl
-
--- and so do the operations: after a second byte that has digits with each of eight, after another with any
-abbrev withDigits : List ℕ
-withDigits = 0x18 ∷ 0x71 ∷ 0x72 ∷ 0x73 ∷ 0xae ∷ []
-
-digits-back : (second : ℕ) → isAmong second withDigits ≡ true → listed (operationIn (entryAt second)) 0 8 ≡ listed (operationAt second) 0 8
-unfolding formAt operationAt operationIn shiftOf
-digits-back second e = among (λ b. listed (operationIn (entryAt b)) 0 8 ≡ listed (operationAt b) 0 8) second withDigits e refl refl refl refl refl
-
-abbrev withAny : (ℕ → Operation) → ℕ → Operation
-withAny f b = cond (isAmong b withDigits) KEEP (f b)
-
-operations-back : (digit : ℕ) → listed (withAny (λ b. operationIn (entryAt b) digit)) 0 256 ≡ listed (withAny (λ b. operationAt b digit)) 0 256
-unfolding formAt operationAt operationIn shiftOf
-operations-back digit = refl
-
--- and so do the sizes of the operands in memory and the lane widths, as each part of an entry is less than 256
+-- each part of an entry but the form's number is less than 256, and the number names the form
 module _ (second : ℕ) where
   size-fits : memorySize (formAt second) < 256
   size-fits = ltb-true _ _ (form-passes (λ f. ltb (memorySize f) 256) refl refl second)
@@ -85,11 +67,40 @@ module _ (second : ℕ) where
   number-fits : described (operationAt second 2) .number < 256
   number-fits = of-operation (λ o. o .number) (omega arith) refl
 
+  form-named : formOf (formAt second .number) ≡ formAt second
+  unfolding formAt
+  form-named = found-same (λ x. x .form) absent (λ f. formOf (f .number)) (λ f. f) (λ x. eqb second (x .second)) refl lines refl
+
+  form-back : formOf (entryAt second / 2 ^ 24) ≡ formAt second
+  form-back =
+      let e : entryAt second / 2 ^ 24 ≡ formAt second .number = omega (arith, size-fits, width-fits, number-fits) in
+      ap formOf e ∙ form-named
+
+-- so the 256 forms come back from their numbers
+forms-back : listed (λ k. formOf (entryAt k / 2 ^ 24)) 0 256 ≡ listed formAt 0 256
+forms-back = same-listed (λ k. formOf (entryAt k / 2 ^ 24)) formAt form-back 0 256
+
+-- and so do the sizes of the operands in memory and the lane widths
 pub sizes-back : listed (λ b. entryAt b / 2 ^ 16 % 256) 0 256 ≡ listed (λ b. memorySize (formAt b)) 0 256
 sizes-back = same-listed (λ b. entryAt b / 2 ^ 16 % 256) (λ b. memorySize (formAt b)) (λ b. omega (arith, size-fits b, width-fits b, number-fits b)) 0 256
 
 pub widths-back : listed (λ b. entryAt b / 2 ^ 8 % 256) 0 256 ≡ listed (λ b. described (operationAt b 2) .width) 0 256
 widths-back = same-listed (λ b. entryAt b / 2 ^ 8 % 256) (λ b. described (operationAt b 2) .width) (λ b. omega (arith, width-fits b, number-fits b)) 0 256
+
+-- and so do the operations: after a second byte that has digits with each of eight, after another with any
+abbrev withDigits : List ℕ
+withDigits = 0x18 ∷ 0x71 ∷ 0x72 ∷ 0x73 ∷ 0xae ∷ []
+
+digits-back : (second : ℕ) → isAmong second withDigits ≡ true → listed (operationIn (entryAt second)) 0 8 ≡ listed (operationAt second) 0 8
+unfolding formAt operationAt operationIn shiftOf
+digits-back second e = among (λ b. listed (operationIn (entryAt b)) 0 8 ≡ listed (operationAt b) 0 8) second withDigits e refl refl refl refl refl
+
+abbrev withAny : (ℕ → Operation) → ℕ → Operation
+withAny f b = cond (isAmong b withDigits) KEEP (f b)
+
+operations-back : (digit : ℕ) → listed (withAny (λ b. operationIn (entryAt b) digit)) 0 256 ≡ listed (withAny (λ b. operationAt b digit)) 0 256
+unfolding formAt operationAt operationIn shiftOf
+operations-back digit = refl
 
 -- It has the form of every number.
 pub form-is : (second : ℕ) → formIn opcodeTable second ≡ formAt second
@@ -98,8 +109,7 @@ form-is second = by (ltb second 256) refl
     by : (t : Bool) → ltb second 256 ≡ t → formIn opcodeTable second ≡ formAt second
     by true e =
         let h = ltb-true second 256 e in
-        ap (λ (x : ℕ). formOf (x / 2 ^ 24)) (table-entry second h)
-        ∙ agree (λ k. formOf (entryAt k / 2 ^ 24)) formAt absent 256 second forms-back h
+        ap (λ (x : ℕ). formOf (x / 2 ^ 24)) (table-entry second h) ∙ form-back second
     by false e =
         let h = ltb-false second 256 e in
         ap (λ (x : ℕ). formOf (x / 2 ^ 24)) (table-past second h) ∙ sym (form-beyond second h)
