@@ -1,6 +1,6 @@
 -- What was read and gathered at once is what the reader finds, and so it is the step. Rules for the functions that read from the start.
 use Rattle.basis.specs.Names.{_≡_, refl, Bool, true, false, List, ℕ, zero, suc, _+_, _/_, _^_, _≤_, eqb, length, getD, drop, replicate}
-use Rattle.basis.proofs.Names.{sym, ap, subst, arith, needs, eq-eqb, eqb-true, eqb-false}
+use Rattle.basis.proofs.Names.{sym, ap, subst, _∙_, arith, needs, eq-eqb, eqb-true}
 use Rattle.codec.specs.Opcodes.{escape}
 use Rattle.codec.specs.Table.{formOf, formIn, opcodeTable}
 use Rattle.codec.specs.Reader.{reads}
@@ -82,9 +82,12 @@ module _ (quick code : List ℕ) (at : ℕ) (registers integers m : List ℕ) (b
           subst (λ (l : List ℕ). findWith l code at .instruction .first ≡ escape → findWith l code at .entry ≡ 0) (sym (o ∙ shut t)) (none-found code at) (q .escaped) in
           absurd (q .present (ap (λ (n : ℕ). n / 2 ^ 24) none))
 
+  ours : quick ≡ opcodeTable
+  unfolding openTable
+  ours = o ∙ simp unbarred
+
   pub gathered-quick : length code ≤ longestCode → length m ≤ longestMemory → Gathered work registers integers bar zero code at m
   gathered-quick code-fits memory-fits =
-      let ours = o ∙ ap openTable unbarred in
       gathered-sorted quick code at x ours refl registers integers m bar zero code-fits memory-fits work (q .passed) (q .escaped) _ refl (none-stops bar (x .entry / 2 ^ 24) unbarred)
       (q .does (is-listed quick code at x ours refl (q .passed) (q .escaped)))
 
