@@ -67,8 +67,8 @@ abbrev pub reg32-in-opcode : Slot
 reg32-in-opcode = opcode integerFile
 
 pub record Form : Type 0 where
-  -- its number in the code's table (0: no instruction; 10 to 13 are not in it: their opcode is one byte); from 15 on are the forms of a destination and
-  -- a source alone, one named by reg, the other by r/m
+  -- its number in the code's table (0: no instruction; 10 to 13 are not in it: their opcode is one byte); from 15 on are the forms of a destination
+  -- and a source alone, one named by reg, the other by r/m
   pub number : ℕ
   -- what reg may be where it is a digit of the opcode; none where it names a register
   pub digits : List ℕ

@@ -9,8 +9,8 @@ use Rattle.codec.specs.Opcodes.{find, formAt, operationAt, formOfFirst}
 abbrev pub formOf : ℕ → Form
 formOf number = find (λ form. eqb number (form .number)) (λ form. form) mmreg1·mmreg2/mem64 forms
 
--- the entry of a second byte (2 is a digit that 71 to 73 and 18 have; AE has no line with it, and computes nothing with its own; other lines don't look
--- at reg)
+-- the entry of a second byte (2 is a digit that 71 to 73 and 18 have; AE has no line with it, and computes nothing with its own; other lines don't
+-- look at reg)
 abbrev pub entryAt : ℕ → ℕ
 entryAt second =
     let form = formAt second in

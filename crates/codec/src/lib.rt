@@ -42,8 +42,8 @@ pub struct Instruction {
     pub immediate: u32,
 }
 
-// What an instruction does to the tag mark, whether the control marks stop it, and which others it meets wherever they read and write. The silent ones
-// touch nothing: the prefetches and SFENCE. Those of loops are MOV, ADD, DEC and JNZ.
+// What an instruction does to the tag mark, whether the control marks stop it, and which others it meets wherever they read and write. The silent
+// ones touch nothing: the prefetches and SFENCE. Those of loops are MOV, ADD, DEC and JNZ.
 pub enum Kind {
     Ordinary,
     Emms,

@@ -33,7 +33,6 @@ ghost use Rattle.machine.specs.inner.Picks.{pickedWork};
 ghost use Rattle.machine.specs.inner.Spots.{otherOf, spotOf};
 ghost use Rattle.machine.specs.inner.Ways.{hasOther, wayOf};
 ghost use Rattle.works.specs.Bars.{openTable};
-ghost use Rattle.works.specs.Works.{workOf, refusedWork};
 ghost use Rattle.machine.specs.inner.Works.{stoppingBy, effectIn, Listed, putWork, takeWork, Does, Gathered};
 
 // The refusal of the control marks, or 0, where they stop the form of an entry; else 0.

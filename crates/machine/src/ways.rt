@@ -17,8 +17,8 @@ ghost use Rattle.basis.specs.Names.{_≡_, _<_};
 ghost use Rattle.machine.specs.inner.Ways.{isUnstopped, isInteger, hasOther, wayOf};
 
 // The tag mark is set empty; nothing is touched; a register is shifted by an immediate; a part of an MMX register goes to an integer register; an MMX
-// register is stored in the operand of r/m, loaded from it, or computed with it; a word of it is inserted, or its words are shuffled; or an MMX register
-// is stored in memory at EDI under a mask.
+// register is stored in the operand of r/m, loaded from it, or computed with it; a word of it is inserted, or its words are shuffled; or an MMX
+// register is stored in memory at EDI under a mask.
 pub(crate) enum Way {
     Empties,
     Passes,

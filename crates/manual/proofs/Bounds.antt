@@ -1,5 +1,5 @@
--- A run stays within its bounds: its position within the code, its count within the budget, its refusal's number of at most two digits; and it changes
--- nothing that is frozen. By its turns: so does each step. Over floor 0 neither 20 nor 21 is given.
+-- A run stays within its bounds: its position within the code, its count within the budget, its refusal's number of at most two digits; and it
+-- changes nothing that is frozen. By its turns: so does each step. Over floor 0 neither 20 nor 21 is given.
 use Rattle.basis.specs.Names.{_≡_, refl, _⊎_, Bool, true, false, cond, List, ℕ, zero, suc, _+_, _≤_, _<_, eqb, ltb, length, drop}
 use Rattle.basis.proofs.Names.{sym, ap, subst, _∙_, inl, inr, ⊎-elim, arith, ltb-true, length-drop}
 use Rattle.reorder.specs.Run.{Answer, finished, spent, stopped, runFrom}

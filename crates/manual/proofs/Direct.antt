@@ -1,5 +1,5 @@
--- What an effect of each shape comes to over a floor, once the control marks are passed, said by its operands' numbers: by cases on where the operands
--- are.
+-- What an effect of each shape comes to over a floor, once the control marks are passed, said by its operands' numbers: by cases on where the
+-- operands are.
 use Rattle.basis.specs.Names.{_≡_, refl, Bool, true, false, cond, List, [], _∷_, _++_, ℕ, zero, suc, _+_, _/_, _%_, length, getD, take, sets}
 use Rattle.basis.proofs.Names.{sym, ap, ap₂, _∙_, append-nil, add-one, arith, take-all}
 use Rattle.words.specs.Number.{number, bytes}

@@ -1,5 +1,5 @@
--- Each refusal of a step is given exactly when there is its reason: the tests stand in the order of documents 01 and 02, the operand test and then the
--- floor's as the last; a jump passes all of these, and is tested for where it goes.
+-- Each refusal of a step is given exactly when there is its reason: the tests stand in the order of documents 01 and 02, the operand test and then
+-- the floor's as the last; a jump passes all of these, and is tested for where it goes.
 use Rattle.basis.specs.Names.{_≡_, refl, Bool, true, false, cond, List, [], _∷_, _++_, _&&_, List·Memᴰ as In, ℕ, zero, suc, _+_, leb, length}
 use Rattle.basis.proofs.Names.{sym, ap, ap₂, subst, _∙_, _↔_, inl, inr, ⊎-elim, false≢true, and-false, List·Memᴰ·head as here, List·Memᴰ·tail as there, leb-false, lt-leb, eqb-true, arith}
 use Rattle.reorder.specs.Result.{Result, done, refused, andThen, mapResult, caseOf}

@@ -1,4 +1,5 @@
--- The table of footprints: for each form of instruction, which places its step reads and writes; footprints over floors, and of instructions in a run.
+-- The table of footprints: for each form of instruction, which places its step reads and writes; footprints over floors, and of instructions in a
+-- run.
 use Rattle.basis.specs.Names.{true, false, List, [], _∷_, _++_, ℕ, replicate}
 use Rattle.reorder.specs.Result.{Result, done, refused}
 use Rattle.reorder.specs.Footprint.{Footprint}

@@ -80,7 +80,8 @@ kinds-exactly i j = (from (emms i) (silent i) (isLoopByte (i .first)) (emms j) (
     to (inl h) = one i j h
     to (inr h) = kinds-turn (kindAt (j .first) (j .second)) (kindAt (i .first) (i .second)) (one j i h)
 
--- "Two instructions meet if one writes a place that the other reads or writes, or if either is EMMS", and the other no prefetch or SFENCE; no others do
+-- "Two instructions meet if one writes a place that the other reads or writes, or if either is EMMS", and the other no prefetch or SFENCE; no others
+-- do
 pub meets-exactly : (floor : ℕ) (i j : Instruction) (s t : State) (f g : places.Footprint Place Kind) → footprint floor i s ≡ done f → footprint floor j t ≡ done g
     → Meets (footprint floor i s) (footprint floor j t) ↔ ((Empties i j ⊎ Empties j i) ⊎ places.Share f g)
 meets-exactly floor i j s t f g ef eg =

@@ -122,8 +122,8 @@ extension =
     -- SFENCE
     ∷ (0xae, λ w immediate. bare Silent) ∷ []
 
--- "immediate shifts of W, D, Q: /2 right logical, /4 right arithmetic (71 and 72 only), /6 left": the byte, the digit, and what the register becomes by a
--- count
+-- "immediate shifts of W, D, Q: /2 right logical, /4 right arithmetic (71 and 72 only), /6 left": the byte, the digit, and what the register becomes
+-- by a count
 abbrev shifts : List (ℕ × (ℕ × (ℕ → ℕ → ℕ)))
 shifts =
     (0x71, (2, packed (shift right) 16)) ∷ (0x71, (4, packed (shift rightSigned) 16)) ∷ (0x71, (6, packed (shift left) 16))

@@ -1,5 +1,5 @@
--- Refusal 14 in the customer's words: a byte of the operand that r/m names is outside the memory, and its base register is ESP or EBP. An index of EBP
--- does not count, nor does mod 00 with 101; MASKMOVQ's operand and a register are never 14.
+-- Refusal 14 in the customer's words: a byte of the operand that r/m names is outside the memory, and its base register is ESP or EBP. An index of
+-- EBP does not count, nor does mod 00 with 101; MASKMOVQ's operand and a register are never 14.
 use Rattle.basis.specs.Names.{_≡_, refl, _⊎_, Bool, true, false, List, ℕ, _+_, _<_, eqb, length}
 use Rattle.basis.proofs.Names.{sym, ap, subst, _∙_, _↔_, inl, inr, false≢true, and-false, arith, eqb-true, eqb-false, eq-eqb, ne-eqb}
 use Rattle.codec.specs.Operands.{hasSib}

@@ -1,5 +1,5 @@
--- Refusal 21 in the customer's words: a store with a byte below the floor, so with its first one, and with all in the memory. The stores are 0F 7E, 7F
--- and E7 where r/m names no register, and 0F F7, whatever its mask.
+-- Refusal 21 in the customer's words: a store with a byte below the floor, so with its first one, and with all in the memory. The stores are 0F 7E,
+-- 7F and E7 where r/m names no register, and 0F F7, whatever its mask.
 use Rattle.basis.specs.Names.{_≡_, refl, Bool, true, false, _||_, List, [], _∷_, map, List·Memᴰ as In, ℕ, _+_, _%_, _<_, _≤_, eqb, length}
 use Rattle.basis.proofs.Names.{sym, ap, subst, subst₂, _∙_, _↔_, inr, false≢true, or-false, List·Memᴰ·head as here, List·Memᴰ·tail as there, List·Memᴰ·eq-of-singleton as eq-of-singleton, arith, decLt, eqb-true, ne-eqb}
 use Rattle.codec.specs.Forms.{File, mmxFile, integerFile, Slot, reg, rm, rm/mem, mem, edi, fixed, opcode, zeroSlot, absent, isAmong}

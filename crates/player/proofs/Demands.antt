@@ -10,22 +10,23 @@ pub use Rattle.pagefile.proofs.Allowed.{read-one as page-one, code-one, memory-
 pub use Rattle.printout.proofs.Allowed.{buffer-one, report-one, refusal-one}
 pub use Rattle.player.proofs.Allowed.{play-one}
 pub use Rattle.player.proofs.Whole.{whole}
--- "Bad input is refused by the numbers in document 01": 2 to 6 of reading, 11 and 12 of writing, 1 to 10 of a step, 13 of a file, each given exactly when
--- document 01 says, 14 of a step, when document 02's Req 04 says, 19, when Req 07 does, and 20 and 21, when Req 08 does; and whichever function is
--- asked, the number is the same.
+-- "Bad input is refused by the numbers in document 01": 2 to 6 of reading, 11 and 12 of writing, 1 to 10 of a step, 13 of a file, each given exactly
+-- when document 01 says, 14 of a step, when document 02's Req 04 says, 19, when Req 07 does, and 20 and 21, when Req 08 does; and whichever function
+-- is asked, the number is the same.
 pub use Rattle.codec.proofs.Exactly.{reading-exactly, twelve-exactly}
 pub use Rattle.codec.proofs.Sixes.{six-in-words}
 pub use Rattle.codec.proofs.Theorems.{eleven-exactly}
 pub use Rattle.manual.proofs.Exactly.{step-exactly}
 pub use Rattle.manual.proofs.StackBases.{fourteen-in-words}
+pub use Rattle.manual.proofs.JumpTargets.{nineteen-in-words}
 pub use Rattle.manual.proofs.Stores.{twenty-one-in-words, stores-exactly}
 pub use Rattle.machine.proofs.Agreeing.{reading-as-step, footprint-as-step, run-as-step}
 pub use Rattle.pagefile.proofs.Meaning.{thirteen-exactly}
 -- "A refused instruction changes no register, mark or memory byte; a refused run keeps what earlier instructions did."
 pub use Rattle.manual.proofs.Refusals.{refused-step, refused-run}
--- 2. "Reading, writing and running agree with AMD's multimedia manual for all 47 of its instructions", and by document 02's Req 01 with manual 000 for
--- the 19 that it adds, and by Req 07 with the AMD64 manual for the four of loops. The definitions are computed from the lists of their headings, which
--- are complete and say what document 01's table, manual 000's and the AMD64 manual's say.
+-- 2. "Reading, writing and running agree with AMD's multimedia manual for all 47 of its instructions", and by document 02's Req 01 with manual 000
+-- for the 19 that it adds, and by Req 07 with the AMD64 manual for the four of loops. The definitions are computed from the lists of their headings,
+-- which are complete and say what document 01's table, manual 000's and the AMD64 manual's say.
 pub use Rattle.codec.proofs.Headings.{complete}
 pub use Rattle.codec.proofs.OpcodeBytes.{first-bytes, second-bytes}
 pub use Rattle.manual.proofs.OpcodeTable.{agrees, loops-agree}
@@ -37,10 +38,10 @@ pub use Rattle.codec.proofs.Theorems.{read-writes-back, written-reads-back, rea
 pub use Rattle.manual.proofs.Turns.{turn}
 pub use Rattle.manual.proofs.Computed.{computed}
 pub use Rattle.manual.proofs.Uses.{tag-after, emms-leaves, silent-passes, goes-by-reads, step-alike, changes-writes, footprint-exactly}
--- 3. "Put its instructions in any other order that keeps, for each pair whose footprints meet in that run, the earlier one earlier. .. the new block also
--- runs to its end, in as many instructions, and leaves exactly the registers, tag mark and memory." Of a block without a jump, and the zero mark too, by
--- Req 07. Over the definitions, and over calls of the program's own functions; such calls can be had; and which instructions meet: EMMS every other
--- but prefetches and SFENCE, which meet none; ADD and DEC each other and a jump.
+-- 3. "Put its instructions in any other order that keeps, for each pair whose footprints meet in that run, the earlier one earlier. .. the new block
+-- also runs to its end, in as many instructions, and leaves exactly the registers, tag mark and memory." Of a block without a jump, and the zero mark
+-- too, by Req 07. Over the definitions, and over calls of the program's own functions; such calls can be had; and which instructions meet: EMMS every
+-- other but prefetches and SFENCE, which meet none; ADD and DEC each other and a jump.
 pub use Rattle.manual.proofs.Demand3.{demand-3, footprint-asked, rearranged-parts}
 pub use Rattle.manual.proofs.Meeting.{meets-exactly, meeting-symmetric, silent-meets-none, emms-meets-loops, counts-meet, jump-meets-counts, jumps-apart}
 pub use Rattle.machine.proofs.Positions.{meet-at}

@@ -1,4 +1,5 @@
--- The control marks in their order, EM before TS before pending, and the table that goes with them; the bytes of an operand below the memory's length.
+-- The control marks in their order, EM before TS before pending, and the table that goes with them; the bytes of an operand below the memory's
+-- length.
 use Rattle.basis.specs.Names.{_≡_, refl, Bool, true, false, ℕ, _+_, _-_, _≤_, _<_, leb, List, replicate}
 use Rattle.basis.proofs.Names.{sym, _∙_, arith, needs, ne-eqb, le-leb, lt-leb, leb-true, leb-false}
 use Rattle.codec.specs.Table.{opcodeTable}

@@ -51,8 +51,8 @@ left moved registers integers memory = record { moved = moved; mmx = registers; 
 abbrev pub movedTo : ℕ → ℕ → Bool → Bool → Moved
 movedTo refusal next valid zero = record { refusal = refusal; next = next; valid = valid; zero = zero }
 
--- what a work leaves over a floor, at a position, with these two marks: an operation on an MMX register, a store, a move to an integer register, the tag
--- mark set empty, nothing, an integer register set, the same with the zero mark, or a refusal
+-- what a work leaves over a floor, at a position, with these two marks: an operation on an MMX register, a store, a move to an integer register, the
+-- tag mark set empty, nothing, an integer register set, the same with the zero mark, or a refusal
 unfoldable pub leftBy : Work → ℕ → ℕ → Bool → Bool → List ℕ → List ℕ → List ℕ → Left
 leftBy work floor at valid zero registers integers memory =
     let register = work .place % 8 in

@@ -32,8 +32,8 @@ fn put_low(integers: &mut [u32; 8], register: usize, value: u64)
 // How many registers there are of either sort.
 const REGISTERS: usize = 8;
 
-// A work done over a floor, where the instruction is at this position, `valid` is the tag mark and `zero` the zero mark. A register's number is taken by
-// its three low bits.
+// A work done over a floor, where the instruction is at this position, `valid` is the tag mark and `zero` the zero mark. A register's number is taken
+// by its three low bits.
 pub fn perform(
     work: Work,
     mmx: &mut [u64; 8],

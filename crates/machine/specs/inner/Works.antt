@@ -66,8 +66,8 @@ numbers = numbersIn forms
 abbrev pub isListed : ℕ → Bool
 isListed form = isAmong form numbers
 
--- what is said of every entry of the table that is read: its form is one of the list, and not absent; its size is the form's; and so is its operation,
--- where one alone has the form
+-- what is said of every entry of the table that is read: its form is one of the list, and not absent; its size is the form's; and so is its
+-- operation, where one alone has the form
 pub record Listed (entry : ℕ) : Type 0 where
   pub listed : isListed (entry / 2 ^ 24) ≡ true
   pub present : entry / 2 ^ 24 ≡ 0 → ⊥
@@ -117,8 +117,8 @@ pub record Does (work : Work) (registers integers memory : List ℕ) (e : Effect
   pub sound : Sound work
   pub does : (floor : ℕ) (marks : Marks) (at : ℕ) → let s = stateOf (machineOf registers integers marks) memory in performed floor work at s ≡ concluded at further s (directly floor e s)
 
--- a work does what the step at a position of the code does, over every floor in the memory and for all marks whose refusal is `bar` and whose zero mark
--- is `zero`
+-- a work does what the step at a position of the code does, over every floor in the memory and for all marks whose refusal is `bar` and whose zero
+-- mark is `zero`
 pub record Gathered (work : Work) (registers integers : List ℕ) (bar : ℕ) (zero : Bool) (code : List ℕ) (at : ℕ) (memory : List ℕ) : Type 0 where
   pub sound : Sound work
   pub steps : (floor : ℕ) → floor ≤ length memory → (marks : Marks) → bar ≡ barredBy marks → zero ≡ marks .zero → let s = stateOf (machineOf registers integers marks) memory in performed floor work at s ≡ stepAt floor code at s

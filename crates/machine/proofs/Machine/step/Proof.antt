@@ -1,5 +1,5 @@
--- `Machine::step` meets its contract: it refuses what is too long, a floor that is too high and a position at or past the code's end, and else answers
--- as the run of one instruction ended.
+-- `Machine::step` meets its contract: it refuses what is too long, a floor that is too high and a position at or past the code's end, and else
+-- answers as the run of one instruction ended.
 use Rattle.basis.proofs.Names.{needs}
 use Rattle.machine.proofs.laws.running.Answering.{answering}
 use Rattle.machine.proofs.Machine.step.Statement.{statement}

@@ -1,4 +1,5 @@
--- What each way reads and writes, for any operand: the masks of places one after the other are the masks of both. Rules for what the code makes of a way.
+-- What each way reads and writes, for any operand: the masks of places one after the other are the masks of both. Rules for what the code makes of a
+-- way.
 use Rattle.basis.specs.Names.{_≡_, refl, Bool, true, false, cond, List, [], _∷_, _++_, map, ℕ, _^_}
 use Rattle.basis.proofs.Names.{sym, ap, _∙_, append-nil, needs, or-zero-l}
 use Rattle.reorder.specs.Result.{Result, done, refused, andThen, mapResult}

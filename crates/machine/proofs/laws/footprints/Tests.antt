@@ -1,5 +1,5 @@
--- The tests before the footprint, in the order of a step's: the memory's length, the reader's, where an instruction of loops goes on, the control marks.
--- Rules for their answers.
+-- The tests before the footprint, in the order of a step's: the memory's length, the reader's, where an instruction of loops goes on, the control
+-- marks. Rules for their answers.
 use Rattle.basis.specs.Names.{_≡_, refl, List, ℕ, _-_, _/_, _^_, _+_, _≤_, _<_, length}
 use Rattle.basis.proofs.Names.{sym, ap, _∙_, arith, needs, lt-ltb}
 use Rattle.reorder.specs.Result.{Result, done, refused, andThen, mapResult}

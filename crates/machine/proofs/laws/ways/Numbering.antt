@@ -1,5 +1,5 @@
--- The forms by their numbers in the table, each with its way: those of a destination and a source whatever register file and size r/m has. Rules for the
--- functions that sort them.
+-- The forms by their numbers in the table, each with its way: those of a destination and a source whatever register file and size r/m has. Rules for
+-- the functions that sort them.
 use Rattle.basis.specs.Names.{_≡_, refl, _⊎_, Bool, true, false, cond, _||_, some, [], _∷_, ℕ, _/_, _%_, _^_, _≤_, _<_, eqb, leb}
 use Rattle.basis.proofs.Names.{sym, ap, subst, _∙_, inl, inr, false≢true, arith, needs, ne-eqb, le-leb, lt-leb, le-ltb, lt-ltb}
 use Rattle.words.specs.Number.{bytes}
