@@ -9,7 +9,7 @@ use codec::modes::NO_BASE;
 use codec::modes::SIB;
 ghost use Rattle.basis.specs.Names.{_≡_, _+_, _*_, _/_, _%_, _^_, _≤_, _<_, length};
 ghost use Rattle.codec.specs.Operands.{displacementSize};
-ghost use Rattle.manual.specs.Addresses.{displacementOf, baseOf, indexOf, registerPart};
+ghost use Rattle.manual.specs.Addresses.{baseOf, indexOf, registerPart};
 ghost use Rattle.machine.specs.inner.Pointers.{Unless, Displaced, Points};
 
 // The operand's address, and the position after its bytes in the code; a position of 0 where they do not all lie in the code.
@@ -30,18 +30,6 @@ const LONG: u8 = UPPER * LONG_DISPLACEMENT;
 
 // How many bytes a long displacement has.
 const LONG_BYTES: usize = 4;
-
-// A byte's top bit, and what extends the sign of a byte with that bit turned over.
-const SIGN: u32 = 0x80;
-
-const TURNED_EXTENSION: u32 = 0xffffff80;
-
-// The byte with its sign extended.
-fn extended(byte: u8) -> u32
-    ensures { λ r. ⌜ r ≡ displacementOf 1 byte % 2 ^ 32 ⌝ }
-{
-    std::num::wrapping_add_u32(byte as u32 ^ SIGN, TURNED_EXTENSION)
-}
 
 // A displacement of four bytes.
 fn past_long(start: u32, code: &[u8], at: usize) -> Pointer
@@ -70,7 +58,7 @@ fn past_displacement(start: u32, code: &[u8], at: usize, modrm: u8) -> Pointer
         return NOWHERE;
     }
     Pointer {
-        address: std::num::wrapping_add_u32(start, extended(code[at])),
+        address: std::num::wrapping_add_u32(start, works::extended(code[at])),
         next: at + 1,
     }
 }

@@ -18,6 +18,8 @@ use Rattle.works.proofs.inside.is_inside.Reads as is-inside-reads
 use Rattle.works.proofs.inside.is_inside.Kinds as is-inside-kinds
 use Rattle.works.proofs.performing.perform.Reads as perform-reads
 use Rattle.works.proofs.performing.perform.Kinds as perform-kinds
+use Rattle.works.proofs.signs.extended.Reads as extended-reads
+use Rattle.works.proofs.signs.extended.Kinds as extended-kinds
 
 pub work-of-one : (κs : Lfts 0) (a : Dens κs work-of-kinds.ps) (r₁ r₂ : resT work-of-kinds.r κs .Denot)
     (s₁ s₂ : AtExit (endedOf 0 work-of-kinds.ps work-of-kinds.r) κs)
@@ -51,3 +53,8 @@ pub perform-one : (κs : Lfts 3) (a : Dens κs perform-kinds.ps) (r₁ r₂ : re
 perform-one κs a r₁ r₂ s₁ s₂ p q =
     let same = p ∙ sym q in
     (ap (λ (x : Left). x .moved) same, (ap (λ (x : Left). x .mmx) same, (ap (λ (x : Left). x .integers) same, ap (λ (x : Left). x .memory) same)))
+
+pub extended-one : (κs : Lfts 0) (a : Dens κs extended-kinds.ps) (r₁ r₂ : resT extended-kinds.r κs .Denot)
+    (s₁ s₂ : AtExit (endedOf 0 extended-kinds.ps extended-kinds.r) κs)
+    → extended-reads.Post κs a r₁ s₁ → extended-reads.Post κs a r₂ s₂ → r₁ ≡ r₂
+extended-one κs a r₁ r₂ s₁ s₂ p q = p ∙ sym q

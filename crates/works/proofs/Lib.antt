@@ -1,4 +1,5 @@
 -- The laws of what tests and of what does a work, and the theorems that each contract allows one answer.
 pub mod Testing
 pub mod Ending
+pub mod Extending
 pub mod Allowed

@@ -3,12 +3,14 @@ mod bars;
 mod inside;
 mod performing;
 pub mod refusals;
+mod signs;
 
 pub use bars::barred;
 pub use bars::table;
 pub use inside::is_inside;
 pub use performing::Moved;
 pub use performing::perform;
+pub use signs::extended;
 ghost use Rattle.basis.specs.Names.{_≡_};
 ghost use Rattle.works.specs.Works.{workOf, refusedWork};
 

@@ -1,8 +1,7 @@
 -- Past the bytes of an operand in memory: what the code has read is what the reader reads, and what it has summed up is the address. Rules for the
 -- functions of pointers.
-use Rattle.basis.specs.Names.{_≡_, refl, Bool, false, true, cond, some, List, ℕ, _+_, _*_, _/_, _%_, _^_, _≤_, _<_, bitXor, eqb, length, getD, take, drop}
-use Rattle.basis.proofs.Names.{sym, ap, subst, _∙_, dite, decLe, add-zero, zero-add, add-mod-mod, mod-add-mod, mod-mod, and-false, or-false, arith, needs, eq-eqb, ne-eqb, le-leb, lt-leb}
-use Rattle.lanes.proofs.TopBits.{turn-low, turn-high}
+use Rattle.basis.specs.Names.{_≡_, refl, Bool, false, true, cond, some, List, ℕ, _+_, _*_, _/_, _%_, _^_, _≤_, _<_, eqb, length, getD, take, drop}
+use Rattle.basis.proofs.Names.{sym, ap, subst, _∙_, add-zero, zero-add, add-mod-mod, mod-add-mod, mod-mod, and-false, or-false, arith, needs, eq-eqb, ne-eqb, le-leb}
 use Rattle.words.specs.Number.{number}
 use Rattle.words.specs.Buffer.{loaded}
 use Rattle.codec.specs.Operands.{hasSib, displacementSize, operandOf}
@@ -21,15 +20,6 @@ no-pointer A = record { holds = λ h. absurd (h refl) }
 
 pub follows : {none A B : Type 0} → (A → B) → Unless none A → Unless none B
 follows f u = record { holds = λ h. f (u .holds h) }
-
--- a byte's sign is extended from its top bit turned over
-pub byte-extended : (d r : ℕ) → d < 256 → r ≡ (bitXor d 128 + 0xffffff80) % 2 ^ 32 → r ≡ displacementOf 1 d % 2 ^ 32
-unfolding displacementOf
-byte-extended d r h e =
-    e
-    ∙ dite (decLe 128 d)
-    (λ k. rw (turn-high 8 128 refl refl (omega arith) d k (omega arith), le-leb 128 d k) (omega arith))
-    (λ k. rw (turn-low 8 128 refl refl (omega arith) d (omega arith), lt-leb 128 d (omega arith)) (omega arith))
 
 module _ (start : ℕ) (code : List ℕ) (at : ℕ) where
   -- no displacement, a byte, and four bytes
@@ -196,4 +186,4 @@ pub ruleset basing = (needs, base-displaced, base-bare, base-absent, index-scale
 
 pub ruleset pointing = (needs, no-pointer, points-plain, points-sib)
 
-pub ruleset displacing = (needs, no-pointer, byte-extended, past-byte, past-four, past-long)
+pub ruleset displacing = (needs, no-pointer, past-byte, past-four, past-long)
