@@ -5,7 +5,6 @@ use crate::Tracing;
 use crate::addresses;
 use crate::gathering;
 use crate::reaches;
-use crate::refusals::JUMPS_OUTSIDE;
 use codec::Instruction;
 use codec::Kind;
 use codec::fields::VALUES;
@@ -16,25 +15,21 @@ use codec::forms::SET;
 use codec::modes::BYTE_DISPLACEMENT;
 use works::COUNT;
 use works::PASS;
+use works::Target;
 use works::Work;
 use works::work_of;
-ghost use Rattle.basis.specs.Names.{_≡_, not, cond, _+_, _/_, _%_, _^_, _≤_, _<_, getD};
+ghost use Rattle.basis.specs.Names.{_≡_, not, cond, _+_, _/_, _%_, _^_, _<_, getD};
 ghost use Rattle.reorder.specs.Result.{done, mapResult};
 ghost use Rattle.codec.specs.inner.Fields.{Registers};
-ghost use Rattle.codec.specs.Reads.{longestCode};
 ghost use Rattle.manual.specs.Jumps.{jumped};
 ghost use Rattle.machine.specs.Footprints.{paperOfFootprint};
-ghost use Rattle.machine.specs.inner.Loops.{Looping, onwardBy, paperOfTarget, targetWithin, landing, Loops, countingFootprint, loopFootprint};
+ghost use Rattle.machine.specs.inner.Loops.{Looping, onwardBy, landing, Loops, countingFootprint, loopFootprint};
+ghost use Rattle.works.specs.Jumps.{paperOfTarget};
 ghost use Rattle.works.specs.Works.{toCount, workOf};
 ghost use Rattle.machine.specs.inner.Works.{effectIn};
 
 // What minus 1 is in 32 bits.
 const MINUS_ONE: u32 = 0xffffffff;
-
-// The least byte that stands for a negative displacement, and how many values a displacement has.
-const SIGN: usize = 128;
-
-const DISPLACEMENTS: usize = 256;
 
 // The zero mark alone.
 const ZERO_MARK: Places = Places {
@@ -45,39 +40,14 @@ const ZERO_MARK: Places = Places {
     zero: true,
 };
 
-// Where a run goes on: at a position, or the refusal of a jump.
-pub(crate) enum Target {
-    At(usize),
-    Refused(u8),
-}
-
-// The target, where this is 256 more, in a code of so many bytes.
-fn within(length: usize, ahead: usize) -> Target
-    requires { ⌜ length ≤ longestCode ⌝ }
-    ensures { λ r. ⌜ paperOfTarget r ≡ targetWithin length ahead ⌝ }
-{
-    if ahead < DISPLACEMENTS {
-        return Target::Refused(JUMPS_OUTSIDE);
-    }
-    if length + DISPLACEMENTS < ahead {
-        return Target::Refused(JUMPS_OUTSIDE);
-    }
-    Target::At(ahead - DISPLACEMENTS)
-}
-
-// Where a jump by a signed byte leads, with the position behind it, in a code of so many bytes: it is taken where the zero mark is clear.
-fn target_of(zero: bool, length: usize, behind: usize, displacement: u32) -> Target
-    requires { ⌜ (length ≤ longestCode) × (behind ≤ length) ⌝ }
+// Where a run goes on after a jump, with the position behind it, in a code of so many bytes: the jump is taken where the zero mark is clear.
+fn onward(zero: bool, length: usize, behind: usize, displacement: u32) -> Target
     ensures { λ r. ⌜ paperOfTarget r ≡ cond (not zero) (jumped length behind displacement) (done behind) ⌝ }
 {
     if zero {
         return Target::At(behind);
     }
-    let byte = displacement as usize;
-    if byte < SIGN {
-        return within(length, behind + byte + DISPLACEMENTS);
-    }
-    within(length, behind + byte)
+    works::target_of(length, behind, displacement)
 }
 
 // An integer register to which a number is added, in 32 bits.
@@ -91,10 +61,9 @@ fn counted(integers: &[u32; 8], register: usize, addend: u32, next: usize) -> Wo
 
 // A jump: nothing remains but to go on at its target.
 fn jump(zero: bool, length: usize, next: usize, displacement: u32) -> Work
-    requires { ⌜ (length ≤ longestCode) × (next ≤ length) ⌝ }
     ensures { λ r. ⌜ r ≡ landing (cond (not zero) (jumped length next displacement) (done next)) ⌝ }
 {
-    match target_of(zero, length, next, displacement) {
+    match onward(zero, length, next, displacement) {
         Target::At(target) => work_of(PASS, 0, 0, 0, target),
         Target::Refused(refusal) => works::refused(refusal),
     }
@@ -109,7 +78,7 @@ pub(crate) fn looped(
     length: usize,
     next: usize,
 ) -> Work
-    requires { ⌜ Registers (instruction .operand) × (Looping entry instruction × ((length ≤ longestCode) × (next ≤ length))) ⌝ }
+    requires { ⌜ Registers (instruction .operand) × Looping entry instruction ⌝ }
     ensures { λ r. ⌜ Loops r (now (integers .entry)) (effectIn entry instruction) (onwardBy length instruction zero next) ⌝ }
 {
     let form = entry / FORM;
@@ -157,7 +126,7 @@ pub(crate) fn traced(
     length: usize,
     next: usize,
 ) -> Tracing
-    requires { ⌜ Registers (instruction .operand) × (Looping entry instruction × ((length ≤ longestCode) × (next ≤ length))) ⌝ }
+    requires { ⌜ Registers (instruction .operand) × Looping entry instruction ⌝ }
     ensures { λ r. ⌜ paperOfFootprint r ≡ mapResult (λ position. loopFootprint (entry / 2 ^ 24) instruction) (onwardBy length instruction zero next) ⌝ }
 {
     let form = entry / FORM;
@@ -176,7 +145,7 @@ pub(crate) fn traced(
     if form == DECREMENT {
         return Tracing::Traced(counting(register));
     }
-    match target_of(zero, length, next, instruction.immediate) {
+    match onward(zero, length, next, instruction.immediate) {
         Target::At(_) => Tracing::Traced(Footprint {
             reads: ZERO_MARK,
             writes: reaches::NOWHERE,

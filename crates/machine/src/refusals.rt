@@ -9,6 +9,4 @@ pub(crate) const OUTSIDE_MEMORY: u8 = 10;
 
 pub(crate) const OUTSIDE_BY_STACK: u8 = 14;
 
-pub(crate) const JUMPS_OUTSIDE: u8 = 19;
-
 pub(crate) const FLOOR_TOO_HIGH: u8 = 20;

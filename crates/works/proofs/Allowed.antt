@@ -5,6 +5,9 @@ use contract.Lifetimes.{Lfts}
 use borrow.Fn.Kinds.{Dens, resT, endedOf}
 use denote.Triple.Clauses.{AtExit}
 use denote.Ref.{now}
+use Rattle.works.specs.declared.jumps.Target.{Target}
+use Rattle.works.specs.declared.jumps.Target.the-variants.{At, Refused}
+use Rattle.works.specs.Jumps.{paperOfTarget}
 use Rattle.works.specs.Works.{Left}
 use Rattle.works.proofs.work_of.Reads as work-of-reads
 use Rattle.works.proofs.work_of.Kinds as work-of-kinds
@@ -16,6 +19,8 @@ use Rattle.works.proofs.bars.table.Reads as table-reads
 use Rattle.works.proofs.bars.table.Kinds as table-kinds
 use Rattle.works.proofs.inside.is_inside.Reads as is-inside-reads
 use Rattle.works.proofs.inside.is_inside.Kinds as is-inside-kinds
+use Rattle.works.proofs.jumps.target_of.Reads as target-of-reads
+use Rattle.works.proofs.jumps.target_of.Kinds as target-of-kinds
 use Rattle.works.proofs.performing.perform.Reads as perform-reads
 use Rattle.works.proofs.performing.perform.Kinds as perform-kinds
 use Rattle.works.proofs.signs.extended.Reads as extended-reads
@@ -45,6 +50,17 @@ pub is-inside-one : (κs : Lfts 0) (a : Dens κs is-inside-kinds.ps) (r₁ r₂ 
     (s₁ s₂ : AtExit (endedOf 0 is-inside-kinds.ps is-inside-kinds.r) κs)
     → is-inside-reads.Post κs a r₁ s₁ → is-inside-reads.Post κs a r₂ s₂ → r₁ ≡ r₂
 is-inside-one κs a r₁ r₂ s₁ s₂ p q = p ∙ sym q
+
+target-one : (x y : Target) → paperOfTarget x ≡ paperOfTarget y → x ≡ y
+target-one (At a) (At b) e = cc
+target-one (At a) (Refused n) e = cc
+target-one (Refused m) (At b) e = cc
+target-one (Refused m) (Refused n) e = cc
+
+pub target-of-one : (κs : Lfts 0) (a : Dens κs target-of-kinds.ps) (r₁ r₂ : resT target-of-kinds.r κs .Denot)
+    (s₁ s₂ : AtExit (endedOf 0 target-of-kinds.ps target-of-kinds.r) κs)
+    → target-of-reads.Post κs a r₁ s₁ → target-of-reads.Post κs a r₂ s₂ → r₁ ≡ r₂
+target-of-one κs a r₁ r₂ s₁ s₂ p q = target-one r₁ r₂ (p ∙ sym q)
 
 pub perform-one : (κs : Lfts 3) (a : Dens κs perform-kinds.ps) (r₁ r₂ : resT perform-kinds.r κs .Denot)
     (s₁ s₂ : AtExit (endedOf 3 perform-kinds.ps perform-kinds.r) κs)

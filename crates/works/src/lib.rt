@@ -1,6 +1,7 @@
-// What remains to be done of an instruction, as plain numbers, and what does it.
+// What remains to be done of an instruction, as plain numbers, and what does it; its tests, and where a jump leads.
 mod bars;
 mod inside;
+mod jumps;
 mod performing;
 pub mod refusals;
 mod signs;
@@ -8,6 +9,8 @@ mod signs;
 pub use bars::barred;
 pub use bars::table;
 pub use inside::is_inside;
+pub use jumps::Target;
+pub use jumps::target_of;
 pub use performing::Moved;
 pub use performing::perform;
 pub use signs::extended;

@@ -1,15 +1,12 @@
 -- What the code knows of an instruction of loops, and what it makes of one.
-use Rattle.basis.specs.Names.{_≡_, Bool, true, not, cond, _&&_, List, ℕ, _+_, _-_, _/_, _%_, _^_, _≤_, eqb, leb}
+use Rattle.basis.specs.Names.{_≡_, Bool, true, not, cond, _&&_, List, ℕ, _/_, _%_, _^_, _≤_, eqb}
 use Rattle.reorder.specs.Result.{Result, done, refused}
 use Rattle.codec.specs.declared.Instruction.{Instruction}
 use Rattle.codec.specs.declared.Kind.the-variants.{Loop}
-use Rattle.manual.specs.Refusals.{jumpsOutside}
 use Rattle.manual.specs.Effects.{Effect}
 use Rattle.manual.specs.Jumps.{isJump, jumped}
 use Rattle.machine.specs.declared.Footprint.{Footprint}
 use Rattle.works.specs.declared.Work.{Work}
-use Rattle.machine.specs.declared.loops.Target.{Target}
-use Rattle.machine.specs.declared.loops.Target.the-variants.{At, Refused}
 use Rattle.works.specs.Works.{toPass, workOf, refusedWork}
 use Rattle.machine.specs.inner.Works.{Does}
 use Rattle.machine.specs.inner.Reaches.{nowhere, integerAlone}
@@ -23,15 +20,6 @@ pub record Looping (entry : ℕ) (i : Instruction) : Type 0 where
 -- where a run goes on, by the zero mark alone
 unfoldable pub onwardBy : ℕ → Instruction → Bool → ℕ → Result ℕ
 onwardBy length i zero behind = cond (isJump i && not zero) (jumped length behind (i .immediate)) (done behind)
-
--- a target as a position, or its refusal
-abbrev pub paperOfTarget : Target → Result ℕ
-paperOfTarget (At position) = done position
-paperOfTarget (Refused n) = refused n
-
--- the target of a jump in a code of so many bytes, where this is 256 more
-abbrev pub targetWithin : ℕ → ℕ → Result ℕ
-targetWithin length ahead = cond (leb 256 ahead && leb ahead (length + 256)) (done (ahead - 256)) (refused jumpsOutside)
 
 -- what remains of a jump that leads there
 abbrev pub landing : Result ℕ → Work

@@ -1,6 +1,6 @@
 -- `Machine::footprint` meets its contract: its tests are those of a step, in their order, and then the instruction has its footprint.
 use Rattle.machine.proofs.laws.footprints.Tests.{traced-looped, position-rules}
-use Rattle.machine.proofs.laws.gathering.Fetching.{names-registers, is-looping, found-within}
+use Rattle.machine.proofs.laws.gathering.Fetching.{names-registers, is-looping}
 use Rattle.machine.proofs.Machine.footprint.Statement.{statement}
 use Rattle.machine.proofs.Machine.footprint.Tie as tie
 
@@ -15,7 +15,7 @@ footprint-spec =
     let table = reading .before .before .table .ensures in
     let passed = c .before .before .before .if3 .left in
     let found = reading .read-from .ensures in
-    (names-registers _ _ _ _ table found, (is-looping _ _ _ _ table found passed (c .if4 .taken), (reading .before .before .before .if2 .left, found-within _ _ _ _ table found passed))))
+    (names-registers _ _ _ _ table found, is-looping _ _ _ _ table found passed (c .if4 .taken)))
     (λ c.
     let reading = c .before .before .before .before .before in
     let limits = reading .before .before .before in

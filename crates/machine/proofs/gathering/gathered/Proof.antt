@@ -1,6 +1,6 @@
 -- `gathering::gathered` meets its contract: what was gathered at once is the step; else its tests are those of a step, in their order, and then comes
 -- the work of the instruction, which for one of loops no mark stops.
-use Rattle.machine.proofs.laws.gathering.Fetching.{names-registers, is-listed, is-looping, found-within, gathered-looped, gathered-barred, gathered-sorted, fetching}
+use Rattle.machine.proofs.laws.gathering.Fetching.{names-registers, is-listed, is-looping, gathered-looped, gathered-barred, gathered-sorted, fetching}
 use Rattle.machine.proofs.laws.quick.Joining.{quickening}
 use Rattle.machine.proofs.gathering.gathered.Statement.{statement}
 use Rattle.machine.proofs.gathering.gathered.Tie as tie
@@ -15,7 +15,7 @@ gathered-spec =
     let pre = reading .before .before .before .before .before .pre in
     let passed = c .before .before .before .if2 .left in
     let found = reading .read-from .ensures in
-    (names-registers _ _ _ _ (pre .0) found, (is-looping _ _ _ _ (pre .0) found passed (c .if3 .taken), (pre .1 .1 .0, found-within _ _ _ _ (pre .0) found passed))))
+    (names-registers _ _ _ _ (pre .0) found, is-looping _ _ _ _ (pre .0) found passed (c .if3 .taken)))
     (λ c.
     let reading = c .before .before .before .before .before in
     let pre = reading .before .before .before .before .before .pre in

@@ -38,7 +38,7 @@ use Rattle.machine.specs.inner.Reaches.{unmarkedFootprint}
 use Rattle.works.specs.Bars.{barredBy}
 use Rattle.machine.specs.inner.Works.{stoppingBy, effectIn}
 use Rattle.machine.specs.inner.Loops.{onwardBy, loopFootprint}
-use Rattle.machine.proofs.laws.gathering.Fetching.{names-registers, is-listed, is-looping, effect-found, kind-found, found-within}
+use Rattle.machine.proofs.laws.gathering.Fetching.{names-registers, is-listed, is-looping, effect-found, kind-found}
 use Rattle.machine.proofs.laws.loops.Looping.{loop-footprint}
 use Rattle.machine.proofs.laws.gathering.Testing.{unbarred-by, barred-by, stopped-by}
 
@@ -130,4 +130,4 @@ module _ (code : List ℕ) (at : ℕ) (machine : Machine) (memory : List ℕ) wh
           pub traced-unbarred : (r : Tracing) → stop ≡ 0 → paperOfFootprint r ≡ answered → paperOfFootprint r ≡ maskedAt code at here
           traced-unbarred r h p = p ∙ sym (traced-behind ∙ unbarred-by _ _ (sym stops-it ∙ h))
 
-pub ruleset position-rules = (needs, names-registers, is-listed, is-looping, found-within, traced-long, traced-code-long, traced-unread, traced-looped, traced-barred, traced-unbarred)
+pub ruleset position-rules = (needs, names-registers, is-listed, is-looping, traced-long, traced-code-long, traced-unread, traced-looped, traced-barred, traced-unbarred)

@@ -1,7 +1,7 @@
 -- The step at a position, from what the code has found there: the reader's refusal, the work of an instruction of loops, the refusal of the control
 -- marks, or the work of any other.
 use Rattle.basis.specs.Names.{_≡_, refl, Bool, false, cond, List, ℕ, _+_, _/_, _^_, _≤_, length, getD, drop}
-use Rattle.basis.proofs.Names.{sym, ap, subst, _∙_, arith, needs, eq-eqb, ne-eqb, le-ltb, length-drop}
+use Rattle.basis.proofs.Names.{sym, ap, subst, _∙_, arith, needs, eq-eqb, ne-eqb, le-ltb}
 use Rattle.reorder.specs.Result.{Result, done, caseOf}
 use Rattle.codec.specs.Forms.{isAbsent}
 use Rattle.codec.specs.Opcodes.{escape, formAt, formOfFirst}
@@ -17,7 +17,7 @@ use Rattle.codec.specs.Answers.{Decoded, good, refused}
 use Rattle.codec.proofs.Readers.{Holds, moved}
 use Rattle.codec.proofs.Given.{Known, Refusal, reads-known}
 use Rattle.codec.proofs.OurTable.{found-ours}
-use Rattle.codec.proofs.Theorems.{reading-is-local, found-registers}
+use Rattle.codec.proofs.Theorems.{found-registers}
 use Rattle.manual.specs.declared.Marks.{Marks}
 use Rattle.manual.specs.State.{State, longestMemory}
 use Rattle.manual.specs.Kinds.{heeded}
@@ -91,19 +91,6 @@ module _ (table code : List ℕ) (at : ℕ) (x : Found) (ours : table ≡ opcode
     where
       of : (i : Instruction) → isAbsent (formOfFirst (i .first)) ≡ false → (i .first ≡ escape → ⊥) → effectOf i .kind ≡ Loop
       of i there other = ap (λ (t : Bool). cond t (formAt (i .second)) (formOfFirst (i .first)) .kind) (ne-eqb (i .first) escape other) ∙ loop-kind (i .first) there
-
-  -- what is found ends within the code
-  pub found-within : x .refusal ≡ 0 → x .next ≤ length code
-  found-within passed = by (readPart (drop at code)) refl (reads-known formAt 0 (drop at code))
-    where
-      by : (z : Decoded) → readPart (drop at code) ≡ z → Holds (Known formAt) Refusal z → x .next ≤ length code
-      by (good i n) r g =
-          let l = reading-is-local (drop at code) i n r in
-          let f : x .next ≡ at + n = ap (λ (y : Found). y .next) (found-is (good i n) r) in
-          omega (arith, l .some, l .within, length-drop at code)
-      by (refused n) r g =
-          let f : x .refusal ≡ n = ap (λ (y : Found). y .refusal) (found-is (refused n) r) in
-          absurd (omega (arith, g .0))
 
   -- within the limits
   module _ (floor : ℕ) (s : State) (code-fits : length code ≤ longestCode) (memory-fits : length (s .memory) ≤ longestMemory) (floor-fits : floor ≤ length (s .memory)) where
@@ -204,4 +191,4 @@ module _ (table code : List ℕ) (at : ℕ) (x : Found) (ours : table ≡ opcode
                 ∙ sym (step-behind floor (state marks) code-fits memory-fits low passed escaped ∙ ap (concluded at (done (x .next)) (state marks)) (unbarred-by _ _ (sym (stops-it marks b) ∙ h)));
           }
 
-pub ruleset fetching = (needs, names-registers, is-listed, is-looping, found-within, gathered-unread, gathered-looped, gathered-barred, gathered-sorted)
+pub ruleset fetching = (needs, names-registers, is-listed, is-looping, gathered-unread, gathered-looped, gathered-barred, gathered-sorted)

@@ -1,6 +1,6 @@
 -- Where a jump leads, what remains of an instruction of loops, and its footprint: by the number of its form. Rules for the functions of loops.
-use Rattle.basis.specs.Names.{_≡_, refl, Bool, true, false, not, cond, _&&_, List, [], ℕ, _+_, _-_, _/_, _%_, _^_, _≤_, _<_, eqb, leb, getD}
-use Rattle.basis.proofs.Names.{sym, ap, subst, _∙_, or-zero-r, arith, needs, eqb-true, eqb-false, eq-eqb, ne-eqb, le-leb, lt-leb, zero-add, add-mod-mod, mod-mod}
+use Rattle.basis.specs.Names.{_≡_, refl, Bool, true, false, not, cond, _&&_, List, [], ℕ, _+_, _-_, _/_, _%_, _^_, _≤_, eqb, leb, getD}
+use Rattle.basis.proofs.Names.{sym, ap, subst, _∙_, or-zero-r, arith, needs, eqb-true, eqb-false, eq-eqb, ne-eqb, zero-add, add-mod-mod, mod-mod}
 use Rattle.reorder.specs.Result.{Result, done, refused, mapResult}
 use Rattle.reorder.specs.Footprint.{footprintIn}
 use Rattle.codec.specs.Table.{formOf}
@@ -18,26 +18,15 @@ use Rattle.manual.specs.Instructions.{effectBy}
 use Rattle.machine.specs.declared.Places.{Places}
 use Rattle.machine.specs.declared.Footprint.{Footprint}
 use Rattle.works.specs.declared.Work.{Work}
-use Rattle.machine.specs.declared.loops.Target.{Target}
-use Rattle.machine.specs.declared.loops.Target.the-variants.{At, Refused}
+use Rattle.works.specs.declared.jumps.Target.{Target}
+use Rattle.works.specs.declared.jumps.Target.the-variants.{At, Refused}
+use Rattle.works.specs.Jumps.{paperOfTarget}
 use Rattle.works.specs.Works.{toPass, toSet, toCount, workOf, refusedWork}
 use Rattle.machine.specs.inner.Works.{effectIn, performed}
 use Rattle.machine.specs.inner.Reaches.{nowhere, integerAlone, unmarkedFootprint}
 use Rattle.machine.specs.Footprints.{masked}
-use Rattle.machine.specs.inner.Loops.{Looping, onwardBy, paperOfTarget, targetWithin, landing, Loops, countingFootprint, loopFootprint}
+use Rattle.machine.specs.inner.Loops.{Looping, onwardBy, landing, Loops, countingFootprint, loopFootprint}
 use Rattle.machine.proofs.laws.gathering.Soundness.{sound-passes, sound-set, sound-count, sound-refusal}
-
--- the target in a code of so many bytes
-module _ (length ahead : ℕ) where
-  pub target-before : ahead < 256 → refused jumpsOutside ≡ targetWithin length ahead
-  target-before h = simp (lt-leb 256 ahead h)
-
-  module _ (after : 256 ≤ ahead) where
-    pub target-past : length + 256 < ahead → refused jumpsOutside ≡ targetWithin length ahead
-    target-past h = simp (le-leb 256 ahead after, lt-leb ahead (length + 256) h)
-
-    pub target-at : ahead ≤ length + 256 → done (ahead - 256) ≡ targetWithin length ahead
-    target-at h = simp (le-leb 256 ahead after, le-leb ahead (length + 256) h)
 
 -- a jump, with the position behind it
 module _ (zero : Bool) (length behind displacement : ℕ) where
@@ -48,18 +37,10 @@ module _ (zero : Bool) (length behind displacement : ℕ) where
   pub target-behind : zero ≡ true → done behind ≡ leads
   target-behind e = simp e
 
-  module _ (taken : zero ≡ false) (o : Result ℕ) where
-    pub target-forward : displacement < 128 → o ≡ targetWithin length (behind + displacement + 256) → o ≡ leads
-    unfolding jumped
-    target-forward h e =
-        let same : behind + displacement + 256 ≡ behind + (displacement + 256) = omega arith in
-        simp (taken, lt-leb 128 displacement h) (e ∙ ap (targetWithin length) same)
+  pub target-taken : (o : Result ℕ) → zero ≡ false → o ≡ jumped length behind displacement → o ≡ leads
+  target-taken o taken e = simp taken e
 
-    pub target-backward : 128 ≤ displacement → o ≡ targetWithin length (behind + displacement) → o ≡ leads
-    unfolding jumped
-    target-backward h e = simp (taken, le-leb 128 displacement h) e
-
-pub ruleset targeting = (needs, target-before, target-past, target-at, target-behind, target-forward, target-backward)
+pub ruleset targeting = (needs, target-behind, target-taken)
 
 -- a register to which a number is added
 pub counted-is : (register sum value next v : ℕ) (work : Work) → work ≡ workOf toCount 0 register v next → v ≡ sum → sum ≡ value

@@ -9,17 +9,17 @@ traced-spec =
     tie.close
     (tie.spec
     (λ c κs. search needs)
-    (λ c. traced-set _ _ _ _ _ (c .before .before .before .pre .1 .0) _ (c .before .if1 .taken) (c .of-integer .ensures))
+    (λ c. traced-set _ _ _ _ _ (c .before .before .before .pre .1) _ (c .before .if1 .taken) (c .of-integer .ensures))
     (λ c κs. search needs)
-    (λ c. traced-add _ _ _ _ _ (c .before .before .before .before .before .pre .1 .0) _ (c .before .before .if2 .taken) (c .counting .ensures))
+    (λ c. traced-add _ _ _ _ _ (c .before .before .before .before .before .pre .1) _ (c .before .before .if2 .taken) (c .counting .ensures))
     (λ c κs. search needs)
-    (λ c. traced-down _ _ _ _ _ (c .before .before .before .before .before .pre .1 .0) _ (c .before .if3 .taken) (c .counting2 .ensures))
+    (λ c. traced-down _ _ _ _ _ (c .before .before .before .before .before .pre .1) _ (c .before .if3 .taken) (c .counting2 .ensures))
     (λ c κs. search needs) (λ c. search needs) (λ c. search needs)
     (λ c.
     let other = c .before .before .before in
-    traced-jump _ _ _ _ _ (other .before .before .before .before .pre .1 .0) (other .before .before .if1 .left) (other .before .if2 .left) (other .if3 .left) _
-    (c .before .before .target-of .ensures) _ (c .enum-told .given .1))
+    traced-jump _ _ _ _ _ (other .before .before .before .before .pre .1) (other .before .before .if1 .left) (other .before .if2 .left) (other .if3 .left) _
+    (c .before .before .onward .ensures) _ (c .enum-told .given .1))
     (λ c.
     let other = c .before .before .before .before in
-    traced-outside _ _ _ _ _ (other .before .before .before .before .pre .1 .0) (other .before .before .if1 .left) (other .before .if2 .left) (other .if3 .left) _
-    (c .before .before .before .target-of .ensures) _ (c .before .refusal .given .1)))
+    traced-outside _ _ _ _ _ (other .before .before .before .before .pre .1) (other .before .before .if1 .left) (other .before .if2 .left) (other .if3 .left) _
+    (c .before .before .before .onward .ensures) _ (c .before .refusal .given .1)))
