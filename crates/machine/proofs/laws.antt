@@ -1,7 +1,6 @@
 -- The laws by the module of the code that they serve.
 pub mod meetings
 pub mod addresses
-pub mod misses
 pub mod ways
 pub mod operands
 pub mod pointers

@@ -4,7 +4,6 @@ mod footprints;
 mod gathering;
 mod loops;
 mod meetings;
-mod misses;
 mod operands;
 mod picking;
 mod pointers;

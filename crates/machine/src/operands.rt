@@ -1,6 +1,5 @@
 // Where an operand is that r/m names, or MASKMOVQ's at EDI: in a register, or in memory at an address that is tested.
 use crate::addresses;
-use crate::misses;
 use crate::ways;
 use codec::Operand;
 use codec::forms::FORM;
@@ -48,7 +47,7 @@ pub(crate) fn located(integers: &[u32; 8], entry: u32, operand: Operand, room: u
         if works::is_inside(room, address, size as usize) {
             return Spot::Bytes(address, size);
         }
-        return Spot::Refused(misses::miss_of(operand));
+        return Spot::Refused(works::miss_of(operand));
     }
     if ways::is_integer(entry / FORM) {
         return Spot::Integer(operand.rm);

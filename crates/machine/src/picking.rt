@@ -1,7 +1,6 @@
 // The work of the instructions that pick lanes: PINSRW, PSHUFW, PEXTRW, PMOVMSKB and MASKMOVQ. What they leave is computed when the work is made.
 use crate::addresses;
 use crate::operands::AT_EDI;
-use crate::refusals::OUTSIDE_MEMORY;
 use codec::Operand;
 use codec::forms::EXTRACT;
 use codec::forms::FORM;
@@ -12,6 +11,7 @@ use works::QUADWORD;
 use works::STORE;
 use works::TO_INTEGER;
 use works::Work;
+use works::refusals::OUTSIDE_MEMORY;
 use works::refused;
 use works::work_of;
 ghost use Rattle.basis.specs.Names.{_≡_, _/_, _^_, getD};

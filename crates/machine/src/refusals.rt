@@ -5,8 +5,4 @@ pub const LONGEST_MEMORY: usize = 32768;
 
 pub const MEMORY_TOO_LONG: u8 = 1;
 
-pub(crate) const OUTSIDE_MEMORY: u8 = 10;
-
-pub(crate) const OUTSIDE_BY_STACK: u8 = 14;
-
 pub(crate) const FLOOR_TOO_HIGH: u8 = 20;

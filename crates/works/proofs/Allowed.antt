@@ -21,6 +21,8 @@ use Rattle.works.proofs.inside.is_inside.Reads as is-inside-reads
 use Rattle.works.proofs.inside.is_inside.Kinds as is-inside-kinds
 use Rattle.works.proofs.jumps.target_of.Reads as target-of-reads
 use Rattle.works.proofs.jumps.target_of.Kinds as target-of-kinds
+use Rattle.works.proofs.misses.miss_of.Reads as miss-of-reads
+use Rattle.works.proofs.misses.miss_of.Kinds as miss-of-kinds
 use Rattle.works.proofs.performing.perform.Reads as perform-reads
 use Rattle.works.proofs.performing.perform.Kinds as perform-kinds
 use Rattle.works.proofs.signs.extended.Reads as extended-reads
@@ -61,6 +63,11 @@ pub target-of-one : (κs : Lfts 0) (a : Dens κs target-of-kinds.ps) (r₁ r₂ 
     (s₁ s₂ : AtExit (endedOf 0 target-of-kinds.ps target-of-kinds.r) κs)
     → target-of-reads.Post κs a r₁ s₁ → target-of-reads.Post κs a r₂ s₂ → r₁ ≡ r₂
 target-of-one κs a r₁ r₂ s₁ s₂ p q = target-one r₁ r₂ (p ∙ sym q)
+
+pub miss-of-one : (κs : Lfts 0) (a : Dens κs miss-of-kinds.ps) (r₁ r₂ : resT miss-of-kinds.r κs .Denot)
+    (s₁ s₂ : AtExit (endedOf 0 miss-of-kinds.ps miss-of-kinds.r) κs)
+    → miss-of-reads.Post κs a r₁ s₁ → miss-of-reads.Post κs a r₂ s₂ → r₁ ≡ r₂
+miss-of-one κs a r₁ r₂ s₁ s₂ p q = p ∙ sym q
 
 pub perform-one : (κs : Lfts 3) (a : Dens κs perform-kinds.ps) (r₁ r₂ : resT perform-kinds.r κs .Denot)
     (s₁ s₂ : AtExit (endedOf 3 perform-kinds.ps perform-kinds.r) κs)

@@ -1,7 +1,8 @@
-// What remains to be done of an instruction, as plain numbers, and what does it; its tests, and where a jump leads.
+// What remains to be done of an instruction, as plain numbers, and what does it; its tests, where a jump leads, and the refusal of a miss.
 mod bars;
 mod inside;
 mod jumps;
+mod misses;
 mod performing;
 pub mod refusals;
 mod signs;
@@ -11,6 +12,7 @@ pub use bars::table;
 pub use inside::is_inside;
 pub use jumps::Target;
 pub use jumps::target_of;
+pub use misses::miss_of;
 pub use performing::Moved;
 pub use performing::perform;
 pub use signs::extended;

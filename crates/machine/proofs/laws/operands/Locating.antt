@@ -1,18 +1,18 @@
 -- Where the code finds the operand that r/m names: each law by cases on what it may be. Rules for the functions that locate it and go by its place.
 use Rattle.basis.specs.Names.{_≡_, Bool, true, false, cond, List, ℕ, _+_, _/_, _%_, _^_, _<_, eqb, leb}
-use Rattle.basis.proofs.Names.{sym, ap, subst, _∙_, needs, eq-eqb, ne-eqb}
+use Rattle.basis.proofs.Names.{sym, ap, subst, _∙_, arith, needs, eq-eqb, ne-eqb}
 use Rattle.codec.specs.Forms.{File, mmxFile, integerFile, memorySize}
 use Rattle.codec.specs.inner.Fields.{Registers}
 use Rattle.codec.specs.Table.{formOf}
 use Rattle.codec.specs.declared.Operand.{Operand}
-use Rattle.manual.specs.Addresses.{address, addressOf}
+use Rattle.manual.specs.Refusals.{outsideMemory, outsideByStack}
+use Rattle.manual.specs.Addresses.{Address, addressOf, isStackBase, address}
 use Rattle.manual.specs.Locations.{Location, mmxRegister, integerRegister, memory, registerIn, rmOf, liesInside, missOf}
 use Rattle.machine.specs.declared.operands.Spot.{Spot}
 use Rattle.machine.specs.declared.operands.Spot.the-variants.{Mmx, Integer, Bytes, Refused}
 use Rattle.machine.specs.inner.Spots.{fileIn, otherOf, spotOf, Named}
 use Rattle.machine.specs.inner.Ways.{isInteger, wayOf, hasOther}
 use Rattle.machine.specs.inner.Works.{Listed}
-use Rattle.machine.proofs.laws.misses.Missing.{miss-numbered}
 use Rattle.machine.proofs.laws.ways.Numbering.{other}
 
 -- what holds of a register of either file, and of so many bytes in memory, holds of the operand that r/m names
@@ -25,6 +25,14 @@ by-place P file size w a b c = by (eqb (w .mode) 3) file
     by true mmxFile = a
     by true integerFile = b
     by false f = c f
+
+-- the refusal of a miss has a number
+miss-numbered : (a : Address) → missOf a ≡ 0 → ⊥
+miss-numbered a = by (isStackBase (a .base))
+  where
+    by : (t : Bool) → cond t outsideByStack outsideMemory ≡ 0 → ⊥
+    by true e = omega arith
+    by false e = omega arith
 
 module _ (integers : List ℕ) (room : ℕ) where
   -- a register that r/m names is there

@@ -1,7 +1,7 @@
 -- `misses::miss_of` meets its contract: 14 where the base register is one of the stack's, else 10.
-use Rattle.machine.proofs.laws.misses.Missing.{missing}
-use Rattle.machine.proofs.misses.miss_of.Statement.{statement}
-use Rattle.machine.proofs.misses.miss_of.Tie as tie
+use Rattle.works.proofs.Missing.{missing}
+use Rattle.works.proofs.misses.miss_of.Statement.{statement}
+use Rattle.works.proofs.misses.miss_of.Tie as tie
 
 pub miss-of-spec : {M : Type 1} → statement M
 miss-of-spec =

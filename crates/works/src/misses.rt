@@ -3,6 +3,7 @@ use crate::refusals::OUTSIDE_BY_STACK;
 use crate::refusals::OUTSIDE_MEMORY;
 use codec::Operand;
 use codec::modes::NO_DISPLACEMENT;
+use codec::modes::REGISTER;
 use codec::modes::SIB;
 ghost use Rattle.basis.specs.Names.{_≡_};
 ghost use Rattle.manual.specs.Addresses.{baseOf, addressOf, isStackBase};
@@ -26,19 +27,20 @@ fn is_stack_base(mode: u8, register: u8) -> bool
     mode != NO_DISPLACEMENT
 }
 
-// Whether an operand's base register is one of the stack's: with an SIB byte the base is named there, else it is rm.
+// Whether an operand's base register is one of the stack's: with an SIB byte, which mod 11 has not, the base is named there, else it is rm.
 fn is_by_stack(operand: Operand) -> bool
-    requires { ⌜ (operand .mode ≡ 3 → ⊥) ⌝ }
     ensures { λ r. ⌜ r ≡ isStackBase (addressOf operand .base) ⌝ }
 {
     if operand.rm != SIB {
         return is_stack_base(operand.mode, operand.rm);
     }
+    if operand.mode == REGISTER {
+        return is_stack_base(operand.mode, operand.rm);
+    }
     is_stack_base(operand.mode, operand.base)
 }
 
-pub(crate) fn miss_of(operand: Operand) -> u8
-    requires { ⌜ (operand .mode ≡ 3 → ⊥) ⌝ }
+pub fn miss_of(operand: Operand) -> u8
     ensures { λ r. ⌜ r ≡ missOf (addressOf operand) ⌝ }
 {
     if is_by_stack(operand) {

@@ -6,15 +6,16 @@ use Rattle.codec.specs.declared.Operand.{Operand}
 use Rattle.manual.specs.Refusals.{outsideMemory, outsideByStack}
 use Rattle.manual.specs.Addresses.{Address, baseOf, addressOf, isStackBase}
 use Rattle.manual.specs.Locations.{missOf}
-use Rattle.machine.proofs.laws.addresses.Addressing.{base-is}
 
 -- a register as base
 module _ (mode register : ℕ) where
   pub stack-esp : register ≡ 4 → true ≡ isStackBase (baseOf mode register)
-  stack-esp four = rw (base-is register mode (λ five. omega arith), eq-eqb register 4 four)
+  unfolding baseOf
+  stack-esp four = simp (ne-eqb register 5 (λ five. omega arith), and-false (eqb mode 0), eq-eqb register 4 four)
 
   pub stack-other : (register ≡ 4 → ⊥) → (register ≡ 5 → ⊥) → false ≡ isStackBase (baseOf mode register)
-  stack-other four five = rw (base-is register mode five, ne-eqb register 4 four, ne-eqb register 5 five)
+  unfolding baseOf
+  stack-other four five = simp (ne-eqb register 5 five, and-false (eqb mode 0), ne-eqb register 4 four)
 
   pub stack-ebp : (t : Bool) → register ≡ 5 → t ≡ not (eqb mode 0) → t ≡ isStackBase (baseOf mode register)
   unfolding baseOf
@@ -30,6 +31,10 @@ module _ (w : Operand) (t : Bool) where
   unfolding addressOf hasSib
   stack-plain plain e = simp (ne-eqb (w .rm) 4 plain, and-false) e
 
+  pub stack-register : w .mode ≡ 3 → t ≡ isStackBase (baseOf (w .mode) (w .rm)) → t ≡ isStackBase (addressOf w .base)
+  unfolding addressOf hasSib
+  stack-register register e = simp (eq-eqb (w .mode) 3 register) e
+
   pub stack-sib : (w .mode ≡ 3 → ⊥) → w .rm ≡ 4 → t ≡ isStackBase (baseOf (w .mode) (w .base)) → t ≡ isStackBase (addressOf w .base)
   unfolding addressOf hasSib
   stack-sib elsewhere sib e = simp (ne-eqb (w .mode) 3 elsewhere, eq-eqb (w .rm) 4 sib) e
@@ -42,12 +47,4 @@ module _ (a : Address) where
   pub miss-other : (t : Bool) → t ≡ isStackBase (a .base) → t ≡ false → outsideMemory ≡ missOf a
   miss-other t test e = simp (← test, e)
 
-  -- it has a number
-  pub miss-numbered : missOf a ≡ 0 → ⊥
-  miss-numbered = by (isStackBase (a .base))
-    where
-      by : (t : Bool) → cond t outsideByStack outsideMemory ≡ 0 → ⊥
-      by true e = omega arith
-      by false e = omega arith
-
-pub ruleset missing = (needs, stack-esp, stack-other, stack-ebp, stack-plain, stack-sib, miss-stack, miss-other)
+pub ruleset missing = (needs, stack-esp, stack-other, stack-ebp, stack-plain, stack-register, stack-sib, miss-stack, miss-other)

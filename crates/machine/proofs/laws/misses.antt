@@ -1,2 +1,0 @@
--- The rules for the refusal of a miss.
-pub mod Missing
