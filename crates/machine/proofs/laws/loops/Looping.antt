@@ -1,5 +1,5 @@
 -- Where a jump leads, what remains of an instruction of loops, and its footprint: by the number of its form. Rules for the functions of loops.
-use Rattle.basis.specs.Names.{_≡_, refl, Bool, true, false, not, cond, _&&_, List, [], ℕ, _+_, _-_, _/_, _%_, _^_, _≤_, eqb, leb, getD}
+use Rattle.basis.specs.Names.{_≡_, refl, Bool, true, false, not, cond, _&&_, List, [], ℕ, _+_, _-_, _/_, _%_, _^_, eqb, leb, getD}
 use Rattle.basis.proofs.Names.{sym, ap, subst, _∙_, or-zero-r, arith, needs, eqb-true, eqb-false, eq-eqb, ne-eqb, zero-add, add-mod-mod, mod-mod}
 use Rattle.reorder.specs.Result.{Result, done, refused, mapResult}
 use Rattle.reorder.specs.Footprint.{footprintIn}
