@@ -1,7 +1,7 @@
 -- Our table says of each second byte what the list says: the operations by a computation for the 256 bytes, the other parts by arithmetic. And the
 -- number of a first byte's form names that form.
 use Rattle.basis.specs.Names.{List, [], _∷_, none, some, ℕ, zero, suc, _+_, _/_, _^_, _≤_, _<_, _≡_, refl, Bool, true, false, cond, _&&_, eqb, leb, ltb, length, getD, _%_}
-use Rattle.basis.proofs.Names.{sym, ap, ap₂, subst, _∙_, arith, needs, zero-add, add-zero, leb-true, ltb-true, ltb-false, eq-eqb, ne-eqb, List·getD-eq-default}
+use Rattle.basis.proofs.Names.{sym, ap, subst, _∙_, arith, needs, zero-add, add-zero, leb-true, ltb-true, ltb-false, eq-eqb, ne-eqb, List·getD-eq-default}
 use Rattle.lanes.specs.Operations.{Operation, Described, described, KEEP}
 use Rattle.codec.specs.Contents.{lines, OneByte, loops}
 use Rattle.codec.specs.Opcodes.{formAt, operationAt, isOf, formOfFirst, formFor, escape}
@@ -29,11 +29,6 @@ length-listed f from (suc count) = ap suc (length-listed f (suc from) count)
 at-byte : {A : Type 0} (f : ℕ → A) (z : A) (second : ℕ) → second < 256 → getD (listed f 0 256) second z ≡ f second
 at-byte f z second h = getD-listed f z 0 256 second h ∙ ap f (zero-add second)
 
--- functions that agree give the same list
-same-listed : {A : Type 0} (f g : ℕ → A) → ((k : ℕ) → f k ≡ g k) → (from count : ℕ) → listed f from count ≡ listed g from count
-same-listed f g h from zero = refl
-same-listed f g h from (suc count) = ap₂ _∷_ (h from) (same-listed f g h (suc from) count)
-
 -- two lists of what functions give agree at each place
 pub agree : {A : Type 0} (f g : ℕ → A) (z : A) (count k : ℕ) → listed f 0 count ≡ listed g 0 count → k < count → f k ≡ g k
 agree f g z count k e h =
@@ -49,7 +44,7 @@ table-past second h =
     let g : length (listed entryAt 0 256) ≤ second = subst (λ (n : ℕ). n ≤ second) (sym (length-listed entryAt 0 256)) h in
     List·getD-eq-default (listed entryAt 0 256) 0 g
 
--- each part of an entry but the form's number is less than 256, and the number names the form
+-- each part of an entry but the form's number is less than 256
 module _ (second : ℕ) where
   size-fits : memorySize (formAt second) < 256
   size-fits = ltb-true _ _ (form-passes (λ f. ltb (memorySize f) 256) refl refl second)
@@ -67,25 +62,21 @@ module _ (second : ℕ) where
   number-fits : described (operationAt second 2) .number < 256
   number-fits = of-operation (λ o. o .number) (omega arith) refl
 
+  -- so each part comes back from the entry: the form, the size of an operand in memory, the lane width
   form-named : formOf (formAt second .number) ≡ formAt second
   unfolding formAt
   form-named = found-same (λ x. x .form) absent (λ f. formOf (f .number)) (λ f. f) (λ x. eqb second (x .second)) refl lines refl
 
-  form-back : formOf (entryAt second / 2 ^ 24) ≡ formAt second
+  pub form-back : formOf (entryAt second / 2 ^ 24) ≡ formAt second
   form-back =
       let e : entryAt second / 2 ^ 24 ≡ formAt second .number = omega (arith, size-fits, width-fits, number-fits) in
       ap formOf e ∙ form-named
 
--- so the 256 forms come back from their numbers
-forms-back : listed (λ k. formOf (entryAt k / 2 ^ 24)) 0 256 ≡ listed formAt 0 256
-forms-back = same-listed (λ k. formOf (entryAt k / 2 ^ 24)) formAt form-back 0 256
+  pub size-back : entryAt second / 2 ^ 16 % 256 ≡ memorySize (formAt second)
+  size-back = omega (arith, size-fits, width-fits, number-fits)
 
--- and so do the sizes of the operands in memory and the lane widths
-pub sizes-back : listed (λ b. entryAt b / 2 ^ 16 % 256) 0 256 ≡ listed (λ b. memorySize (formAt b)) 0 256
-sizes-back = same-listed (λ b. entryAt b / 2 ^ 16 % 256) (λ b. memorySize (formAt b)) (λ b. omega (arith, size-fits b, width-fits b, number-fits b)) 0 256
-
-pub widths-back : listed (λ b. entryAt b / 2 ^ 8 % 256) 0 256 ≡ listed (λ b. described (operationAt b 2) .width) 0 256
-widths-back = same-listed (λ b. entryAt b / 2 ^ 8 % 256) (λ b. described (operationAt b 2) .width) (λ b. omega (arith, width-fits b, number-fits b)) 0 256
+  pub width-back : entryAt second / 2 ^ 8 % 256 ≡ described (operationAt second 2) .width
+  width-back = omega (arith, width-fits, number-fits)
 
 -- and so do the operations: after a second byte that has digits with each of eight, after another with any
 abbrev withDigits : List ℕ
