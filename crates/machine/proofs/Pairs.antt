@@ -18,7 +18,7 @@ use Rattle.codec.specs.Reads.{immediateReader, displacementReader, sibReader, m
 use Rattle.manual.specs.Addresses.{displacementOf, baseOf, addressOf, address}
 use Rattle.manual.specs.Locations.{rmOf}
 use Rattle.manual.specs.Instructions.{effectOf, execute, footprint}
-use Rattle.manual.specs.Jumps.{next}
+use Rattle.manual.specs.Jumps.{onwardBy}
 use Rattle.manual.specs.Steps.{instructionAt}
 use Rattle.manual.specs.Runs.{read, runOf}
 use Rattle.manual.specs.Footprints.{footprintAt, footprintInRun, Meets}
@@ -56,7 +56,7 @@ pub record Found : Type 0 where
 
 -- (footprints are taken where a run of so many instructions comes to, so these compute runs)
 pub found : Found
-unfolding lane build register clamp clampUnsigned packed pairwise sumUnsigned operate allows formAt operationAt hasSib displacementSize immediateReader displacementReader sibReader modrmReader formReader secondReader instructionReader readAt displacementOf baseOf addressOf address rmOf effectOf next execute footprint instructionAt read runOf footprintAt overlap share meet
+unfolding lane build register clamp clampUnsigned packed pairwise sumUnsigned operate allows formAt operationAt hasSib displacementSize immediateReader displacementReader sibReader modrmReader formReader secondReader instructionReader readAt displacementOf baseOf addressOf address rmOf effectOf onwardBy execute footprint instructionAt read runOf footprintAt overlap share meet
 found = record { pairs = refl; unturned = refl; turned = refl }
 
 -- the allowed order is one, and keeps every pair that meets

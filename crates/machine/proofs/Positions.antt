@@ -2,7 +2,7 @@
 -- two is true exactly where they meet.
 use Rattle.basis.specs.Names.{_≡_, true, List, List·Memᴰ as In, ℕ, _+_, _≤_, _<_, length}
 use Rattle.basis.proofs.Names.{subst, _↔_}
-use Rattle.reorder.specs.Result.{Result, done, refused, andThen, mapResult}
+use Rattle.reorder.specs.Result.{Result, done, refused, andThen, provided}
 use Rattle.reorder.specs.Footprint as places
 use Rattle.reorder.specs.Run.{Fetched, positionReached, stateReached}
 use Rattle.codec.specs.declared.Instruction.{Instruction}
@@ -21,7 +21,7 @@ use Rattle.machine.proofs.laws.meetings.Masking.{byte-masked}
 use Rattle.machine.proofs.laws.meetings.Meeting.{meet-exactly}
 
 -- wherever the run goes on
-ranged-onward : (o : Result (places.Footprint Place Kind)) (further : Result ℕ) → RangedFootprint o → RangedFootprint (andThen o (λ f. mapResult (λ position. f) further))
+ranged-onward : (o : Result (places.Footprint Place Kind)) (further : Result ℕ) → RangedFootprint o → RangedFootprint (provided o further)
 ranged-onward (done f) (done position) h = h
 ranged-onward (done f) (refused n) h = tt
 ranged-onward (refused n) further h = tt
@@ -31,7 +31,7 @@ unfolding footprintAt
 ranged-at floor code at s = by (instructionAt floor code at s)
   where
     by : (o : Result (Fetched Instruction))
-        → RangedFootprint (andThen o (λ r. andThen (footprint floor (r .instruction) s) (λ f. mapResult (λ position. f) (next (length code) (r .instruction) s (at + r .size)))))
+        → RangedFootprint (andThen o (λ r. provided (footprint floor (r .instruction) s) (next (length code) (r .instruction) s (at + r .size))))
     by (done r) = ranged-onward (footprint floor (r .instruction) s) (next (length code) (r .instruction) s (at + r .size)) (ranged floor s (r .instruction))
     by (refused n) = tt
 

@@ -7,23 +7,29 @@ use codec::modes::NO_INDEX;
 use codec::modes::SIB;
 ghost use Rattle.basis.specs.Names.{_≡_, _*_, _^_, _%_, _<_};
 ghost use Rattle.codec.specs.inner.Fields.{Registers};
-ghost use Rattle.manual.specs.Addresses.{displacementOf, baseOf, indexOf, addressOf, registerPart, address};
+ghost use Rattle.manual.specs.Addresses.{signedByte, displacementOf, baseOf, indexOf, addressOf, registerPart, address};
 
 // The least negative byte, and what extends its sign to 32 bits.
 const SIGN: u32 = 0x80;
 
 const SIGN_EXTENSION: u32 = 0xffffff00;
 
-pub(crate) fn extended(mode: u8, displacement: u32) -> u32
+pub(crate) fn signed(byte: u32) -> u32
+    ensures { λ r. ⌜ r ≡ signedByte byte % 2 ^ 32 ⌝ }
+{
+    if byte < SIGN {
+        return byte;
+    }
+    std::num::wrapping_add_u32(byte, SIGN_EXTENSION)
+}
+
+fn extended(mode: u8, displacement: u32) -> u32
     ensures { λ r. ⌜ r ≡ displacementOf mode displacement % 2 ^ 32 ⌝ }
 {
     if mode != BYTE_DISPLACEMENT {
         return displacement;
     }
-    if displacement < SIGN {
-        return displacement;
-    }
-    std::num::wrapping_add_u32(displacement, SIGN_EXTENSION)
+    signed(displacement)
 }
 
 fn base_in(integers: &[u32; 8], mode: u8, register: u8) -> u32

@@ -12,7 +12,6 @@ use codec::forms::ADD;
 use codec::forms::DECREMENT;
 use codec::forms::FORM;
 use codec::forms::SET;
-use codec::modes::BYTE_DISPLACEMENT;
 use works::COUNT;
 use works::PASS;
 use works::Target;
@@ -21,9 +20,9 @@ use works::work_of;
 ghost use Rattle.basis.specs.Names.{_≡_, not, cond, _+_, _/_, _%_, _^_, _<_, getD};
 ghost use Rattle.reorder.specs.Result.{done, mapResult};
 ghost use Rattle.codec.specs.inner.Fields.{Registers};
-ghost use Rattle.manual.specs.Jumps.{jumped};
+ghost use Rattle.manual.specs.Jumps.{jumped, onwardBy};
 ghost use Rattle.machine.specs.Footprints.{paperOfFootprint};
-ghost use Rattle.machine.specs.inner.Loops.{Looping, onwardBy, landing, Loops, countingFootprint, loopFootprint};
+ghost use Rattle.machine.specs.inner.Loops.{Looping, landing, Loops, countingFootprint, loopFootprint};
 ghost use Rattle.works.specs.Jumps.{paperOfTarget};
 ghost use Rattle.works.specs.Works.{toCount, workOf};
 ghost use Rattle.machine.specs.inner.Works.{effectIn};
@@ -88,7 +87,7 @@ pub(crate) fn looped(
     }
     if form == ADD {
         let operand = instruction.operand;
-        let addend = addresses::extended(BYTE_DISPLACEMENT, instruction.immediate);
+        let addend = addresses::signed(instruction.immediate);
         return counted(integers, operand.rm as usize, addend, next);
     }
     if form == SET {

@@ -1,5 +1,5 @@
-// Instructions read and gathered at once. One that is to be refused has no answer here, nor have the odd forms of manual 000 and EMMS as the code's
-// last two bytes: they are left to the reader.
+// Instructions read and gathered at once. One that is to be refused has no answer here, nor have those of loops, the odd forms of manual 000 and EMMS
+// as the code's last two bytes: they are left to the reader.
 use crate::gathering;
 use crate::pointers;
 use crate::shifts;

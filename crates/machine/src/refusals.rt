@@ -1,4 +1,4 @@
-// The refusals of steps, runs and footprints beside the reader's, by the paper's numbers, and the longest memory.
+// The refusals of steps, runs and footprints that are neither the reader's nor those of works, by the paper's numbers, and the longest memory.
 
 // The longest memory, in bytes.
 pub const LONGEST_MEMORY: usize = 32768;

@@ -15,7 +15,7 @@ use Rattle.codec.specs.Fits.{all}
 use Rattle.manual.specs.Addresses.{displacementOf, baseOf, indexOf, addressOf, address}
 use Rattle.manual.specs.Locations.{rmOf}
 use Rattle.manual.specs.Instructions.{effectOf, execute, footprint}
-use Rattle.manual.specs.Jumps.{jumped, next}
+use Rattle.manual.specs.Jumps.{jumped, onwardBy}
 use Rattle.manual.specs.Steps.{instructionAt, stepAt}
 use Rattle.manual.specs.Runs.{read, runOf, hasNoJump}
 use Rattle.manual.specs.Footprints.{footprintAt, footprintInRun, Meets}
@@ -52,7 +52,7 @@ pub record Computed : Type 0 where
   pub forbidden : runOf 0 (rearranged read example.block example.forbidden) 4096 example.start ≡ finished 17 5 example.spoilt
 
 pub computed : Computed
-unfolding lane topBit build register signed wrap clamp clampSigned clampUnsigned packed pairwise sum sumSigned sumUnsigned greater productHigh productSum pack unpack shift left right rightSigned blend mean extract insert maximumSigned maximumUnsigned minimumSigned minimumUnsigned topBits productHighUnsigned distance total distances shuffle operate operateThree allows formAt operationAt formOfFirst hasSib displacementSize immediateReader displacementReader sibReader modrmReader formReader refusalOf firstReader secondReader instructionReader readAt flatten displacementOf baseOf indexOf addressOf address rmOf effectOf execute footprint jumped next instructionAt stepAt read runOf footprintAt
+unfolding lane topBit build register signed wrap clamp clampSigned clampUnsigned packed pairwise sum sumSigned sumUnsigned greater productHigh productSum pack unpack shift left right rightSigned blend mean extract insert maximumSigned maximumUnsigned minimumSigned minimumUnsigned topBits productHighUnsigned distance total distances shuffle operate operateThree allows formAt operationAt formOfFirst hasSib displacementSize immediateReader displacementReader sibReader modrmReader formReader refusalOf firstReader secondReader instructionReader readAt flatten displacementOf baseOf indexOf addressOf address rmOf effectOf execute footprint jumped onwardBy instructionAt stepAt read runOf footprintAt
 computed =
     record {
       plates = tt;

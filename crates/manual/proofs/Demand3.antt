@@ -1,11 +1,12 @@
 -- Demand 3, from the reordering theorem: the machine obeys the laws of places, reading is local, and a run goes on behind what is no jump.
 use Rattle.basis.specs.Names.{_≡_, refl, true, false, List, [], _∷_, map, flatten, List·Memᴰ as In, ℕ, suc, _+_, _-_, _<_, ltb, length, getD, take, drop}
 use Rattle.basis.proofs.Names.{sym, ap, ap₂, subst, subst₂, _∙_, false≢true, List·Memᴰ·head as here, List·Memᴰ·tail as later, not-true, zero-add, arith}
-use Rattle.reorder.specs.Result.{Result, done, refused, andThen, mapResult}
+use Rattle.reorder.specs.Result.{Result, done, andThen, provided}
 use Rattle.reorder.specs.Order.{NewOrder, Keeps}
 use Rattle.reorder.specs.Footprint.{Footprint}
 use Rattle.reorder.specs.Run.{Fetched, finished, spent, positionReached, stateReached, run}
 use Rattle.reorder.specs.Block.{piecesOf, rearranged, reaches}
+use Rattle.reorder.proofs.Results.{provided-done}
 use Rattle.reorder.proofs.Reordering.{Swap}
 use Rattle.reorder.proofs.Swapping.{swap}
 use Rattle.reorder.proofs.Permutation.{order-below}
@@ -64,9 +65,9 @@ module _ (floor : ℕ) (code : List ℕ) (budget end total : ℕ) (start final :
       (λ n e f. absurd (false≢true (cc))) (λ fits code-fits ran. (fits, code-fits, ran)) h
 
   -- what a run of k instructions comes to, k below the count
-  pub reaching : (k : ℕ) → k < total → Reached read (execute floor) next (footprint floor) code 0 0 start k
+  pub reaching : (k : ℕ) → k < total → Reached read (execute floor) next code 0 0 start k
   reaching k b =
-      let (fits, code-fits, ran) = fitting in reached read (execute floor) next (footprint floor) budget code 0 0 end total start final ran k (omega arith)
+      let (fits, code-fits, ran) = fitting in reached read (execute floor) next budget code 0 0 end total start final ran k (omega arith)
 
   ran-to : (k at : ℕ) (s : State) → run read (execute floor) next k code start ≡ spent at k s → runOf floor code k start ≡ spent at k s
   unfolding runOf
@@ -89,14 +90,10 @@ module _ (floor : ℕ) (code : List ℕ) (budget end total : ℕ) (start final :
     footprint-there found further stands onward height there-fits =
         let (fits, code-fits, whole) = fitting in
         ap (λ a. footprintAt height code (positionReached a) (stateReached a)) ran
-        ∙ ap (λ o. andThen o (λ r. andThen (footprint height (r .instruction) s) (λ f. mapResult (λ position. f) (next (length code) (r .instruction) s (at + r .size)))))
+        ∙ ap (λ o. andThen o (λ r. provided (footprint height (r .instruction) s) (next (length code) (r .instruction) s (at + r .size))))
         (instruction-here height code at s there-fits code-fits ∙ stands)
-        ∙ ap (λ o. andThen (footprint height (found .instruction) s) (λ f. mapResult (λ position. f) o)) onward
-        ∙ same (footprint height (found .instruction) s)
-      where
-        same : (o : Result (Footprint Place Kind)) → andThen o done ≡ o
-        same (done f) = refl
-        same (refused n) = refl
+        ∙ ap (provided (footprint height (found .instruction) s)) onward
+        ∙ provided-done (footprint height (found .instruction) s) further
 
   -- the footprint of the step that a run of k instructions comes to is the one that is asked for, over floor 0
   pub footprint-asked : (k : ℕ) → k < total

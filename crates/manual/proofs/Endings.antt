@@ -1,5 +1,5 @@
 -- How a run of a block ends: done means at the code's end, spent means the whole budget; a larger budget changes no run that was not spent, and
--- without a jump a budget of as many as the code's bytes is never spent.
+-- without a jump a budget of as many as the longest code's bytes is never spent.
 use Rattle.basis.specs.Names.{_≡_, refl, true, List, ℕ, _+_, _≤_, _<_, length, drop}
 use Rattle.basis.proofs.Names.{sym, subst, _∙_, zero-add, drop-drop, arith, ltb-false}
 use Rattle.reorder.specs.Result.{done}

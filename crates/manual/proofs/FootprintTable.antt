@@ -4,12 +4,13 @@ use Rattle.basis.specs.Names.{true, false, List, [], _∷_, _++_, ℕ, replicat
 use Rattle.reorder.specs.Result.{Result, done, refused}
 use Rattle.reorder.specs.Footprint.{Footprint}
 use Rattle.codec.specs.declared.Kind.{Kind}
-use Rattle.codec.specs.declared.Kind.the-variants.{Ordinary, Emms, Silent, Loop}
+use Rattle.codec.specs.declared.Kind.the-variants.{Ordinary, Emms, Silent}
 use Rattle.manual.specs.declared.Marks.{Marks}
 use Rattle.manual.specs.State.{State, zeroed}
 use Rattle.manual.specs.Places.{Place, mmx, integer, zeroMark}
 use Rattle.manual.specs.Locations.{bytesFrom}
 use Rattle.manual.proofs.Marking.{controlled, clear}
+use Rattle.manual.proofs.Loops.{touching}
 
 -- 8 in EAX, 2 in ECX, 20 in EDI, 32 bytes of memory, and these marks
 abbrev under : Marks → State
@@ -38,7 +39,7 @@ uses code reads writes = (code, done (record { reads = reads; writes = writes; k
 
 -- the same of one of loops
 abbrev loops : List ℕ → List Place → List Place → Line
-loops code reads writes = (code, done (record { reads = reads; writes = writes; kind = Loop }))
+loops code reads writes = (code, done (touching reads writes))
 
 -- the bytes of an instruction that touches nothing
 abbrev passes : List ℕ → Line
@@ -141,10 +142,10 @@ inRuns =
     -- MOVD ECX, MM0, which is 0, and then MOVQ MM1, [EAX + ECX * 8], at 8 and no more at 24
     (0, 0x0f ∷ 0x7e ∷ 0xc1 ∷ 0x0f ∷ 0x6f ∷ 0x0c ∷ 0xc8 ∷ [], 1, done (record { reads = integer 0 ∷ integer 1 ∷ bytesFrom 8 8; writes = mmx 1 ∷ []; kind = Ordinary }))
     -- DEC EAX; JNZ to it: instructions 2 and 3 are the same two again
-    ∷ (0, 0x48 ∷ 0x75 ∷ 0xfd ∷ [], 2, done (record { reads = integer 0 ∷ []; writes = integer 0 ∷ zeroMark ∷ []; kind = Loop }))
-    ∷ (0, 0x48 ∷ 0x75 ∷ 0xfd ∷ [], 3, done (record { reads = zeroMark ∷ []; writes = []; kind = Loop }))
+    ∷ (0, 0x48 ∷ 0x75 ∷ 0xfd ∷ [], 2, done (touching (integer 0 ∷ []) (integer 0 ∷ zeroMark ∷ [])))
+    ∷ (0, 0x48 ∷ 0x75 ∷ 0xfd ∷ [], 3, done (touching (zeroMark ∷ []) []))
     -- DEC EAX; JNZ to the end
-    ∷ (0, 0x48 ∷ 0x75 ∷ 0 ∷ [], 1, done (record { reads = zeroMark ∷ []; writes = []; kind = Loop }))
+    ∷ (0, 0x48 ∷ 0x75 ∷ 0 ∷ [], 1, done (touching (zeroMark ∷ []) []))
     -- the step's own refusal: 90 is 5, a prefix after EMMS is 4, and past the last instruction the code ends
     ∷ (0, 0x90 ∷ [], 0, refused 5)
     ∷ (0, 0x0f ∷ 0x77 ∷ 0x66 ∷ [], 1, refused 4)

@@ -7,11 +7,11 @@ use Rattle.reorder.proofs.Cutting.{GoesOn}
 use Rattle.codec.specs.declared.Instruction.{Instruction}
 use Rattle.manual.specs.Refusals.{jumpsOutside}
 use Rattle.manual.specs.State.{State}
-use Rattle.manual.specs.Jumps.{isJump, ahead, jumped, next}
+use Rattle.manual.specs.Jumps.{isJump, ahead, jumped, onwardBy, next}
 use Rattle.manual.specs.Reasons.{Astray}
 
 pub goes-on : GoesOn next isJump
-unfolding next
+unfolding onwardBy
 goes-on i e length s behind = simp e
 
 -- where a jump by a byte leads, in a code of so many bytes
@@ -43,7 +43,7 @@ module _ (length : ℕ) (i : Instruction) (s : State) (behind : ℕ) where
 
   -- a jump is not taken where the zero mark is set
   pub not-taken : s .marks .zero ≡ true → next length i s behind ≡ done behind
-  unfolding next
+  unfolding onwardBy
   not-taken set = by (isJump i)
     where
       by : (t : Bool) → cond (t && not (s .marks .zero)) (jumped length behind (i .immediate)) (done behind) ≡ done behind
@@ -52,7 +52,7 @@ module _ (length : ℕ) (i : Instruction) (s : State) (behind : ℕ) where
 
   -- and else it is
   taken : isJump i ≡ true → s .marks .zero ≡ false → next length i s behind ≡ jumped length behind (i .immediate)
-  unfolding next
+  unfolding onwardBy
   taken jump clear = simp (jump, clear)
 
   module _ (first : i .first ≡ 0x75) (clear : s .marks .zero ≡ false) where
@@ -94,7 +94,7 @@ module _ (length : ℕ) (i : Instruction) (s : State) (behind : ℕ) where
       by o (outside a) astray = refl
 
   pub refused-missing : (n : ℕ) → next length i s behind ≡ refused n → (n ≡ jumpsOutside) × Missing length i s behind
-  unfolding next
+  unfolding onwardBy
   refused-missing n h = by (isJump i) (s .marks .zero) refl refl h
     where
       leading : isJump i ≡ true → s .marks .zero ≡ false → (o : Result ℕ) → Leads length behind (i .immediate) o → o ≡ refused n
@@ -110,7 +110,7 @@ module _ (length : ℕ) (i : Instruction) (s : State) (behind : ℕ) where
 
   -- a run goes on within the code
   pub stays-within : (further : ℕ) → behind ≤ length → next length i s behind ≡ done further → further ≤ length
-  unfolding next
+  unfolding onwardBy
   stays-within further b h = by (isJump i && not (s .marks .zero)) h
     where
       leading : (o : Result ℕ) → Leads length behind (i .immediate) o → o ≡ done further → further ≤ length
@@ -123,5 +123,4 @@ module _ (length : ℕ) (i : Instruction) (s : State) (behind : ℕ) where
 
 -- of a state, where a run goes on goes by the zero mark alone
 pub by-zero-mark : (length : ℕ) (i : Instruction) (s t : State) (behind : ℕ) → s .marks .zero ≡ t .marks .zero → next length i s behind ≡ next length i t behind
-unfolding next
-by-zero-mark length i s t behind same = ap (λ (set : Bool). cond (isJump i && not set) (jumped length behind (i .immediate)) (done behind)) same
+by-zero-mark length i s t behind same = ap (λ (set : Bool). onwardBy length i set behind) same

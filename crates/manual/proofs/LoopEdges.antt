@@ -8,10 +8,10 @@ use Rattle.manual.specs.Runs.{runOf, hasNoJump}
 use Rattle.manual.proofs.Marking.{controlled, clear}
 use Rattle.manual.proofs.Edges.{over, doneWith, refusedAfter, stepRefusedBy, tagsEmpty}
 
--- these numbers in EAX and ECX, 1 and 3 in the doublewords of MM1, eight bytes of memory, and these marks
-abbrev start : ℕ → ℕ → Marks → State
-start eax ecx marks =
-    record { mmx = 0 ∷ 0x0000000100000003 ∷ replicate 6 0; integers = eax ∷ ecx ∷ replicate 6 0; marks = marks; memory = replicate 8 0 }
+-- this number in EAX, 1 and 3 in the doublewords of MM1, eight bytes of memory, and these marks
+abbrev start : ℕ → Marks → State
+start eax marks =
+    record { mmx = 0 ∷ 0x0000000100000003 ∷ replicate 6 0; integers = eax ∷ replicate 7 0; marks = marks; memory = replicate 8 0 }
 
 -- no mark is set; the zero mark alone; EM alone; all control marks
 abbrev none : Marks
@@ -27,7 +27,7 @@ abbrev barred : Marks
 barred = controlled none true true true
 
 abbrev runFrom : ℕ → Marks → List ℕ → Answer State
-runFrom eax marks code = runOf 0 code 4096 (start eax 0 marks)
+runFrom eax marks code = runOf 0 code 4096 (start eax marks)
 
 abbrev run : List ℕ → Answer State
 run code = runFrom 7 none code
@@ -68,7 +68,7 @@ goesTo position (completed at t) = eqb at position
 goesTo position (refusedWith n at t) = false
 
 abbrev stepIn : List ℕ → ℕ → Outcome
-stepIn code at = stepAt 0 code at (start 7 0 none)
+stepIn code at = stepAt 0 code at (start 7 none)
 
 abbrev pub loopEdges : List Bool
 loopEdges =
@@ -81,13 +81,13 @@ loopEdges =
     -- DEC EAX; JNZ to 0
     ∷ doneWith 14 (left 0 0 true false) (run (0x48 ∷ 0x75 ∷ 0xfd ∷ []))
     -- a jump to itself never ends: the whole budget is spent
-    ∷ spentAt 0 3 (left 0 7 false false) (runOf 0 (0x75 ∷ 0xfe ∷ []) 3 (start 7 0 none))
-    ∷ spentAt 0 100 (left 0 7 false false) (runOf 0 (0x75 ∷ 0xfe ∷ []) 100 (start 7 0 none))
+    ∷ spentAt 0 3 (left 0 7 false false) (runOf 0 (0x75 ∷ 0xfe ∷ []) 3 (start 7 none))
+    ∷ spentAt 0 100 (left 0 7 false false) (runOf 0 (0x75 ∷ 0xfe ∷ []) 100 (start 7 none))
     -- to the end is done, though the budget is used up; with none of it left before the jump it is spent, also where it would be 19
-    ∷ doneWith 1 (left 0 7 false false) (runOf 0 (0x75 ∷ 0 ∷ []) 1 (start 7 0 none))
-    ∷ doneWith 1 (left 0 7 false false) (runOf 0 (0x75 ∷ 1 ∷ 0x90 ∷ []) 1 (start 7 0 none))
-    ∷ spentAt 0 0 (left 0 7 false false) (runOf 0 (0x75 ∷ 0 ∷ []) 0 (start 7 0 none))
-    ∷ spentAt 0 0 (left 0 7 false false) (runOf 0 (0x75 ∷ 0xfd ∷ []) 0 (start 7 0 none))
+    ∷ doneWith 1 (left 0 7 false false) (runOf 0 (0x75 ∷ 0 ∷ []) 1 (start 7 none))
+    ∷ doneWith 1 (left 0 7 false false) (runOf 0 (0x75 ∷ 1 ∷ 0x90 ∷ []) 1 (start 7 none))
+    ∷ spentAt 0 0 (left 0 7 false false) (runOf 0 (0x75 ∷ 0 ∷ []) 0 (start 7 none))
+    ∷ spentAt 0 0 (left 0 7 false false) (runOf 0 (0x75 ∷ 0xfd ∷ []) 0 (start 7 none))
     -- to -1, and one past the end
     ∷ refuses 19 (run (0x75 ∷ 0xfd ∷ []))
     ∷ refuses 19 (run (0x75 ∷ 1 ∷ []))
@@ -142,12 +142,12 @@ loopEdges =
     ∷ doneWith 1 (λ t. left 0 6 false false t && t .marks .em && not (t .marks .ts) && not (t .marks .pending)) (runFrom 7 em (0x48 ∷ []))
     -- 1, 20 and 2 refuse them too; of 4,096 bytes the last is read
     ∷ refusedAfter 1 0 tagsEmpty (runOf 0 (0x48 ∷ []) 1 (over (replicate 32769 0)))
-    ∷ refuses 20 (runOf 9 (0x48 ∷ []) 1 (start 7 0 none))
-    ∷ refuses 2 (runOf 0 (replicate 4097 0x48) 1 (start 7 0 none))
+    ∷ refuses 20 (runOf 9 (0x48 ∷ []) 1 (start 7 none))
+    ∷ refuses 2 (runOf 0 (replicate 4097 0x48) 1 (start 7 none))
     ∷ goesTo 4096 (stepIn (replicate 4096 0x48) 4095)
     ∷ stepRefusedBy 2 (stepIn (replicate 4097 0x48) 4095)
     -- over a floor of all the memory they complete
-    ∷ doneWith 3 (left 0 6 false false) (runOf 8 (0x83 ∷ 0xc0 ∷ 0 ∷ 0x48 ∷ 0x75 ∷ 0 ∷ []) 4096 (start 7 0 none))
+    ∷ doneWith 3 (left 0 6 false false) (runOf 8 (0x83 ∷ 0xc0 ∷ 0 ∷ 0x48 ∷ 0x75 ∷ 0 ∷ []) 4096 (start 7 none))
     -- code that ends inside MOV, ADD and JNZ is 3
     ∷ refuses 3 (run (0xb8 ∷ []))
     ∷ refuses 3 (run (0xb8 ∷ 0 ∷ 0 ∷ 0 ∷ []))

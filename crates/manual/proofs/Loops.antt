@@ -48,7 +48,7 @@ abbrev pub counted : State → ℕ → ℕ → State
 counted s k value = withZero (withInteger s k value) (eqb value 0)
 
 -- what is put into the zero mark is the answer
-answers : (t : Bool) → eqb (cond t 1 0) 1 ≡ t
+pub answers : (t : Bool) → eqb (cond t 1 0) 1 ≡ t
 answers true = refl
 answers false = refl
 

@@ -42,7 +42,7 @@ meeting-symmetric f g m = meets-symmetric KindsMeet kinds-turn f g m
 abbrev pub Empties : Instruction → Instruction → Type 0
 Empties i j = (isEmms (i .first) (i .second) ≡ true) × (isSilent (j .first) (j .second) ≡ false)
 
--- the kinds of two instructions meet exactly where one of them empties the tags, and the other touches them
+-- the kinds of two instructions meet exactly where one of them is EMMS, and the other no prefetch or SFENCE
 kinds-exactly : (i j : Instruction) → KindsMeet (kindAt (i .first) (i .second)) (kindAt (j .first) (j .second)) ↔ (Empties i j ⊎ Empties j i)
 kinds-exactly i j = (from (emms i) (silent i) (isLoopByte (i .first)) (emms j) (silent j) (isLoopByte (j .first)) refl refl refl refl, to)
   where

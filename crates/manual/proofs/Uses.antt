@@ -3,10 +3,11 @@
 use Rattle.basis.specs.Names.{_≡_, refl, Bool, true, false, cond, _&&_, _||_, List, [], _∷_, List·Memᴰ as In, ℕ, _+_, eqb, leb, ltb, length, getD, drop}
 use Rattle.basis.proofs.Names.{sym, ap, ap₂, _∙_, subst, subst₂, false≢true, List·Memᴰ·head as here, eqb-true}
 use Rattle.words.proofs.Laws.{and-both}
-use Rattle.reorder.specs.Result.{Result, done, refused, caseOf, andThen, mapResult}
+use Rattle.reorder.specs.Result.{Result, done, refused, caseOf, andThen, mapResult, provided}
 use Rattle.reorder.specs.Plan.{Plan, looks, puts, perform as performed}
 use Rattle.reorder.specs.Footprint.{Footprint, footprintOf as ofPlan, footprintIn, asked}
 use Rattle.reorder.specs.Run.{Fetched}
+use Rattle.reorder.proofs.Results.{provided-done}
 use Rattle.reorder.proofs.Swapping.{completed as planned}
 use Rattle.reorder.proofs.Honest.{Alike, asked-reads, honest, untouched}
 use Rattle.codec.specs.Forms.{absent, isAmong, reg32←imm32, reg32·imm8/0, reg32·alone, rel8off}
@@ -84,17 +85,13 @@ unfolding stepAt footprintAt instructionAt
 step-alike floor code at further s s′ t f e ef same agree =
     let x = step-executed floor code at further s t e in
     let i = x .found .instruction in
-    let its : footprint floor i s ≡ done f = has (footprint floor i s) (simp (x .stands, x .goes-on) at ef) in
+    let its : footprint floor i s ≡ done f = sym (provided-done (footprint floor i s) further) ∙ (simp (x .stands, x .goes-on) at ef) in
     let (t′, ex, ef′, writes) = completes-alike floor i s s′ t f (x .executes) its same agree in
     let stands : instructionAt floor code at s′ ≡ done (x .found) =
     sym (λ j. cond (ltb longestMemory (same j .memory)) (refused memoryTooLong) (cond (ltb (same j .memory) floor) (refused floorTooHigh) (resultOf (readAt code at)))) ∙ x .stands in
     let on : next (length code) i s′ (at + x .found .size) ≡ done further =
     sym (goes-on-alike floor (length code) (at + x .found .size) i s s′ (λ p m. agree p (subst (In p) (asked-is-read floor i s f its) m))) ∙ x .goes-on in
     (t′, simp (stands, ex, on), writes)
-  where
-    has : (o : Result (Footprint Place Kind)) → andThen o done ≡ done f → o ≡ done f
-    has (done g) h = h
-    has (refused n) h = absurd (false≢true (cc))
 
 -- nothing else changes: no place but those that the footprint writes, no control mark, not the memory's length
 pub changes-writes : (floor : ℕ) (i : Instruction) (s t : State) (f : Footprint Place Kind) → execute floor i s ≡ done t → footprint floor i s ≡ done f
@@ -265,18 +262,18 @@ unfolding stepAt footprintAt execute footprint
 footprint-exactly floor code at s = reading (instructionAt floor code at s)
   where
     making : (further : Result ℕ) (o : Result (List ℕ)) (leave : List ℕ → State) (touch : List ℕ → Footprint Place Kind)
-        → Together (concluded at further s (mapResult leave o)) (andThen (mapResult touch o) (λ f. mapResult (λ position. f) further))
+        → Together (concluded at further s (mapResult leave o)) (provided (mapResult touch o) further)
     making (done position) (done values) leave touch = tt
     making (refused n) (done values) leave touch = refl
     making further (refused n) leave touch = refl
 
     planning : (further : Result ℕ) (r : Fetched Instruction) (o : Result (Plan Place Kind)) → plan floor (effectOf (r .instruction)) s ≡ o
-        → Together (concluded at further s (execute floor (r .instruction) s)) (andThen (footprint floor (r .instruction) s) (λ f. mapResult (λ position. f) further))
+        → Together (concluded at further s (execute floor (r .instruction) s)) (provided (footprint floor (r .instruction) s) further)
     planning further r (done pl) e = simp e (making further (pl .make (looks look s (pl .source))) _ _)
     planning further r (refused n) e = simp e refl
 
     reading : (o : Result (Fetched Instruction))
         → Together (caseOf o (λ n. refusedWith n at s) (λ r. concluded at (next (length code) (r .instruction) s (at + r .size)) s (execute floor (r .instruction) s)))
-        (andThen o (λ r. andThen (footprint floor (r .instruction) s) (λ f. mapResult (λ position. f) (next (length code) (r .instruction) s (at + r .size)))))
+        (andThen o (λ r. provided (footprint floor (r .instruction) s) (next (length code) (r .instruction) s (at + r .size))))
     reading (refused n) = refl
     reading (done r) = planning (next (length code) (r .instruction) s (at + r .size)) r (plan floor (effectOf (r .instruction)) s) refl

@@ -1,6 +1,6 @@
 -- The footprint of the step at a position, as lists of places, and when two footprints meet.
 use Rattle.basis.specs.Names.{List, ℕ, _+_, length}
-use Rattle.reorder.specs.Result.{Result, andThen, mapResult}
+use Rattle.reorder.specs.Result.{Result, andThen, provided}
 use Rattle.reorder.specs.Footprint as places
 use Rattle.reorder.specs.Run.{positionReached, stateReached}
 use Rattle.codec.specs.declared.Kind.{Kind}
@@ -16,8 +16,7 @@ use Rattle.manual.specs.Runs.{runOf}
 unfoldable pub footprintAt : ℕ → List ℕ → ℕ → State → Result (places.Footprint Place Kind)
 footprintAt floor code at s =
     andThen (instructionAt floor code at s)
-    (λ read. andThen (footprint floor (read .instruction) s)
-    (λ found. mapResult (λ further. found) (next (length code) (read .instruction) s (at + read .size))))
+    (λ read. provided (footprint floor (read .instruction) s) (next (length code) (read .instruction) s (at + read .size)))
 
 -- the footprint of instruction k of a block, in the state where it runs over a floor in the original order: that of the step which a run of k
 -- instructions has come to

@@ -18,6 +18,10 @@ unfoldable pub jumped : ℕ → ℕ → ℕ → Result ℕ
 jumped length behind byte =
     let sum = ahead behind byte in cond (leb 256 sum && leb sum (length + 256)) (done (sum - 256)) (refused jumpsOutside)
 
--- in a code of so many bytes, in the state before the instruction, with the position behind it: a jump is taken where the zero mark is clear
-unfoldable pub next : ℕ → Instruction → State → ℕ → Result ℕ
-next length i s behind = cond (isJump i && not (s .marks .zero)) (jumped length behind (i .immediate)) (done behind)
+-- in a code of so many bytes, by the zero mark, with the position behind the instruction: a jump is taken where the mark is clear
+unfoldable pub onwardBy : ℕ → Instruction → Bool → ℕ → Result ℕ
+onwardBy length i zero behind = cond (isJump i && not zero) (jumped length behind (i .immediate)) (done behind)
+
+-- the same, in the state before the instruction
+abbrev pub next : ℕ → Instruction → State → ℕ → Result ℕ
+next length i s behind = onwardBy length i (s .marks .zero) behind

@@ -24,7 +24,7 @@ flatten-to (piece ∷ pieces) zero b = omega (arith, length-append piece [])
 flatten-to (piece ∷ pieces) (suc k) b =
     omega (arith, length-append piece (flatten (take (suc k) pieces)), length-append piece (flatten (take k pieces)), flatten-to pieces k (omega arith))
 
-module _ {S I F : Type 0} (read : List ℕ → Result (Fetched I)) (exec : I → S → Result S) (next : ℕ → I → S → ℕ → Result ℕ) (footprint : I → S → Result F) where
+module _ {S I : Type 0} (read : List ℕ → Result (Fetched I)) (exec : I → S → Result S) (next : ℕ → I → S → ℕ → Result ℕ) where
   -- where a run of k instructions has come to
   abbrev pub positionAfter : List ℕ → S → ℕ → ℕ
   positionAfter code s k = positionReached (run read exec next k code s)
@@ -40,7 +40,7 @@ module _ {S I F : Type 0} (read : List ℕ → Result (Fetched I)) (exec : I →
     pub completes : (t : S) × (exec (found .instruction) state ≡ done t)
     pub onward : next (length code) (found .instruction) state (at + found .size) ≡ done further
 
-  -- so does every run that finishes, k below its count
+  -- every run that finishes has come to one, k below its count
   pub reached : (budget : ℕ) (code : List ℕ) (position count end total : ℕ) (s t : S) → runFrom read exec next budget code position count s ≡ finished end total t
       → (k : ℕ) → count + k < total → Reached code position count s k
   reached zero code position count end total s t h k b = by (eqb position (length code)) h
@@ -109,61 +109,62 @@ module _ {S I F : Type 0} (read : List ℕ → Result (Fetched I)) (exec : I →
       by onward false et (refused m) eo z = absurd (false≢true (cc))
       by onward false et (done found) eo z = executing onward et found eo (exec (found .instruction) s) refl z
 
-  -- what a run of k instructions has come to: an instruction that is piece k of the code
-  pub record Comes (code : List ℕ) (s : S) (k : ℕ) : Type 0 where
-    pub at : ℕ
-    pub state : S
-    pub found : Fetched I
-    pub ran : run read exec next k code s ≡ spent at k state
-    pub stands : read (drop at code) ≡ done found
-    pub completes : (t : S) × (exec (found .instruction) state ≡ done t)
-    pub onward : next (length code) (found .instruction) state (at + found .size) ≡ done (at + found .size)
-    pub footprint-same : footprintInCode read exec footprint code s k ≡ footprint (found .instruction) state
-    pub piece : getD (piecesOf read code) k [] ≡ take (found .size) (drop at code)
-    pub behind : positionAfter code s (suc k) ≡ at + found .size
+  module _ {F : Type 0} (footprint : I → S → Result F) where
+    -- what a run of k instructions has come to: an instruction that is piece k of the code
+    pub record Comes (code : List ℕ) (s : S) (k : ℕ) : Type 0 where
+      pub at : ℕ
+      pub state : S
+      pub found : Fetched I
+      pub ran : run read exec next k code s ≡ spent at k state
+      pub stands : read (drop at code) ≡ done found
+      pub completes : (t : S) × (exec (found .instruction) state ≡ done t)
+      pub onward : next (length code) (found .instruction) state (at + found .size) ≡ done (at + found .size)
+      pub footprint-same : footprintInCode read exec footprint code s k ≡ footprint (found .instruction) state
+      pub piece : getD (piecesOf read code) k [] ≡ take (found .size) (drop at code)
+      pub behind : positionAfter code s (suc k) ≡ at + found .size
 
-  module _ (jumps : I → Bool) (reader : LocalReader read) (goes-on : GoesOn next jumps) where
-    -- of whole pieces whose row completes
-    module _ (pieces : List (List ℕ)) (s t : S) (whole : AllWhole read jumps pieces) (completes : execAll (onBytes read exec) pieces s ≡ done t) where
-      position-at : (k : ℕ) → k ≤ length pieces → positionAfter (flatten pieces) s k ≡ length (flatten (take k pieces))
-      position-at k b = go (decLt k (length pieces))
-        where
-          go : Dec (k < length pieces) → positionAfter (flatten pieces) s k ≡ length (flatten (take k pieces))
-          go (yes l) =
-              ap positionReached (spent-at read exec next jumps reader goes-on pieces k (flatten pieces) 0 0 s t (omega arith) refl whole completes l .0)
-              ∙ zero-add (length (flatten (take k pieces)))
-          go (no l) =
-              let all : k ≡ length pieces = omega arith in
-              ap positionReached (joined read exec next jumps reader goes-on pieces k (flatten pieces) 0 0 s t (omega arith) refl whole completes (omega arith))
-              ∙ ap (λ (ps : List (List ℕ)). length (flatten ps)) (sym (ap (λ (n : ℕ). take n pieces) all ∙ take-length pieces))
+    module _ (jumps : I → Bool) (reader : LocalReader read) (goes-on : GoesOn next jumps) where
+      -- of whole pieces whose row completes
+      module _ (pieces : List (List ℕ)) (s t : S) (whole : AllWhole read jumps pieces) (completes : execAll (onBytes read exec) pieces s ≡ done t) where
+        position-at : (k : ℕ) → k ≤ length pieces → positionAfter (flatten pieces) s k ≡ length (flatten (take k pieces))
+        position-at k b = go (decLt k (length pieces))
+          where
+            go : Dec (k < length pieces) → positionAfter (flatten pieces) s k ≡ length (flatten (take k pieces))
+            go (yes l) =
+                ap positionReached (spent-at read exec next jumps reader goes-on pieces k (flatten pieces) 0 0 s t (omega arith) refl whole completes l .0)
+                ∙ zero-add (length (flatten (take k pieces)))
+            go (no l) =
+                let all : k ≡ length pieces = omega arith in
+                ap positionReached (joined read exec next jumps reader goes-on pieces k (flatten pieces) 0 0 s t (omega arith) refl whole completes (omega arith))
+                ∙ ap (λ (ps : List (List ℕ)). length (flatten ps)) (sym (ap (λ (n : ℕ). take n pieces) all ∙ take-length pieces))
 
-      comes-at : (k : ℕ) → k < length pieces → Comes (flatten pieces) s k
-      comes-at k b = go (whole-at read jumps pieces whole k b)
-        where
-          go : Whole read jumps (getD pieces k []) → Comes (flatten pieces) s k
-          go (r, er, z, ej) =
-              let at = length (flatten (take k pieces)) in
-              let (runs, remaining, (u, does)) = spent-at read exec next jumps reader goes-on pieces k (flatten pieces) 0 0 s t (omega arith) refl whole completes b in
-              let here : drop at (flatten pieces) ≡ getD pieces k [] ++ flatten (drop (suc k) pieces) =
-              ap (λ (n : ℕ). drop n (flatten pieces)) (sym (zero-add at)) ∙ remaining ∙ flatten-at pieces k b in
-              let cuts : piecesOf read (flatten pieces) ≡ pieces = pieces-found read jumps reader pieces whole in
-              record {
-                at = at;
-                state = before (onBytes read exec) pieces k s;
-                found = r;
-                ran = runs ∙ ap₂ (λ n m. spent n m (before (onBytes read exec) pieces k s)) (zero-add at) (zero-add k);
-                stands = ap read here ∙ read-front read reader (getD pieces k []) (flatten (drop (suc k) pieces)) r er z;
-                completes = (u, sym (ap (λ (o : Result (Fetched I)). andThen o (λ q. exec (q .instruction) (before (onBytes read exec) pieces k s))) er) ∙ does);
-                onward = goes-on (r .instruction) ej (length (flatten pieces)) (before (onBytes read exec) pieces k s) (at + r .size);
-                footprint-same = ap (λ (ps : List (List ℕ)). footprintAt (onBytes read exec) (onBytes read footprint) ps s [] k) cuts
-                    ∙ ap (λ (o : Result (Fetched I)). andThen o (λ q. footprint (q .instruction) (before (onBytes read exec) pieces k s))) er;
-                piece = ap (λ (ps : List (List ℕ)). getD ps k []) cuts
-                    ∙ sym (ap (take (r .size)) here ∙ take-at (getD pieces k []) (flatten (drop (suc k) pieces)) (r .size) (sym z));
-                behind = position-at (suc k) (omega arith) ∙ flatten-to pieces k b ∙ ap (λ (n : ℕ). at + n) (sym z);
-              }
+        comes-at : (k : ℕ) → k < length pieces → Comes (flatten pieces) s k
+        comes-at k b = go (whole-at read jumps pieces whole k b)
+          where
+            go : Whole read jumps (getD pieces k []) → Comes (flatten pieces) s k
+            go (r, er, z, ej) =
+                let at = length (flatten (take k pieces)) in
+                let (runs, remaining, (u, does)) = spent-at read exec next jumps reader goes-on pieces k (flatten pieces) 0 0 s t (omega arith) refl whole completes b in
+                let here : drop at (flatten pieces) ≡ getD pieces k [] ++ flatten (drop (suc k) pieces) =
+                ap (λ (n : ℕ). drop n (flatten pieces)) (sym (zero-add at)) ∙ remaining ∙ flatten-at pieces k b in
+                let cuts : piecesOf read (flatten pieces) ≡ pieces = pieces-found read jumps reader pieces whole in
+                record {
+                  at = at;
+                  state = before (onBytes read exec) pieces k s;
+                  found = r;
+                  ran = runs ∙ ap₂ (λ n m. spent n m (before (onBytes read exec) pieces k s)) (zero-add at) (zero-add k);
+                  stands = ap read here ∙ read-front read reader (getD pieces k []) (flatten (drop (suc k) pieces)) r er z;
+                  completes = (u, sym (ap (λ (o : Result (Fetched I)). andThen o (λ q. exec (q .instruction) (before (onBytes read exec) pieces k s))) er) ∙ does);
+                  onward = goes-on (r .instruction) ej (length (flatten pieces)) (before (onBytes read exec) pieces k s) (at + r .size);
+                  footprint-same = ap (λ (ps : List (List ℕ)). footprintAt (onBytes read exec) (onBytes read footprint) ps s [] k) cuts
+                      ∙ ap (λ (o : Result (Fetched I)). andThen o (λ q. footprint (q .instruction) (before (onBytes read exec) pieces k s))) er;
+                  piece = ap (λ (ps : List (List ℕ)). getD ps k []) cuts
+                      ∙ sym (ap (take (r .size)) here ∙ take-at (getD pieces k []) (flatten (drop (suc k) pieces)) (r .size) (sym z));
+                  behind = position-at (suc k) (omega arith) ∙ flatten-to pieces k b ∙ ap (λ (n : ℕ). at + n) (sym z);
+                }
 
-    pub comes-to : (code : List ℕ) (budget end total : ℕ) (s t : S) → reaches read jumps code ≡ false → run read exec next budget code s ≡ finished end total t
-        → (k : ℕ) → k < total → Comes code s k
-    comes-to code budget end total s t clear h k b =
-        let (pieces, e, w, x, c, l, p) = cut read exec next jumps reader goes-on budget (length code) code 0 0 s end total t (omega arith) (omega arith, clear) h in
-        subst (λ (bytes : List ℕ). Comes bytes s k) (sym e) (comes-at pieces s t w x k (omega arith))
+      pub comes-to : (code : List ℕ) (budget end total : ℕ) (s t : S) → reaches read jumps code ≡ false → run read exec next budget code s ≡ finished end total t
+          → (k : ℕ) → k < total → Comes code s k
+      comes-to code budget end total s t clear h k b =
+          let (pieces, e, w, x, c, l, p) = cut read exec next jumps reader goes-on budget (length code) code 0 0 s end total t (omega arith) (omega arith, clear) h in
+          subst (λ (bytes : List ℕ). Comes bytes s k) (sym e) (comes-at pieces s t w x k (omega arith))

@@ -1,4 +1,5 @@
--- The laws: of lists and permutations, of a reordered row, of plans and footprints, of runs and blocks.
+-- The laws: of what may be refused, of lists and permutations, of a reordered row, of plans and footprints, of runs and blocks.
+pub mod Results
 pub mod Membership
 pub mod Rows
 pub mod Permutation

@@ -29,6 +29,6 @@ module _ {I : Type 0} (read : List ℕ → Result (Fetched I)) where
   reachesUpTo such (suc most) code =
       caseOf (read code) (λ n. false) (λ found. such (found .instruction) || reachesUpTo such most (drop (found .size) code))
 
-  -- in all of them
+  -- in all of them: each has at least one byte
   abbrev pub reaches : (I → Bool) → List ℕ → Bool
   reaches such code = reachesUpTo such (length code) code

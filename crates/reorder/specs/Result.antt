@@ -19,3 +19,7 @@ andThen (done a) next = next a
 abbrev pub mapResult : {A B : Type 0} → (A → B) → Result A → Result B
 mapResult f (refused n) = refused n
 mapResult f (done a) = done (f a)
+
+-- a value, provided that something else is not refused
+abbrev pub provided : {A B : Type 0} → Result A → Result B → Result A
+provided o other = andThen o (λ a. mapResult (λ b. a) other)

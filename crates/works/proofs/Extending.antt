@@ -2,11 +2,10 @@
 use Rattle.basis.specs.Names.{_≡_, refl, ℕ, _+_, _%_, _^_, _<_, bitXor}
 use Rattle.basis.proofs.Names.{_∙_, dite, decLe, arith, needs, le-leb, lt-leb}
 use Rattle.lanes.proofs.TopBits.{turn-low, turn-high}
-use Rattle.manual.specs.Addresses.{displacementOf}
+use Rattle.manual.specs.Addresses.{signedByte}
 
 -- a byte's sign is extended from its top bit turned over
-pub byte-extended : (d r : ℕ) → d < 256 → r ≡ (bitXor d 128 + 0xffffff80) % 2 ^ 32 → r ≡ displacementOf 1 d % 2 ^ 32
-unfolding displacementOf
+pub byte-extended : (d r : ℕ) → d < 256 → r ≡ (bitXor d 128 + 0xffffff80) % 2 ^ 32 → r ≡ signedByte d % 2 ^ 32
 byte-extended d r h e =
     e
     ∙ dite (decLe 128 d)

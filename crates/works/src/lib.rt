@@ -25,10 +25,10 @@ pub const DOUBLEWORD: u8 = 4;
 pub const QUADWORD: u8 = 8;
 
 // How many values a doubleword has.
-pub const DOUBLEWORD_RANGE: u64 = 0x100000000;
+pub(crate) const DOUBLEWORD_RANGE: u64 = 0x100000000;
 
 // What remains of an instruction: what to do, with a number (the operation, the bytes to store, or the refusal), a place (the register, or the
-// address) and a value, and the position after it.
+// address) and a value, and the position where the run goes on.
 pub struct Work {
     pub what: u8,
     pub number: u8,

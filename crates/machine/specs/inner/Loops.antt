@@ -1,10 +1,10 @@
 -- What the code knows of an instruction of loops, and what it makes of one.
-use Rattle.basis.specs.Names.{_≡_, Bool, true, not, cond, _&&_, List, ℕ, _/_, _%_, _^_, _≤_, eqb}
+use Rattle.basis.specs.Names.{_≡_, true, cond, List, ℕ, _/_, _%_, _^_, _≤_, eqb}
 use Rattle.reorder.specs.Result.{Result, done, refused}
 use Rattle.codec.specs.declared.Instruction.{Instruction}
 use Rattle.codec.specs.declared.Kind.the-variants.{Loop}
 use Rattle.manual.specs.Effects.{Effect}
-use Rattle.manual.specs.Jumps.{isJump, jumped}
+use Rattle.manual.specs.Jumps.{isJump}
 use Rattle.machine.specs.declared.Footprint.{Footprint}
 use Rattle.works.specs.declared.Work.{Work}
 use Rattle.works.specs.Works.{toPass, workOf, refusedWork}
@@ -16,10 +16,6 @@ pub record Looping (entry : ℕ) (i : Instruction) : Type 0 where
   pub least : 10 ≤ entry / 2 ^ 24
   pub most : entry / 2 ^ 24 ≤ 13
   pub jumps : isJump i ≡ eqb (entry / 2 ^ 24) 13
-
--- where a run goes on, by the zero mark alone
-unfoldable pub onwardBy : ℕ → Instruction → Bool → ℕ → Result ℕ
-onwardBy length i zero behind = cond (isJump i && not zero) (jumped length behind (i .immediate)) (done behind)
 
 -- what remains of a jump that leads there
 abbrev pub landing : Result ℕ → Work

@@ -37,7 +37,7 @@ machineOf registers integers marks = record { mmx = registers; integers = intege
 abbrev pub renewed : Marks → Bool → Bool → Marks
 renewed marks valid zero = record { valid = valid; zero = zero; em = marks .em; ts = marks .ts; pending = marks .pending }
 
--- the same, where they stop the form of this number; else 0
+-- the refusal of the control marks, or 0 (`bar`), where they stop the form of this number; else 0
 abbrev pub stoppingBy : ℕ → ℕ → ℕ
 stoppingBy bar form = cond (isUnstopped form) 0 bar
 

@@ -7,4 +7,4 @@ pub extended-spec : {M : Type 1} → statement M
 extended-spec =
     tie.close
     (tie.spec
-    (λ c. search addressing) (λ c. search addressing) (λ c κs. search addressing) (λ c. search addressing))
+    (λ c. search addressing) (λ c κs. search addressing) (λ c. search addressing))

@@ -3,7 +3,15 @@ use Rattle.basis.specs.Names.{_≡_, List, Option, none, some, ℕ, suc, _+_, _
 use Rattle.basis.proofs.Names.{ap, ap₂, _∙_, and-false, mul-one, add-zero, mul-add, add-mod, mod-add-mod, add-mod-mod, two-pow-succ, arith, needs, eq-eqb, ne-eqb, le-leb, lt-leb}
 use Rattle.codec.specs.Operands.{hasSib}
 use Rattle.codec.specs.declared.Operand.{Operand}
-use Rattle.manual.specs.Addresses.{displacementOf, baseOf, indexOf, addressOf, registerPart, address}
+use Rattle.manual.specs.Addresses.{signedByte, displacementOf, baseOf, indexOf, addressOf, registerPart, address}
+
+-- a signed byte
+module _ (byte : ℕ) where
+  pub signed-low : byte < 128 → byte ≡ signedByte byte % 2 ^ 32
+  signed-low h = simp (lt-leb 128 byte h) (omega arith)
+
+  pub signed-high : (r : ℕ) → 128 ≤ byte → r ≡ (byte + 0xffffff00) % 2 ^ 32 → r ≡ signedByte byte % 2 ^ 32
+  signed-high r h e = simp (le-leb 128 byte h) e
 
 -- the displacement
 module _ (mode displacement : ℕ) where
@@ -11,13 +19,9 @@ module _ (mode displacement : ℕ) where
   unfolding displacementOf
   extended-none other h = simp (ne-eqb mode 1 other) (omega arith)
 
-  pub extended-low : mode ≡ 1 → displacement < 128 → displacement ≡ displacementOf mode displacement % 2 ^ 32
+  pub extended-byte : (r : ℕ) → mode ≡ 1 → r ≡ signedByte displacement % 2 ^ 32 → r ≡ displacementOf mode displacement % 2 ^ 32
   unfolding displacementOf
-  extended-low byte h = simp (eq-eqb mode 1 byte, lt-leb 128 displacement h) (omega arith)
-
-  pub extended-high : (r : ℕ) → mode ≡ 1 → 128 ≤ displacement → r ≡ (displacement + 0xffffff00) % 2 ^ 32 → r ≡ displacementOf mode displacement % 2 ^ 32
-  unfolding displacementOf
-  extended-high r byte h e = simp (eq-eqb mode 1 byte, le-leb 128 displacement h) e
+  extended-byte r byte e = simp (eq-eqb mode 1 byte) e
 
 -- the registers
 module _ (register : ℕ) where
@@ -81,4 +85,4 @@ module _ (integers : List ℕ) (w : Operand) (d : ℕ) (displaced : d ≡ displa
       ∙ ap₂ (λ (m n : ℕ). (m + n) % 2 ^ 32) (summed ∙ ap (λ (n : ℕ). (start + n) % 2 ^ 32) scaled-by ∙ add-mod-mod start _ _) displaced
       ∙ add-mod-mod _ _ _ ∙ mod-add-mod _ _ _)
 
-pub ruleset addressing = (needs, extended-none, extended-low, extended-high, base-is, base-is-five, no-base, index-is, no-index, part-named, part-none, scale-starts, scale-doubles, scale-ends, sum-plain, sum-sib)
+pub ruleset addressing = (needs, signed-low, signed-high, extended-none, extended-byte, base-is, base-is-five, no-base, index-is, no-index, part-named, part-none, scale-starts, scale-doubles, scale-ends, sum-plain, sum-sib)

@@ -2,10 +2,10 @@
 -- marks. Rules for their answers.
 use Rattle.basis.specs.Names.{_≡_, refl, List, ℕ, _-_, _/_, _^_, _+_, _≤_, _<_, length}
 use Rattle.basis.proofs.Names.{sym, ap, _∙_, arith, needs, lt-ltb}
-use Rattle.reorder.specs.Result.{Result, done, refused, andThen, mapResult}
+use Rattle.reorder.specs.Result.{Result, refused, andThen, mapResult, provided}
 use Rattle.reorder.specs.Plan.{Plan}
-use Rattle.reorder.specs.Footprint as places
 use Rattle.reorder.specs.Footprint.{footprintIn}
+use Rattle.reorder.proofs.Results.{provided-done, provided-map}
 use Rattle.codec.specs.Answers.{Decoded, good}
 use Rattle.codec.specs.Answers as decoded
 use Rattle.codec.specs.Opcodes.{escape}
@@ -22,7 +22,7 @@ use Rattle.manual.specs.Places.{Place, look}
 use Rattle.manual.specs.Kinds.{heeded}
 use Rattle.manual.specs.Effects.{Effect, unlessMarked, via}
 use Rattle.manual.specs.Instructions.{effectOf, footprint}
-use Rattle.manual.specs.Jumps.{next}
+use Rattle.manual.specs.Jumps.{onwardBy, next}
 use Rattle.manual.specs.Steps.{resultOf, instructionAt}
 use Rattle.manual.specs.Footprints.{footprintAt}
 use Rattle.manual.proofs.Jumps.{no-jump}
@@ -37,23 +37,10 @@ use Rattle.machine.specs.Footprints.{masked, maskedAt, paperOfFootprint}
 use Rattle.machine.specs.inner.Reaches.{unmarkedFootprint}
 use Rattle.works.specs.Bars.{barredBy}
 use Rattle.machine.specs.inner.Works.{stoppingBy, effectIn}
-use Rattle.machine.specs.inner.Loops.{onwardBy, loopFootprint}
+use Rattle.machine.specs.inner.Loops.{loopFootprint}
 use Rattle.machine.proofs.laws.gathering.Fetching.{names-registers, is-listed, is-looping, effect-found, kind-found}
 use Rattle.machine.proofs.laws.loops.Looping.{loop-footprint}
 use Rattle.machine.proofs.laws.gathering.Testing.{unbarred-by, barred-by, stopped-by}
-
--- a footprint, where the run goes on
-abbrev shownOn : Result Footprint → Result ℕ → Result Footprint
-shownOn o further = andThen o (λ f. mapResult (λ position. f) further)
-
-masked-on : (o : Result (places.Footprint Place Kind)) (further : Result ℕ) → mapResult masked (andThen o (λ f. mapResult (λ position. f) further)) ≡ shownOn (mapResult masked o) further
-masked-on (done f) (done position) = refl
-masked-on (done f) (refused n) = refl
-masked-on (refused n) further = refl
-
-shown-behind : (o : Result Footprint) (position : ℕ) → shownOn o (done position) ≡ o
-shown-behind (done f) position = refl
-shown-behind (refused n) position = refl
 
 -- past the memory's length
 module _ (code : List ℕ) (at : ℕ) (machine : Machine) (memory : List ℕ) where
@@ -67,7 +54,7 @@ module _ (code : List ℕ) (at : ℕ) (machine : Machine) (memory : List ℕ) wh
   module _ (short : length memory ≤ longestMemory) where
     by-reading : (z : Decoded) → z ≡ readAt code at
         → maskedAt code at here
-        ≡ mapResult masked (andThen (resultOf z) (λ r. andThen (footprint 0 (r .instruction) here) (λ f. mapResult (λ position. f) (next (length code) (r .instruction) here (at + r .size)))))
+        ≡ mapResult masked (andThen (resultOf z) (λ r. provided (footprint 0 (r .instruction) here) (next (length code) (r .instruction) here (at + r .size))))
     unfolding maskedAt footprintAt instructionAt
     by-reading z e = let fits = within-limits 0 here short (omega arith) in simp (fits .memory-fits, fits .floor-fits, ← e)
 
@@ -90,28 +77,27 @@ module _ (code : List ℕ) (at : ℕ) (machine : Machine) (memory : List ℕ) wh
         behind : at + (x .next - at) ≡ x .next
         behind = omega (arith, read-next code at x table ours e passed)
 
-        traced-found : maskedAt code at here ≡ unlessMarked (heeded (effectIn (x .entry) (x .instruction) .kind) (machine .marks)) (shownOn answered further)
+        traced-found : maskedAt code at here ≡ unlessMarked (heeded (effectIn (x .entry) (x .instruction) .kind) (machine .marks)) (provided answered further)
         unfolding footprint unmarkedFootprint
         traced-found =
             by-reading (good (x .instruction) (x .next - at)) (read-on code at x table ours e fits passed)
-            ∙ ap (λ (n : ℕ). mapResult masked (andThen (footprint 0 (x .instruction) here) (λ f. mapResult (λ position. f) (next (length code) (x .instruction) here n)))) behind
-            ∙ masked-on (footprint 0 (x .instruction) here) further
-            ∙ past-marks (λ (o : Result (Plan Place Kind)). shownOn (mapResult masked (footprintIn look (via (effectOf (x .instruction))) here o)) further) (λ n. refl)
+            ∙ ap (λ (n : ℕ). mapResult masked (provided (footprint 0 (x .instruction) here) (next (length code) (x .instruction) here n))) behind
+            ∙ provided-map masked (footprint 0 (x .instruction) here) further
+            ∙ past-marks (λ (o : Result (Plan Place Kind)). provided (mapResult masked (footprintIn look (via (effectOf (x .instruction))) here o)) further) (λ n. refl)
             (heeded (effectOf (x .instruction) .kind) (machine .marks)) _
-            ∙ ap (λ (o : Result (Plan Place Kind)). unlessMarked (heeded (effectOf (x .instruction) .kind) (machine .marks)) (shownOn (mapResult masked (footprintIn look (via (effectOf (x .instruction))) here o)) further))
+            ∙ ap (λ (o : Result (Plan Place Kind)). unlessMarked (heeded (effectOf (x .instruction) .kind) (machine .marks)) (provided (mapResult masked (footprintIn look (via (effectOf (x .instruction))) here o)) further))
             (placed-zero (effectOf (x .instruction)) here)
-            ∙ ap (λ (y : Effect). unlessMarked (heeded (y .kind) (machine .marks)) (shownOn (unmarkedFootprint y here) further)) (sym (effect-found table code at x ours e passed))
+            ∙ ap (λ (y : Effect). unlessMarked (heeded (y .kind) (machine .marks)) (provided (unmarkedFootprint y here) further)) (sym (effect-found table code at x ours e passed))
 
         -- one of loops, by its own footprint
         pub traced-looped : (o : Result Footprint) → (x .instruction .first ≡ escape → ⊥)
             → o ≡ mapResult (λ position. loopFootprint (x .entry / 2 ^ 24) (x .instruction)) (onwardBy (length code) (x .instruction) (machine .marks .zero) (x .next))
             → o ≡ maskedAt code at here
-        unfolding next onwardBy
         traced-looped o other p =
             p
             ∙ sym (traced-found
-            ∙ ap (λ (k : Kind). unlessMarked (heeded k (machine .marks)) (shownOn answered further)) (kind-found table code at x ours e passed other)
-            ∙ ap (λ (y : Result Footprint). shownOn y further) (loop-footprint (x .entry) (x .instruction) (is-looping table code at x ours e passed other) here))
+            ∙ ap (λ (k : Kind). unlessMarked (heeded k (machine .marks)) (provided answered further)) (kind-found table code at x ours e passed other)
+            ∙ ap (λ (y : Result Footprint). provided y further) (loop-footprint (x .entry) (x .instruction) (is-looping table code at x ours e passed other) here))
 
         -- the number of the marks that stop it, or 0, where its first byte is 0F
         module _ (escaped : x .instruction .first ≡ escape) (bar stop : ℕ) (found : bar ≡ barredBy (machine .marks)) (stopping : stop ≡ stoppingBy bar (x .entry / 2 ^ 24)) where
@@ -122,7 +108,7 @@ module _ (code : List ℕ) (at : ℕ) (machine : Machine) (memory : List ℕ) wh
           traced-behind =
               traced-found
               ∙ ap (unlessMarked (heeded (effectIn (x .entry) (x .instruction) .kind) (machine .marks)))
-              (ap (shownOn answered) (no-jump (length code) (x .instruction) here (x .next) (λ z. omega (arith, escaped))) ∙ shown-behind answered (x .next))
+              (ap (provided answered) (no-jump (length code) (x .instruction) here (x .next) (λ z. omega (arith, escaped))) ∙ provided-done answered (x .next))
 
           pub traced-barred : (stop ≡ 0 → ⊥) → refused stop ≡ maskedAt code at here
           traced-barred h = ap refused stops-it ∙ sym (traced-behind ∙ barred-by _ _ (λ z. h (stops-it ∙ z)))
@@ -130,4 +116,4 @@ module _ (code : List ℕ) (at : ℕ) (machine : Machine) (memory : List ℕ) wh
           pub traced-unbarred : (r : Tracing) → stop ≡ 0 → paperOfFootprint r ≡ answered → paperOfFootprint r ≡ maskedAt code at here
           traced-unbarred r h p = p ∙ sym (traced-behind ∙ unbarred-by _ _ (sym stops-it ∙ h))
 
-pub ruleset position-rules = (needs, names-registers, is-listed, is-looping, traced-long, traced-code-long, traced-unread, traced-looped, traced-barred, traced-unbarred)
+pub ruleset position-rules = (needs, names-registers, is-listed, traced-long, traced-code-long, traced-unread, traced-barred, traced-unbarred)

@@ -24,7 +24,7 @@ use Rattle.manual.specs.Kinds.{heeded}
 use Rattle.manual.specs.Effects.{Effect, unlessMarked}
 use Rattle.manual.specs.inner.Unmarked.{directly}
 use Rattle.manual.specs.Instructions.{effectOf, execute}
-use Rattle.manual.specs.Jumps.{next}
+use Rattle.manual.specs.Jumps.{onwardBy, next}
 use Rattle.manual.specs.Steps.{concluded, refusedWith, resultOf, stepAt}
 use Rattle.manual.specs.Runs.{read}
 use Rattle.manual.proofs.Jumps.{no-jump}
@@ -35,7 +35,7 @@ use Rattle.machine.specs.State.{stateOf}
 use Rattle.works.specs.Bars.{barredBy}
 use Rattle.works.specs.Works.{refusedWork}
 use Rattle.machine.specs.inner.Works.{machineOf, stoppingBy, effectIn, Listed, performed, Does, Gathered}
-use Rattle.machine.specs.inner.Loops.{Looping, onwardBy, Loops}
+use Rattle.machine.specs.inner.Loops.{Looping, Loops}
 use Rattle.machine.proofs.laws.gathering.Listing.{entry-listed, entry-looping, effect-is, loop-kind}
 use Rattle.machine.proofs.laws.gathering.Soundness.{sound-refusal}
 use Rattle.machine.proofs.laws.gathering.Testing.{unbarred-by, barred-by, stopped-by}
@@ -152,7 +152,6 @@ module _ (table code : List ℕ) (at : ℕ) (x : Found) (ours : table ≡ opcode
     -- one of loops was found
     pub gathered-looped : x .refusal ≡ 0 → (x .instruction .first ≡ escape → ⊥)
         → Loops work integers (effectIn (x .entry) (x .instruction)) (onwardBy (length code) (x .instruction) zero (x .next)) → Gathered work registers integers bar zero code at m
-    unfolding next onwardBy
     gathered-looped passed other l =
         record {
           sound = l .does registers m .sound;
@@ -191,4 +190,4 @@ module _ (table code : List ℕ) (at : ℕ) (x : Found) (ours : table ≡ opcode
                 ∙ sym (step-behind floor (state marks) code-fits memory-fits low passed escaped ∙ ap (concluded at (done (x .next)) (state marks)) (unbarred-by _ _ (sym (stops-it marks b) ∙ h)));
           }
 
-pub ruleset fetching = (needs, names-registers, is-listed, is-looping, gathered-unread, gathered-looped, gathered-barred, gathered-sorted)
+pub ruleset fetching = (needs, gathered-unread)

@@ -1,5 +1,5 @@
 -- Where a jump leads, what remains of an instruction of loops, and its footprint: by the number of its form. Rules for the functions of loops.
-use Rattle.basis.specs.Names.{_≡_, refl, Bool, true, false, not, cond, _&&_, List, [], ℕ, _+_, _-_, _/_, _%_, _^_, eqb, leb, getD}
+use Rattle.basis.specs.Names.{_≡_, refl, Bool, true, false, not, cond, _&&_, List, ℕ, _+_, _-_, _/_, _%_, _^_, eqb, leb, getD}
 use Rattle.basis.proofs.Names.{sym, ap, subst, _∙_, or-zero-r, arith, needs, eqb-true, eqb-false, eq-eqb, ne-eqb, zero-add, add-mod-mod, mod-mod}
 use Rattle.reorder.specs.Result.{Result, done, refused, mapResult}
 use Rattle.reorder.specs.Footprint.{footprintIn}
@@ -12,8 +12,8 @@ use Rattle.manual.specs.Refusals.{jumpsOutside}
 use Rattle.manual.specs.State.{State}
 use Rattle.manual.specs.Places.{look}
 use Rattle.manual.specs.Effects.{placed, via}
-use Rattle.manual.specs.Addresses.{signedByte, displacementOf}
-use Rattle.manual.specs.Jumps.{ahead, jumped}
+use Rattle.manual.specs.Addresses.{signedByte}
+use Rattle.manual.specs.Jumps.{ahead, jumped, onwardBy}
 use Rattle.manual.specs.Instructions.{effectBy}
 use Rattle.machine.specs.declared.Places.{Places}
 use Rattle.machine.specs.declared.Footprint.{Footprint}
@@ -25,7 +25,7 @@ use Rattle.works.specs.Works.{toPass, toSet, toCount, workOf, refusedWork}
 use Rattle.machine.specs.inner.Works.{effectIn, performed}
 use Rattle.machine.specs.inner.Reaches.{nowhere, integerAlone, unmarkedFootprint}
 use Rattle.machine.specs.Footprints.{masked}
-use Rattle.machine.specs.inner.Loops.{Looping, onwardBy, landing, Loops, countingFootprint, loopFootprint}
+use Rattle.machine.specs.inner.Loops.{Looping, landing, Loops, countingFootprint, loopFootprint}
 use Rattle.machine.proofs.laws.gathering.Soundness.{sound-passes, sound-set, sound-count, sound-refusal}
 
 -- a jump, with the position behind it
@@ -58,7 +58,7 @@ module _ (o : Result ℕ) (t : Target) (leading : paperOfTarget t ≡ o) (work :
 pub ruleset landings = (needs, counted-is, landing-at, landing-refused)
 
 -- one of loops, with the position behind it
-module _ (integers : List ℕ) (zero : Bool) (entry : ℕ) (i : Instruction) (length next : ℕ) (l : Looping entry i) where
+module _ (zero : Bool) (entry : ℕ) (i : Instruction) (length next : ℕ) (l : Looping entry i) where
   abbrev form : ℕ
   form = entry / 2 ^ 24
 
@@ -72,7 +72,7 @@ module _ (integers : List ℕ) (zero : Bool) (entry : ℕ) (i : Instruction) (le
   onward-leads h = simp (l .jumps, eq-eqb form 13 h)
 
   -- by the number of the form
-  module _ (work : Work) where
+  module _ (integers : List ℕ) (work : Work) where
     abbrev Ends : Type 0
     Ends = Loops work integers (effectIn entry i) (onwardBy length i zero next)
 
@@ -92,9 +92,9 @@ module _ (integers : List ℕ) (zero : Bool) (entry : ℕ) (i : Instruction) (le
           does = λ registers memory. record { sound = sound-set (i .first % 8) _ next (omega arith); does = λ floor marks at. simp (e, zero-add) };
         })
 
-    pub loops-add : Registers (i .operand) → (addend : ℕ) → addend ≡ displacementOf 1 (i .immediate) % 2 ^ 32 → form ≡ 11
+    pub loops-add : Registers (i .operand) → (addend : ℕ) → addend ≡ signedByte (i .immediate) % 2 ^ 32 → form ≡ 11
         → work ≡ workOf toCount 0 (i .operand .rm) ((getD integers (i .operand .rm) 0 + addend) % 2 ^ 32) next → Ends
-    unfolding performed displacementOf
+    unfolding performed
     loops-add r addend a e w =
         simp (onward-behind (λ z. omega arith), w, a)
         (record {
@@ -122,8 +122,6 @@ module _ (integers : List ℕ) (zero : Bool) (entry : ℕ) (i : Instruction) (le
             simp (f, g)
             (record { does = λ registers memory. record { sound = sound-refusal jumpsOutside (λ z. omega arith); does = λ floor marks at. simp last } })
 
-pub ruleset looping = (needs, loops-down, loops-set, loops-add, loops-jump)
-
 -- footprints
 
 -- the zero mark beside an integer register
@@ -138,7 +136,7 @@ module _ (zero : Bool) (entry : ℕ) (i : Instruction) (length next : ℕ) (l : 
   answered = mapResult (λ position. loopFootprint (entry / 2 ^ 24) i) (onwardBy length i zero next)
 
   behind : (f : Footprint) → (entry / 2 ^ 24 ≡ 13 → ⊥) → f ≡ loopFootprint (entry / 2 ^ 24) i → done f ≡ answered
-  behind f h e = ap done e ∙ ap (mapResult (λ position. loopFootprint (entry / 2 ^ 24) i)) (sym (onward-behind [] zero entry i length next l h))
+  behind f h e = ap done e ∙ ap (mapResult (λ position. loopFootprint (entry / 2 ^ 24) i)) (sym (onward-behind zero entry i length next l h))
 
   pub traced-set : (q : Places) → entry / 2 ^ 24 ≡ 10 → q ≡ integerAlone (i .first % 8) → done (record { reads = nowhere; writes = q; kind = Loop }) ≡ answered
   traced-set q e h = behind _ (λ z. omega arith) (simp (e, h))
@@ -155,7 +153,7 @@ module _ (zero : Bool) (entry : ℕ) (i : Instruction) (length next : ℕ) (l : 
     last = omega (arith, l .least, l .most, no-set, no-add, no-down)
 
     landed : mapResult (λ position. loopFootprint (entry / 2 ^ 24) i) (paperOfTarget t) ≡ answered
-    landed = ap (mapResult (λ position. loopFootprint (entry / 2 ^ 24) i)) (target ∙ sym (onward-leads [] zero entry i length next l last))
+    landed = ap (mapResult (λ position. loopFootprint (entry / 2 ^ 24) i)) (target ∙ sym (onward-leads zero entry i length next l last))
 
     pub traced-jump : (position : ℕ) → t ≡ At position
         → done (record { reads = record { mmx = 0; integers = 0; start = 0; length = 0; zero = true }; writes = nowhere; kind = Loop }) ≡ answered
@@ -164,7 +162,7 @@ module _ (zero : Bool) (entry : ℕ) (i : Instruction) (length next : ℕ) (l : 
     pub traced-outside : (n : ℕ) → t ≡ Refused n → refused n ≡ answered
     traced-outside n e = simp e at landed
 
-pub ruleset tracing = (needs, made-counting, traced-set, traced-add, traced-down, traced-jump, traced-outside)
+pub ruleset tracing = (needs, made-counting)
 
 -- the footprint of its effect, in any state
 pub loop-footprint : (entry : ℕ) (i : Instruction) → Looping entry i → (s : State) → unmarkedFootprint (effectIn entry i) s ≡ done (loopFootprint (entry / 2 ^ 24) i)

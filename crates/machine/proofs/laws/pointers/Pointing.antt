@@ -34,14 +34,14 @@ module _ (start : ℕ) (code : List ℕ) (at : ℕ) where
       none true = refl
       none false = refl
 
-  pub past-byte : (A : Type 0) (modrm x r : ℕ) → 64 ≤ modrm → modrm < 128 → at < length code → x ≡ displacementOf 1 (getD code at 0) % 2 ^ 32
+  pub past-byte : (A : Type 0) (modrm x r : ℕ) → 64 ≤ modrm → modrm < 128 → at < length code → x ≡ signedByte (getD code at 0) % 2 ^ 32
       → r ≡ (start + x) % 2 ^ 32 → Unless A (Displaced (pointer r (at + 1)) start (modrm / 64) (displacementSize (modrm / 64) 0 0) code at)
-  unfolding displacementSize
+  unfolding displacementSize displacementOf
   past-byte A modrm x r h k l e f =
       let m : modrm / 64 ≡ 1 = omega arith in
       let d : getD code at 0 ≡ number (take 1 (drop at code)) = number-1 code at 1 (getD code at 0) refl (omega arith) (omega arith) in
       record {
-        holds = λ z. simp m (record { room = omega arith; next = refl; address = f ∙ ap (λ (n : ℕ). (start + n) % 2 ^ 32) (e ∙ ap (λ (n : ℕ). displacementOf 1 n % 2 ^ 32) d) });
+        holds = λ z. simp m (record { room = omega arith; next = refl; address = f ∙ ap (λ (n : ℕ). (start + n) % 2 ^ 32) (e ∙ ap (λ (n : ℕ). signedByte n % 2 ^ 32) d) });
       }
 
   pub past-four : (A : Type 0) (d r : ℕ) → at + 4 ≤ length code → d ≡ loaded code at 4 → r ≡ (start + d) % 2 ^ 32

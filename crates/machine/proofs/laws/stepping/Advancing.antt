@@ -2,16 +2,12 @@
 use Rattle.basis.specs.Names.{_≡_, refl, Bool, true, false, cond, List, ℕ, _%_, _^_, _<_, _≤_, eqb, leb, length}
 use Rattle.basis.proofs.Names.{ap, _∙_, arith, ne-eqb, eqb-true, eqb-false}
 use Rattle.manual.specs.declared.Marks.{Marks}
+use Rattle.manual.proofs.Loops.{answers}
 use Rattle.works.specs.declared.Work.{Work}
 use Rattle.works.specs.declared.performing.Moved.{Moved}
 use Rattle.works.specs.Works.{toOperate, toStore, toInteger, toEmpty, toPass, toSet, toCount, left, leftBy}
 use Rattle.machine.specs.State.{stateOf}
 use Rattle.machine.specs.inner.Works.{machineOf, performed, Sound, Gathered, outcomeOf, Advanced}
-
--- what is put into the zero mark is the answer
-answers : (t : Bool) → eqb (cond t 1 0) 1 ≡ t
-answers true = refl
-answers false = refl
 
 -- a register's number stays as it is
 small : (k : ℕ) → k < 8 → k % 8 ≡ k

@@ -9,16 +9,16 @@ looped-spec =
     tie.close
     (tie.spec
     (λ c. search needs) (λ c κs. search needs)
-    (λ c. loops-down _ _ _ _ _ _ (c .before .before .before .pre .1) _ (c .before .if1 .taken) (c .counted .ensures))
+    (λ c. loops-down _ _ _ _ _ (c .before .before .before .pre .1) _ _ (c .before .if1 .taken) (c .counted .ensures))
     (λ c κs. search needs) (λ c. search needs) (λ c κs. search needs)
     (λ c.
     let pre = c .before .before .before .before .before .before .before .pre in
-    loops-add _ _ _ _ _ _ (pre .1) _ (pre .0) _ (c .before .before .extended .ensures) (c .before .before .before .before .if2 .taken) (c .counted2 .ensures))
+    loops-add _ _ _ _ _ (pre .1) _ _ (pre .0) _ (c .before .before .signed .ensures) (c .before .before .before .before .if2 .taken) (c .counted2 .ensures))
     (λ c κs. search needs) (λ c κs. search needs)
     (λ c.
     let pre = c .before .before .before .before .before .before .pre in
-    loops-set _ _ _ _ _ _ (pre .1) _ _ (c .before .widened .ensures) (c .before .before .if3 .taken) (c .work-of .ensures))
+    loops-set _ _ _ _ _ (pre .1) _ _ _ (c .before .widened .ensures) (c .before .before .if3 .taken) (c .work-of .ensures))
     (λ c κs. search needs)
     (λ c.
     let pre = c .before .before .before .before .before .pre in
-    loops-jump _ _ _ _ _ _ (pre .1) _ (c .before .before .before .if1 .left) (c .before .before .if2 .left) (c .before .if3 .left) (c .jump .ensures)))
+    loops-jump _ _ _ _ _ (pre .1) _ _ (c .before .before .before .if1 .left) (c .before .before .if2 .left) (c .before .if3 .left) (c .jump .ensures)))
