@@ -6,11 +6,12 @@ use Rattle.words.specs.Buffer.{loaded}
 use Rattle.reorder.proofs.Permutation.{from}
 use Rattle.codec.specs.Opcodes.{formAt, operationAt}
 use Rattle.codec.specs.Reads.{immediateReader, formReader, secondReader, instructionReader}
-use Rattle.manual.specs.State.{isTooLong}
+use Rattle.manual.specs.State.{isTooLong, zeroed}
 use Rattle.manual.specs.Instructions.{effectOf, execute}
 use Rattle.manual.specs.Runs.{read, runOf}
 use Rattle.manual.proofs.Computed.{computed}
-use Rattle.machine.specs.Starts.{startOf}
+use Rattle.manual.proofs.Marking.{controlled, clear}
+use Rattle.machine.specs.Starts.{marksOf, startOf}
 use Rattle.pagefile.specs.Fields.{mayHold}
 use Rattle.pagefile.specs.Parsing.{size, holds, remaining, wellFormed, contentsOf, codeOf, memoryOf, pageOf}
 use Rattle.printout.specs.Characters.{ascii, digits, places, decimal}
@@ -89,6 +90,16 @@ every-field = refl
 pub other-marks : map (λ marks. take 9 (pageText (marked marks))) (0x02 ∷ 0x04 ∷ []) ≡ ascii "refused 8" ∷ ascii "refused 9" ∷ []
 unfolding loaded mayHold size holds remaining wellFormed contentsOf pageOf startOf formAt operationAt immediateReader formReader secondReader instructionReader effectOf execute read runOf stateText runIn wellFormedText pageText reportText answer firstLine decimal digits places
 other-marks = refl
+
+-- the marks byte, bit by bit: EM, TS, pending, the tag mark, the zero mark
+pub each-mark : map marksOf (0x01 ∷ 0x02 ∷ 0x04 ∷ 0x08 ∷ 0x10 ∷ [])
+    ≡ controlled (clear false) true false false
+    ∷ controlled (clear false) false true false
+    ∷ controlled (clear false) false false true
+    ∷ clear true
+    ∷ zeroed (clear false) true
+    ∷ []
+each-mark = refl
 
 -- a stray byte: 13 alone
 pub stray : pageText (0x00 ∷ []) ≡ lines ("refused 13" ∷ [])
