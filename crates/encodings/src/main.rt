@@ -41,6 +41,12 @@ struct Tally {
     bytes: u64,
 }
 
+const NOTHING: Tally = Tally {
+    encodings: 0,
+    differences: 0,
+    bytes: 0,
+};
+
 // Whether a buffer starts with the first n bytes of a code and is as it was behind them.
 fn agrees(code: &[u8; ROOM], buffer: &[u8; ROOM], n: usize) -> bool {
     for k in 0..ROOM {
@@ -131,11 +137,7 @@ fn try_second(start: Tally, second: u8) -> Tally {
 
 // Each second byte.
 fn try_table() -> Tally {
-    let mut tally = Tally {
-        encodings: 0,
-        differences: 0,
-        bytes: 0,
-    };
+    let mut tally = NOTHING;
     for second in 0u8..=255 {
         tally = try_second(tally, second);
     }
@@ -186,11 +188,7 @@ fn try_first(start: Tally, first: u8) -> Tally {
 
 // Each first byte other than 0F.
 fn try_loops() -> Tally {
-    let mut tally = Tally {
-        encodings: 0,
-        differences: 0,
-        bytes: 0,
-    };
+    let mut tally = NOTHING;
     for first in 0u8..=255 {
         tally = try_first(tally, first);
     }
