@@ -54,13 +54,13 @@ fn print_written(name: &[u8], instruction: Instruction, buffer: &mut [u8]) {
     }
 }
 
-// That of an instruction between registers.
-fn print_writing(name: &[u8], second: u8, reg: u8, rm: u8, immediate: u32, buffer: &mut [u8]) {
-    let instruction = Instruction {
-        first: ESCAPE,
+// An instruction with neither an SIB byte nor a displacement.
+fn instruction_of(first: u8, second: u8, mode: u8, reg: u8, rm: u8, immediate: u32) -> Instruction {
+    Instruction {
+        first: first,
         second: second,
         operand: Operand {
-            mode: REGISTER,
+            mode: mode,
             reg: reg,
             rm: rm,
             scale: 0,
@@ -69,11 +69,16 @@ fn print_writing(name: &[u8], second: u8, reg: u8, rm: u8, immediate: u32, buffe
             displacement: 0,
         },
         immediate: immediate,
-    };
+    }
+}
+
+// The refusal of one between registers.
+fn print_writing(name: &[u8], second: u8, reg: u8, rm: u8, immediate: u32, buffer: &mut [u8]) {
+    let instruction = instruction_of(ESCAPE, second, REGISTER, reg, rm, immediate);
     print_written(name, instruction, buffer);
 }
 
-// That of an instruction of loops, with this mod and rm.
+// That of one of loops, with this mod and rm.
 fn print_loop(
     name: &[u8],
     first: u8,
@@ -83,20 +88,7 @@ fn print_loop(
     immediate: u32,
     buffer: &mut [u8],
 ) {
-    let instruction = Instruction {
-        first: first,
-        second: second,
-        operand: Operand {
-            mode: mode,
-            reg: 0,
-            rm: rm,
-            scale: 0,
-            index: 0,
-            base: 0,
-            displacement: 0,
-        },
-        immediate: immediate,
-    };
+    let instruction = instruction_of(first, second, mode, 0, rm, immediate);
     print_written(name, instruction, buffer);
 }
 
