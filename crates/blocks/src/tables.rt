@@ -44,8 +44,15 @@ const DOUBLEWORDS: usize = 0x100000000;
 
 const BYTES: usize = 256;
 
-// The bytes of a short memory.
+// The bytes of a short memory, which is the usual one of a run and of a step; and those of the usual memory of a footprint and of a meeting.
 const QUADWORD: usize = 8;
+
+const FOOTPRINT_MEMORY: usize = 512;
+
+// The usual MM0 and budget.
+const USUAL_FIRST: usize = 0xff;
+
+const USUAL_BUDGET: usize = 4096;
 
 // What is being read: a title until the colon; then the code, or the number of a letter; and whether half a byte of the code is read.
 struct Reader {
@@ -57,13 +64,13 @@ struct Reader {
 // The numbers of a case, unless its line says otherwise.
 fn usual_numbers(form: Form) -> [usize; NUMBERS] {
     let mut numbers = [0usize; NUMBERS];
-    numbers[FIRST] = 0xff;
-    numbers[BUDGET] = 4096;
+    numbers[FIRST] = USUAL_FIRST;
+    numbers[BUDGET] = USUAL_BUDGET;
     numbers[MEMORY] = match form {
-        Form::Run(_) => 8,
-        Form::Step(_) => 8,
-        Form::Footprint => 512,
-        Form::Meeting => 512,
+        Form::Run(_) => QUADWORD,
+        Form::Step(_) => QUADWORD,
+        Form::Footprint => FOOTPRINT_MEMORY,
+        Form::Meeting => FOOTPRINT_MEMORY,
     };
     numbers
 }
