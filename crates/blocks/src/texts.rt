@@ -32,8 +32,7 @@ pub(crate) fn show_end(end: End) {
         End::Done => text(b"done "),
         End::Spent => text(b"spent "),
         End::Refused(refusal) => {
-            text(b"refused ");
-            decimal(refusal as u64);
+            show_refusal(refusal);
             text(b" ");
         }
     }
