@@ -1,4 +1,4 @@
-// Likely code: mostly instructions of the table, with operands that may lie in the memory, and as many of loops.
+// Likely code: instructions of the table, with operands that may lie in the memory, and as often those of loops.
 ghost use Rattle.basis.specs.Names.{_≤_, length};
 use crate::dice::any_byte;
 use crate::dice::is_half;
