@@ -16,7 +16,7 @@ pub record Puts (text : List ℕ) (at : ℕ) (buffer : List ℕ) (end : ℕ) (af
   pub ends : end ≡ at + length text
   pub content : after ≡ put buffer at text
 
--- how long a report with n bytes of memory is: 8 lines of 21 characters, 8 of 13, one of 11 and one of 7 stand between its first line and the memory's
+-- how long a report with n bytes of memory is: 8 lines of 21 characters, 8 of 13, one of 11 and one of 7 stand between its first and its memory line
 abbrev pub reportLength : End → ℕ → ℕ → ℕ → ℕ
 reportLength ending count position n =
     length (firstLine ending count position) + (8 * 21 + 8 * 13 + 11 + 7) + length (memoryLine n) + 3 * n
