@@ -1,4 +1,4 @@
--- Reading with a table that is lent, as plain numbers: the refusal, or 0 with the table's entry, the instruction and the position after it.
+-- Reading with a lent table, as plain numbers: the refusal, or 0 with the entry of the opcode bytes, the instruction and the position after it.
 use Rattle.basis.specs.Names.{ℕ, List, cond, eqb, getD, drop}
 use Rattle.codec.specs.Table.{formIn, entryOfFirst}
 use Rattle.codec.specs.Opcodes.{escape}
@@ -14,7 +14,7 @@ abbrev pub refusedAs : ℕ → Found
 refusedAs refusal =
     record { refusal = refusal; entry = 0; instruction = instructionOf 0 0 noOperand 0; next = 0 }
 
--- a reading, with the entry that the table has for the opcode
+-- a reading, with this entry
 abbrev pub found : ℕ → Decoded → Found
 found entry (good instruction next) =
     record { refusal = 0; entry = entry; instruction = instruction; next = next }

@@ -63,8 +63,7 @@ pub enum Writing {
     Refused(u8),
 }
 
-// What reading with a table gives, in plain numbers: the refusal, or 0 and the entry (the table's, or that of a first byte other than 0F), the
-// instruction and the position after it.
+// What reading with a table gives, as plain numbers: the refusal, or 0 with the entry of the opcode bytes, the instruction and the position after it.
 pub struct Found {
     pub refusal: u8,
     pub entry: u32,
