@@ -1,5 +1,5 @@
 -- The bytes of a record, and what the writer answers and leaves in its buffer.
-use Rattle.basis.specs.Names.{ℕ, _+_, List, [], _∷_, _++_, cond, leb, length, drop}
+use Rattle.basis.specs.Names.{ℕ, List, [], _∷_, _++_, cond, leb, length, drop}
 use Rattle.words.specs.Number.{bytes}
 use Rattle.codec.specs.Refusals.{noBytes, bufferEnds}
 use Rattle.codec.specs.Answers.{Written, wrote, refusedWith}
