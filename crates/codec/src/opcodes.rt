@@ -1,4 +1,5 @@
 // The table of second bytes, the first bytes of loops, and what is looked up.
+use crate::fields;
 use crate::forms::ABSENT;
 use crate::forms::ADD;
 use crate::forms::DECREMENT;
@@ -36,7 +37,7 @@ pub(crate) fn entry_in(table: &[u32; 256], second: u8) -> u32
     table[second as usize]
 }
 
-// The first bytes of loops: ADD's, JNZ's, and the first of MOV's and of DEC's.
+// The first bytes of loops: ADD's, JNZ's, and the first of MOV's and of DEC's, whose last three bits name a register.
 const ADD_BYTE: u8 = 0x83;
 
 const JUMP_IF_NOT_ZERO: u8 = 0x75;
@@ -45,20 +46,17 @@ const MOVES: u8 = 0xb8;
 
 const DECREMENTS: u8 = 0x48;
 
-// How many first bytes MOV and DEC have each: the last three bits name a register.
-const REGISTERS: u8 = 8;
-
 // The form of a first byte other than 0F.
 pub(crate) fn first_form(first: u8) -> u32
     ensures { λ r. ⌜ (r ≡ formOfFirst first .number) × (r ≤ 13) ⌝ }
 {
-    if first / REGISTERS == MOVES / REGISTERS {
+    if first / fields::VALUES == MOVES / fields::VALUES {
         return SET;
     }
     if first == ADD_BYTE {
         return ADD;
     }
-    if first / REGISTERS == DECREMENTS / REGISTERS {
+    if first / fields::VALUES == DECREMENTS / fields::VALUES {
         return DECREMENT;
     }
     if first == JUMP_IF_NOT_ZERO {
