@@ -323,7 +323,6 @@ pub ruleset reading = (
   modrm-none,
   modrm-stop,
   modrm-on,
-  register-on,
   sib-register,
   sib-none,
   sib-on,
