@@ -117,7 +117,7 @@ single name first count form = record { name = name; first = first; count = coun
 abbrev pub jumpIfNotZero : ℕ
 jumpIfNotZero = 0x75
 
--- The AMD64 manual's, as Req 07 names them
+-- The AMD64 manual's that Req 07 adds, in the manual's order
 abbrev pub loops : List OneByte
 loops =
     single "ADD" 0x83 1 reg32·imm8/0
