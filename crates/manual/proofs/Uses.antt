@@ -14,6 +14,7 @@ use Rattle.codec.specs.Forms.{absent, isAmong, reg32←imm32, reg32·imm8/0, re
 use Rattle.codec.specs.Contents.{Line, lines}
 use Rattle.codec.specs.Opcodes.{escape, formAt, formOfFirst, formFor, operationFor}
 use Rattle.codec.specs.declared.Instruction.{Instruction}
+use Rattle.codec.specs.inner.Entries.{isOrdinary}
 use Rattle.codec.proofs.Bytes.{found-has, among}
 use Rattle.codec.specs.declared.Kind.{Kind}
 use Rattle.codec.specs.declared.Kind.the-variants.{Ordinary, Emms, Silent, Loop}
@@ -159,12 +160,6 @@ byte-kind : (second : ℕ) → formAt second .kind ≡ cond (eqb second 0x77) Em
 unfolding formAt
 byte-kind second = by (eqb second 0x77) (isAmong second silentBytes) refl refl
   where
-    isOrdinary : Kind → Bool
-    isOrdinary Ordinary = true
-    isOrdinary Emms = false
-    isOrdinary Silent = false
-    isOrdinary Loop = false
-
     ordinary : (k : Kind) → (isOrdinary k || false) ≡ true → k ≡ Ordinary
     ordinary Ordinary h = refl
     ordinary Emms h = absurd (false≢true h)

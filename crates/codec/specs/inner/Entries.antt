@@ -10,7 +10,7 @@ use Rattle.codec.specs.declared.Kind.the-variants.{Ordinary, Emms, Silen
 use Rattle.codec.specs.declared.reader.Opcode.{Opcode}
 use Rattle.codec.specs.declared.Found.{Found}
 
-abbrev isOrdinary : Kind → Bool
+abbrev pub isOrdinary : Kind → Bool
 isOrdinary Ordinary = true
 isOrdinary Emms = false
 isOrdinary Silent = false
