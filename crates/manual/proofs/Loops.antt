@@ -1,47 +1,20 @@
 -- The instructions of loops in the customer's words, for every state and every register: what each leaves, whatever the marks, and what it reads and
 -- writes.
 use Rattle.basis.specs.Names.{_≡_, refl, Bool, true, false, cond, List, [], _∷_, ℕ, _+_, _-_, _%_, _^_, _<_, _≤_, eqb, leb, getD}
-use Rattle.basis.proofs.Names.{ap, ap₂, _∙_, zero-add, arith, and-false, decLe, ne-eqb, le-leb, lt-leb, le-ltb, lt-ltb}
+use Rattle.basis.proofs.Names.{sym, ap, ap₂, _∙_, zero-add, arith, decLe, le-leb, lt-leb}
 use Rattle.reorder.specs.Result.{done}
 use Rattle.reorder.specs.Footprint.{Footprint}
 use Rattle.codec.specs.Forms.{Form, reg32←imm32, reg32·imm8/0, reg32·alone, rel8off}
-use Rattle.codec.specs.Opcodes.{escape, formOfFirst, formFor, operationFor}
+use Rattle.codec.specs.Opcodes.{formFor, operationFor}
 use Rattle.codec.specs.declared.Instruction.{Instruction}
 use Rattle.codec.specs.declared.Kind.{Kind}
 use Rattle.codec.specs.declared.Kind.the-variants.{Loop}
+use Rattle.codec.proofs.Entries.{first-set, first-add, first-decrement, first-jump, form-one}
 use Rattle.manual.specs.State.{State, withInteger, withZero}
 use Rattle.manual.specs.Places.{Place, integer, zeroMark}
 use Rattle.manual.specs.Addresses.{signedByte}
 use Rattle.manual.specs.Effects.{Effect, perform, footprintOf}
 use Rattle.manual.specs.Instructions.{effectBy, effectOf, execute, footprint}
-
--- the forms of their first bytes
-
-mov-form : (first second : ℕ) → 0xb8 ≤ first → first < 0xc0 → formFor first second ≡ reg32←imm32
-unfolding formOfFirst
-mov-form first second low high =
-    simp (
-      ne-eqb first escape (λ e. omega arith),
-      le-ltb first 0x84 (omega arith),
-      le-ltb first 0x50 (omega arith),
-      le-ltb first 0x76 (omega arith),
-      le-leb 0xb8 first low,
-      lt-ltb first 0xc0 high,
-      and-false,
-    )
-
-dec-form : (first second : ℕ) → 0x48 ≤ first → first < 0x50 → formFor first second ≡ reg32·alone
-unfolding formOfFirst
-dec-form first second low high =
-    simp (ne-eqb first escape (λ e. omega arith), lt-leb 0x83 first (omega arith), le-leb 0x48 first low, lt-ltb first 0x50 high)
-
-add-form : (first second : ℕ) → first ≡ 0x83 → formFor first second ≡ reg32·imm8/0
-unfolding formOfFirst
-add-form first second e = ap (λ (n : ℕ). formFor n second) e
-
-jump-form : (first second : ℕ) → first ≡ 0x75 → formFor first second ≡ rel8off
-unfolding formOfFirst
-jump-form first second e = ap (λ (n : ℕ). formFor n second) e
 
 -- a number in a register, and in the zero mark whether it is 0
 abbrev pub counted : State → ℕ → ℕ → State
@@ -81,7 +54,7 @@ module _ (floor : ℕ) (i : Instruction) (s : State) where
   -- MOV, B8 to BF, leaves its immediate in its register, and reads no place
   module _ (k : ℕ) (register : k < 8) (first : i .first ≡ 0xb8 + k) where
     form-of-mov : formFor (i .first) (i .second) ≡ reg32←imm32
-    form-of-mov = mov-form (i .first) (i .second) (omega arith) (omega arith)
+    form-of-mov = sym (form-one (i .first) (i .second) 10 (λ e. omega arith) (first-set (i .first) (omega arith)))
 
     pub mov-leaves : execute floor i s ≡ done (withInteger s k (i .immediate % 2 ^ 32))
     unfolding execute
@@ -96,22 +69,25 @@ module _ (floor : ℕ) (i : Instruction) (s : State) where
 
   -- ADD, 83 /0, adds its signed byte to its register
   module _ (first : i .first ≡ 0x83) where
+    form-of-add : formFor (i .first) (i .second) ≡ reg32·imm8/0
+    form-of-add = sym (form-one (i .first) (i .second) 11 (λ e. omega arith) (first-add (i .first) first))
+
     pub add-leaves : let k = i .operand .rm in
         execute floor i s ≡ done (counted s k ((getD (s .integers) k 0 + signedByte (i .immediate)) % 2 ^ 32))
     unfolding execute
     add-leaves = let k = i .operand .rm in
         let v = (getD (s .integers) k 0 + signedByte (i .immediate)) % 2 ^ 32 in
-        by-form (λ x. perform floor x s) reg32·imm8/0 (add-form (i .first) (i .second) first)
+        by-form (λ x. perform floor x s) reg32·imm8/0 form-of-add
         ∙ ap (λ (t : Bool). done (withZero (withInteger s k v) t)) (answers (eqb v 0))
 
     pub add-touches : let k = i .operand .rm in footprint floor i s ≡ done (touching (integer k ∷ []) (integer k ∷ zeroMark ∷ []))
     unfolding footprint
-    add-touches = by-form (λ x. footprintOf floor x s) reg32·imm8/0 (add-form (i .first) (i .second) first)
+    add-touches = by-form (λ x. footprintOf floor x s) reg32·imm8/0 form-of-add
 
   -- DEC, 48 to 4F, takes 1 from its register
   module _ (k : ℕ) (register : k < 8) (first : i .first ≡ 0x48 + k) where
     form-of-dec : formFor (i .first) (i .second) ≡ reg32·alone
-    form-of-dec = dec-form (i .first) (i .second) (omega arith) (omega arith)
+    form-of-dec = sym (form-one (i .first) (i .second) 12 (λ e. omega arith) (first-decrement (i .first) (omega arith)))
 
     pub dec-leaves : execute floor i s ≡ done (counted s k ((getD (s .integers) k 0 + (2 ^ 32 - 1)) % 2 ^ 32))
     unfolding execute
@@ -128,10 +104,13 @@ module _ (floor : ℕ) (i : Instruction) (s : State) where
 
   -- JNZ, 75, changes nothing, and reads the zero mark
   module _ (first : i .first ≡ 0x75) where
+    form-of-jump : formFor (i .first) (i .second) ≡ rel8off
+    form-of-jump = sym (form-one (i .first) (i .second) 13 (λ e. omega arith) (first-jump (i .first) first))
+
     pub jump-leaves : execute floor i s ≡ done s
     unfolding execute
-    jump-leaves = by-form (λ x. perform floor x s) rel8off (jump-form (i .first) (i .second) first)
+    jump-leaves = by-form (λ x. perform floor x s) rel8off form-of-jump
 
     pub jump-touches : footprint floor i s ≡ done (touching (zeroMark ∷ []) [])
     unfolding footprint
-    jump-touches = by-form (λ x. footprintOf floor x s) rel8off (jump-form (i .first) (i .second) first)
+    jump-touches = by-form (λ x. footprintOf floor x s) rel8off form-of-jump
