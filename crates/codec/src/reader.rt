@@ -36,7 +36,7 @@ const NO_OPERAND: Operand = Operand {
     displacement: 0,
 };
 
-// The opcode bytes, and what the table says of them.
+// The opcode bytes, with their entry and its form.
 pub(crate) struct Opcode {
     pub(crate) first: u8,
     pub(crate) second: u8,

@@ -41,9 +41,9 @@ pub use Rattle.manual.proofs.Computed.{computed}
 pub use Rattle.manual.proofs.Uses.{tag-after, emms-leaves, silent-passes, goes-by-reads, step-alike, changes-writes, footprint-exactly}
 -- 3. "Put its instructions in any other order that keeps, for each pair whose footprints meet in that run, the earlier one earlier. .. the new block
 -- also runs to its end, in as many instructions, and leaves exactly the registers, tag mark and memory." Of a block without a jump, and the zero mark
--- too, by Req 07. Over the definitions, and over calls of the program's own functions; such calls can be had; which blocks have a jump: those in which
--- reading from 0 onward comes to 75 and a byte; and which instructions meet: EMMS every other but prefetches and SFENCE, which meet none; ADD and DEC
--- each other and a jump.
+-- too, by Req 07. Over the definitions, and over calls of the program's own functions; such calls can be had; which blocks have a jump: those in
+-- which reading from 0 onward comes to 75 and a byte; and which instructions meet: EMMS every other but prefetches and SFENCE, which meet none; ADD and
+-- DEC each other and a jump.
 pub use Rattle.manual.proofs.Demand3.{demand-3, footprint-asked, rearranged-parts}
 pub use Rattle.manual.proofs.Reaching.{reaches-jump-exactly, has-no-jump-exactly}
 pub use Rattle.manual.proofs.Meeting.{meets-exactly, meeting-symmetric, silent-meets-none, emms-meets-loops, counts-meet, jump-meets-counts, jumps-apart}

@@ -1,4 +1,4 @@
--- Every text of a page has room in a buffer of `longestReport` bytes, so none is cut: its numbers have no more digits than the largest of their kinds.
+-- Every text of a page has room in a buffer of `longestReport` bytes, so none is cut: its numbers have no more digits than the largest of their kind.
 use Rattle.basis.specs.Names.{_≡_, refl, Bool, List, _++_, ℕ, _^_, _≤_, _<_, length, drop}
 use Rattle.basis.proofs.Names.{pow-suc, arith, le-leb}
 use Rattle.manual.specs.State.{longestMemory}
