@@ -5,18 +5,15 @@ use Rattle.reorder.specs.Result.{done, refused}
 use Rattle.manual.specs.Refusals.{jumpsOutside}
 use Rattle.manual.specs.Jumps.{jumped}
 
--- a number is 256 more than the signed byte
-abbrev pub Signed : ℕ → ℕ → Type 0
-Signed displacement ahead = ahead ≡ cond (leb 128 displacement) displacement (displacement + 256)
+-- 256 more than a signed byte
+module _ (byte : ℕ) where
+  pub raised-forward : byte < 128 → byte + 256 ≡ cond (leb 128 byte) byte (byte + 256)
+  raised-forward h = simp (lt-leb 128 byte h)
 
-module _ (displacement ahead : ℕ) where
-  pub signed-forward : displacement < 128 → ahead ≡ displacement + 256 → Signed displacement ahead
-  signed-forward h e = simp (lt-leb 128 displacement h) e
+  pub raised-back : 128 ≤ byte → byte ≡ cond (leb 128 byte) byte (byte + 256)
+  raised-back h = simp (le-leb 128 byte h)
 
-  pub signed-back : 128 ≤ displacement → ahead ≡ displacement → Signed displacement ahead
-  signed-back h e = simp (le-leb 128 displacement h) e
-
-module _ (length behind displacement ahead : ℕ) (is : Signed displacement ahead) where
+module _ (length behind displacement ahead : ℕ) (is : ahead ≡ cond (leb 128 displacement) displacement (displacement + 256)) where
   -- before 0, or past the end
   before : behind + ahead < 256 → refused jumpsOutside ≡ jumped length behind displacement
   unfolding jumped
@@ -56,4 +53,4 @@ module _ (length behind displacement ahead : ℕ) (is : Signed displacement ahea
       pub forward-at : behind ≤ length - (ahead - 256) → done (behind + (ahead - 256)) ≡ jumped length behind displacement
       forward-at h = there _ (omega arith) (omega arith)
 
-pub ruleset jumping = (needs, back-before, back-past, back-at, forward-longer, forward-past, forward-at)
+pub ruleset jumping = (needs, raised-forward, raised-back, back-before, back-past, back-at, forward-longer, forward-past, forward-at)
