@@ -18,6 +18,10 @@ pub use mathlib.Core.Logic.{_⊎_}
 pub use lib.Bits.{bitAnd, bitOr, bitXor}
 pub use lib.IntN.{ℤ, pos, negsuc, subℕ, _+ℤ_, _-ℤ_, _*ℤ_}
 pub use lib.Signed.{leZ, ltZ, shrZ}
+-- IEEE 754's single-precision numbers: `ofBits` is the number of a pattern, `toBits` the pattern of a number; `ofInt` is an integer as a number,
+-- `toUnsigned 64` a number without sign and fraction; `lt x y` says that x is below y
+pub use lib.Ieee.{Float, fin, binary32}
+unfoldable pub use lib.Ieee.{ofBits, toBits, ofInt, toUnsigned, neg, lt}
 -- strings, and a character's number
 pub use Prim.Native.String.{String}
 pub use Prim.Native.Char.{code}
