@@ -8,25 +8,24 @@ pub enum Class {
     Unsupported,
 }
 
-// How many values a half's fraction and its exponent have.
-const FRACTION_RANGE: u32 = 0x80_0000;
+// The lowest half with the sign bit.
+pub(crate) const SIGN: u32 = 0x8000_0000;
 
-const EXPONENT_RANGE: u32 = 0x100;
+// Without their signs, the halves whose exponent is FF begin with infinity, and those above it are the NaNs.
+pub(crate) const INFINITY: u32 = 0x7F80_0000;
 
-// The exponents of what is zero and of what is unsupported.
-const ZERO: u32 = 0x00;
-
-const UNSUPPORTED: u32 = 0xFF;
+// And the halves below this one are those whose exponent is 00.
+const LEAST_NORMAL: u32 = 0x80_0000;
 
 // A half is sorted by its exponent; a normal one carries the number that it stands for.
 pub(crate) fn class_of(half: u32, number: f32) -> Class
     ensures { λ r. ⌜ r ≡ sort half number ⌝ }
 {
-    let exponent = half / FRACTION_RANGE % EXPONENT_RANGE;
-    if exponent == UNSUPPORTED {
+    let magnitude = half % SIGN;
+    if INFINITY <= magnitude {
         return Class::Unsupported;
     }
-    if exponent == ZERO {
+    if magnitude < LEAST_NORMAL {
         return Class::Zero;
     }
     Class::Normal(number)

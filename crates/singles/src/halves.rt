@@ -2,15 +2,11 @@
 ghost use Rattle.basis.specs.Names.{_≡_, binary32, ofBits};
 ghost use Rattle.lanes.specs.Lane.{lane};
 ghost use Rattle.singles.specs.Siblings.{join};
+use crate::classes::INFINITY;
+use crate::classes::SIGN;
 
 // How many values a half has.
 const HALF_RANGE: u64 = 0x1_0000_0000;
-
-// The lowest half with the sign bit.
-const SIGN: u32 = 0x8000_0000;
-
-// Infinity: the halves above it, without their signs, are the NaNs.
-const INFINITY: u32 = 0x7F80_0000;
 
 pub(crate) fn low_half(register: u64) -> u32
     ensures { λ r. ⌜ r ≡ lane 32 0 register ⌝ }
