@@ -2,9 +2,9 @@
 -- form's number. And what is among the numbers of a list.
 use Rattle.basis.specs.Names.{ℕ, _≤_, _≡_, refl, Bool, true, false, cond, _&&_, _||_, List, [], _∷_, map, eqb, ltb, getD, drop}
 use Rattle.basis.proofs.Names.{sym, ap, subst, false≢true, arith, ltb-true, le-ltb, eqb-true}
-use Rattle.codec.specs.Forms.{Form, absent, mmreg1·mmreg2/mem64, forms, isAmong}
-use Rattle.codec.specs.Contents.{lines, loops}
-use Rattle.codec.specs.Opcodes.{find, isOf, formAt, formOfFirst, formFor, escape}
+use Rattle.codec.specs.Forms.{Form, absent, mmreg1·mmreg2/mem64, forms, isAmong, hasSuffix}
+use Rattle.codec.specs.Contents.{lines, maximum, siblings, loops}
+use Rattle.codec.specs.Opcodes.{find, suffixedOf, usedForm, isOf, formAt, formOfFirst, formFor, escape}
 use Rattle.codec.specs.Table.{formOf}
 use Rattle.words.proofs.Laws.{and-both}
 
@@ -65,6 +65,16 @@ opcode-passes test z h g first second = by (eqb first escape)
     by : (t : Bool) → test (cond t (formAt second) (formOfFirst first)) ≡ true
     by true = form-passes test z h second
     by false = first-passes test z g first
+
+-- and so does the form whose operands are used, where that of the opcode does
+pub used-passes : (test : Form → Bool) → test (maximum .form) ≡ true → allPass (λ x. test (x .form)) siblings ≡ true → (form : Form) (immediate : ℕ) → test form ≡ true
+    → test (usedForm form immediate) ≡ true
+unfolding suffixedOf
+used-passes test last h form immediate own = by (hasSuffix form)
+  where
+    by : (t : Bool) → test (cond t (suffixedOf immediate .form) form) ≡ true
+    by true = found-has (λ x. x) maximum (λ x. test (x .form) ≡ true) (λ x. eqb immediate (x .suffix)) (λ x. test (x .form)) last (λ x e q. q) siblings h
+    by false = own
 
 -- the form of a number from `first` on passes a test
 pub number-passes : (test : Form → Bool) (first n : ℕ) → first ≤ n → test mmreg1·mmreg2/mem64 ≡ true

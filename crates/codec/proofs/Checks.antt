@@ -1,7 +1,7 @@
 -- The writer's tests, from what the code has found: rules for the functions that say whether a record has bytes.
-use Rattle.basis.specs.Names.{ℕ, zero, suc, _^_, _<_, _≡_, refl, Bool, true, false, eqb, ltb}
+use Rattle.basis.specs.Names.{ℕ, zero, suc, _^_, _<_, _≡_, refl, Bool, true, false, _&&_, eqb, ltb}
 use Rattle.basis.proofs.Names.{sym, ap, _∙_, and-true, arith, needs, lt-ltb, eq-eqb, ne-eqb, le-ltb}
-use Rattle.codec.specs.Forms.{Form, hasOperand, allows, immediateSize}
+use Rattle.codec.specs.Forms.{Form, hasOperand, allows, immediateSize, accepts}
 use Rattle.codec.specs.Opcodes.{formFor, escape}
 use Rattle.codec.specs.Table.{formOf}
 use Rattle.codec.specs.Operands.{hasSib, displacementSize}
@@ -46,6 +46,17 @@ module _ (w : Operand) (p : w .mode < 4) (q : w .reg < 8) (r : w .rm < 8) (t x :
   operand-yes y k h d f =
       simp (lt-ltb _ _ p, lt-ltb _ _ q, lt-ltb _ _ r, sib-is, h, ← d) (f ∙ sym (and-true (fits k (w .displacement))))
 
+-- an immediate
+module _ (n v k : ℕ) (sized : k ≡ immediateSize (formOf n)) (t : Bool) (g : t ≡ fits k v) where
+  abbrev immediateFits : Bool
+  immediateFits = fits (immediateSize (formOf n)) v && accepts (formOf n) v
+
+  pub immediate-no : t ≡ false → false ≡ immediateFits
+  immediate-no e = simp (← sized, ← g, e)
+
+  pub immediate-yes : (r : Bool) → t ≡ true → r ≡ accepts (formOf n) v → r ≡ immediateFits
+  immediate-yes r e h = simp (← sized, ← g, e) h
+
 -- the parts after the opcode
 module _ (n : ℕ) (w : Operand) (v : ℕ) where
   pub parts-absent : n ≡ 0 → false ≡ partsFit (formOf n) w v
@@ -59,9 +70,9 @@ module _ (n : ℕ) (w : Operand) (v : ℕ) where
       unfolding partsFit
       zero-no h = simp (form-there n a, ← has, b, ← z, h)
 
-      pub zero-yes : (r : Bool) (k : ℕ) → x ≡ true → k ≡ immediateSize (formOf n) → r ≡ fits k v → r ≡ partsFit (formOf n) w v
+      pub zero-yes : (r : Bool) → x ≡ true → r ≡ (fits (immediateSize (formOf n)) v && accepts (formOf n) v) → r ≡ partsFit (formOf n) w v
       unfolding partsFit
-      zero-yes r k h d f = simp (form-there n a, ← has, b, ← z, h, ← d, and-true) f
+      zero-yes r h f = simp (form-there n a, ← has, b, ← z, h, and-true) f
 
     module _ (b : o ≡ true) (t : Bool) (g : t ≡ allows (formOf n) (w .mode) (w .reg) (w .rm)) where
       pub parts-stop : t ≡ false → false ≡ partsFit (formOf n) w v
@@ -73,9 +84,9 @@ module _ (n : ℕ) (w : Operand) (v : ℕ) where
         unfolding partsFit
         parts-no h = simp (form-there n a, ← has, b, ← g, y, ← z, h)
 
-        pub parts-yes : (r : Bool) (k : ℕ) → x ≡ true → k ≡ immediateSize (formOf n) → r ≡ fits k v → r ≡ partsFit (formOf n) w v
+        pub parts-yes : (r : Bool) → x ≡ true → r ≡ (fits (immediateSize (formOf n)) v && accepts (formOf n) v) → r ≡ partsFit (formOf n) w v
         unfolding partsFit
-        parts-yes r k h d f = simp (form-there n a, ← has, b, ← g, y, ← z, h, ← d, and-true) f
+        parts-yes r h f = simp (form-there n a, ← has, b, ← g, y, ← z, h, and-true) f
 
 -- the opcode bytes
 module _ (first second : ℕ) where
@@ -98,4 +109,4 @@ module _ (i : Instruction) (t : Bool) (g : t ≡ opcodeFits (i .first) (i .secon
   unfolding hasBytes
   has-parts n r e h f = simp (← g, h, and-true) (f ∙ ap (λ (x : Form). partsFit x (i .operand) (i .immediate)) e)
 
-pub ruleset checks = (needs, tests, field-0, field-1, field-4, operand-no, operand-yes, parts-absent, zero-no, zero-yes, parts-stop, parts-no, parts-yes, opcode-two, opcode-one, has-no, has-parts)
+pub ruleset checks = (needs, tests, field-0, field-1, field-4, operand-no, operand-yes, immediate-no, immediate-yes, parts-absent, zero-no, zero-yes, parts-stop, parts-no, parts-yes, opcode-two, opcode-one, has-no, has-parts)

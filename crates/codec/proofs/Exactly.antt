@@ -1,26 +1,30 @@
 -- Each refusal of reading is given exactly when there is its reason: what is left of a code is a good instruction, or has a reason, and what has
 -- a reason is refused by its number.
-use Rattle.basis.specs.Names.{ℕ, zero, suc, _+_, _-_, _≤_, _<_, _≡_, refl, Bool, true, false, cond, List, [], _∷_, _++_, eqb, leb, ltb, length, take, drop, replicate}
-use Rattle.basis.proofs.Names.{sym, ap, subst, _∙_, _↔_, inl, inr, false≢true, append-assoc, arith, leb-true, leb-false, le-leb, lt-leb, ltb-true, ltb-false, lt-ltb, le-ltb, eqb-true, eqb-false, length-append, length-replicate, take-append-drop, take-append-le, drop-append-le}
+use Rattle.basis.specs.Names.{ℕ, _+_, _≤_, _<_, _≡_, refl, _⊎_, Bool, true, false, cond, not, _&&_, _||_, List, [], _∷_, _++_, eqb, leb, ltb, length, take, drop}
+use Rattle.basis.proofs.Names.{sym, ap, subst, subst₂, _∙_, _↔_, inl, inr, false≢true, append-assoc, arith, leb-true, leb-false, le-leb, lt-leb, ltb-true, ltb-false, lt-ltb, le-ltb, eqb-true, eqb-false, not-true, length-append, take-append-drop, take-append-le, drop-append-le}
 use Rattle.words.specs.Number.{AllBytes, number}
-use Rattle.words.proofs.Numbers.{all-none, all-cons, all-append}
+use Rattle.words.proofs.Numbers.{all-none, all-cons}
+use Rattle.words.proofs.Laws.{and-both}
 use Rattle.codec.specs.Refusals.{codeTooLong, codeEnds, prefixed, notListed, notAllowed, noBytes, bufferEnds}
-use Rattle.codec.specs.Forms.{Form, isAmong, isAbsent, hasOperand, allows}
+use Rattle.codec.specs.Forms.{Form, absent, mmreg1·mmreg2/mem64+suffix, isAmong, isAbsent, hasOperand, allows, immediateSize, hasSuffix, accepts}
+use Rattle.codec.specs.Contents.{Line, lines, threeDNow}
 use Rattle.codec.specs.Opcodes.{formAt, formOfFirst, formFor, opcodeBytes, escape, prefixes}
 use Rattle.codec.specs.Operands.{upper, middle, lower, hasSib, noOperand}
 use Rattle.codec.specs.Reader.{Reader, whole, refuse, byte, field, reads}
-use Rattle.codec.specs.Reads.{immediateReader, displacementReader, sibReader, modrmReader, formReader, secondReader, firstReader, instructionReader, refusalOf, readPart, longestCode, readAt}
-use Rattle.codec.specs.Reasons.{EndsInside, StartsPrefixed, StartsOther, StartsUnlisted, StartsNotAllowed, Reason, three, four, five, six, ReasonAt, two, reading}
+use Rattle.codec.specs.Reads.{instructionOf, immediateReader, displacementReader, sibReader, modrmReader, formReader, secondReader, firstReader, instructionReader, refusalOf, readPart, longestCode, readAt}
+use Rattle.codec.specs.Reasons.{EndsInside, StartsPrefixed, StartsOther, StartsUnlisted, EndsUnlisted, StartsNotAllowed, Reason, three, four, five, six, ReasonAt, two, reading}
 use Rattle.codec.specs.Fits.{hasBytes}
 use Rattle.codec.specs.Writes.{bytesOf, writeTo}
 use Rattle.codec.specs.declared.Operand.{Operand}
 use Rattle.codec.specs.declared.Instruction.{Instruction}
 use Rattle.codec.specs.Answers.{Decoded, good, refused, wrote, refusedWith}
-use Rattle.codec.proofs.Bytes.{opcode-passes, among}
-use Rattle.codec.proofs.Readers.{field-reads, reads-yes, reads-no}
+use Rattle.codec.proofs.Bytes.{opcode-passes, first-passes, found-has, among}
+use Rattle.codec.proofs.FormNumbers.{list-free}
+use Rattle.codec.proofs.Readers.{reads-yes, reads-no}
 use Rattle.codec.proofs.Given.{partsReader}
 use Rattle.codec.proofs.ReadingBack.{secondOf, opcode-reads}
 use Rattle.codec.proofs.Theorems.{reading-is-local}
+use Rattle.codec.proofs.Completing.{Completed, listedSuffix, Ends, Spoilt, never-spoilt, ending, replaced}
 
 -- A refusal other than 3 stays, whatever follows
 
@@ -40,75 +44,27 @@ stays (field k next) at s more n e other =
     simp (le-leb k (length (s ++ more)) g, take-append-le, drop-append-le)
     (stays (next (number (take k s))) (at + k) (drop k s) more n x other)
 
--- Bytes more make an instruction of what no byte can spoil
-
-abbrev Ends : Reader → Type 0
-Ends (whole i) = Unit {0}
-Ends (refuse n) = ⊥
-Ends (byte next) = (b : ℕ) → Ends (next b)
-Ends (field k next) = (v : ℕ) → Ends (next v)
-
-record Completed (r : Reader) (at : ℕ) (s : List ℕ) : Type 0 where
-  more : List ℕ
-  are-bytes : AllBytes more
-  instruction : Instruction
-  size : ℕ
-  found : reads r at (s ++ more) ≡ good instruction size
-
-all-zeros : (n : ℕ) → AllBytes (replicate n 0)
-all-zeros zero = all-none
-all-zeros (suc n) = all-cons 0 (replicate n 0) (omega arith) (all-zeros n)
-
-completed : (r : Reader) → Ends r → (at : ℕ) (s : List ℕ) → Completed r at s
-completed (whole i) e at s = record { more = []; are-bytes = all-none; instruction = i; size = at; found = refl }
-completed (refuse n) e at s = absurd e
-completed (byte next) e at [] =
-    let c = completed (next 0) (e 0) (at + 1) [] in
-    record { more = 0 ∷ c .more; are-bytes = all-cons 0 (c .more) (omega arith) (c .are-bytes); instruction = c .instruction; size = c .size; found = c .found }
-completed (byte next) e at (b ∷ s) =
-    let c = completed (next b) (e b) (at + 1) s in
-    record { more = c .more; are-bytes = c .are-bytes; instruction = c .instruction; size = c .size; found = c .found }
-completed (field k next) e at s =
-    by (leb k (length s)) refl (λ v rest. completed (next v) (e v) (at + k) rest)
-  where
-    by : (t : Bool) → leb k (length s) ≡ t → ((v : ℕ) (rest : List ℕ) → Completed (next v) (at + k) rest) → Completed (field k next) at s
-    by true t further =
-        let h : k ≤ length s = leb-true k (length s) t in
-        let c = further (number (take k s)) (drop k s) in
-        let g : k ≤ length (s ++ c .more) = omega (arith, length-append s (c .more)) in
-        record {
-          more = c .more;
-          are-bytes = c .are-bytes;
-          instruction = c .instruction;
-          size = c .size;
-          found = simp (le-leb k (length (s ++ c .more)) g, take-append-le, drop-append-le) (c .found);
-        }
-    by false t further =
-        let h : length s < k = leb-false k (length s) t in
-        let zeros : List ℕ = replicate (k - length s) 0 in
-        let c = further (number (s ++ zeros)) [] in
-        let full : length (s ++ zeros) ≡ k = omega (arith, length-append s zeros, length-replicate {A = ℕ} (k - length s) 0) in
-        record {
-          more = zeros ++ c .more;
-          are-bytes = all-append zeros (c .more) (all-zeros (k - length s)) (c .are-bytes);
-          instruction = c .instruction;
-          size = c .size;
-          found = rw (← append-assoc) (field-reads k at next (s ++ zeros) (c .more) full ∙ c .found);
-        }
-
 -- the parts behind a ModRM byte that is allowed
 module _ (form : Form) (first second : ℕ) where
-  immediate-ends : (operand : Operand) → Ends (immediateReader form first second operand)
-  unfolding immediateReader
-  immediate-ends operand v = tt
-
-  sib-ends : (modrm : ℕ) → Ends (sibReader form first second modrm)
+  sib-ends : (W : Type 0) → ((operand : Operand) → Ends (accepts form) W (immediateReader form first second operand))
+      → (modrm : ℕ) → Ends (accepts form) W (sibReader form first second modrm)
   unfolding sibReader displacementReader
-  sib-ends modrm = by (hasSib (upper modrm) (lower modrm))
+  sib-ends W immediate modrm = by (hasSib (upper modrm) (lower modrm))
     where
-      by : (t : Bool) → Ends (cond t (byte (displacementReader form first second modrm)) (displacementReader form first second modrm 0))
-      by true = λ b d. immediate-ends _
-      by false = λ d. immediate-ends _
+      by : (t : Bool) → Ends (accepts form) W (cond t (byte (displacementReader form first second modrm)) (displacementReader form first second modrm 0))
+      by true = λ b. inl (λ d. immediate _)
+      by false = inl (λ d. immediate _)
+
+  -- a suffix decides
+  suffix-ends : (W : Type 0) → immediateSize form ≡ 1 → accepts form listedSuffix ≡ true → (operand : Operand)
+      → Ends (accepts form) W (immediateReader form first second operand)
+  unfolding immediateReader
+  suffix-ends W one listed operand = inr (record { one = one; listed = listed; made = instructionOf first second operand; decides = λ v. refl })
+
+  -- any other immediate will do
+  number-ends : hasSuffix form ≡ false → (operand : Operand) → Ends (accepts form) (Unit {0}) (immediateReader form first second operand)
+  unfolding immediateReader
+  number-ends none operand = inl (λ v. rw (list-free (form .suffixes) v none) tt)
 
 -- What is due is what reading gives
 
@@ -168,11 +124,24 @@ is-not-allowed s (first, second, modrm, (rest, e), there, has, barred) =
     ∙ reads-yes (hasOperand form) _ _ (length opcode) (modrm ∷ rest) has
     ∙ reads-no (allows form (upper modrm) (middle modrm) (lower modrm)) _ _ (length opcode + 1) rest barred
 
+pub is-unsuffixed : (s : List ℕ) → EndsUnlisted s → readPart s ≡ refused notListed
+unfolding formAt modrmReader allows
+is-unsuffixed s x =
+    let form = mmreg1·mmreg2/mem64+suffix in
+    let (rest, e) = x .starts in
+    let ends : Ends (accepts form) ⊥ (modrmReader form escape threeDNow) = sib-ends form escape threeDNow ⊥ (suffix-ends form escape threeDNow ⊥ refl refl) in
+    let reads-on : (l : List ℕ) → readPart (escape ∷ threeDNow ∷ l) ≡ reads (modrmReader form escape threeDNow) 2 l = λ l. opcode-reads escape threeDNow l refl in
+    ap readPart (e ∙ ap (λ (l : List ℕ). escape ∷ threeDNow ∷ l) (append-assoc (x .operands) (x .suffix ∷ []) rest))
+    ∙ reads-on (x .operands ++ x .suffix ∷ rest)
+    ∙ replaced (accepts form) (modrmReader form escape threeDNow) ends 2 (x .operands) listedSuffix (x .suffix) rest (x .instruction) (length (x .operands) + 3)
+    (sym (reads-on (x .operands ++ listedSuffix ∷ [])) ∙ x .found) (omega arith) (x .unlisted)
+
 pub is-given : (s : List ℕ) (n : ℕ) → Reason s n → readPart s ≡ refused n
 is-given s n (three x) = is-inside s x
 is-given s n (four x) = is-prefixed s x
 is-given s n (five (inl x)) = is-other s x
-is-given s n (five (inr x)) = is-unlisted s x
+is-given s n (five (inr (inl x))) = is-unlisted s x
+is-given s n (five (inr (inr x))) = is-unsuffixed s x
 is-given s n (six x) = is-not-allowed s x
 
 -- A reading is good, or there is a reason
@@ -204,6 +173,44 @@ allowed first second = (
   opcode-passes (λ f. allows f (upper (sample f)) (middle (sample f)) (lower (sample f))) refl refl refl first second,
 )
 
+-- one suffix has a form that some are refused by: it is 3DNow's
+only-suffix : (first second v : ℕ) → accepts (formFor first second) v ≡ false → (first ≡ escape) × (second ≡ threeDNow)
+unfolding formAt
+only-suffix first second v = by (eqb first escape) refl
+  where
+    plain : (form : Form) → not (hasSuffix form) ≡ true → accepts form v ≡ true
+    plain form e = list-free (form .suffixes) v (not-true (hasSuffix form) e)
+
+    by : (t : Bool) → eqb first escape ≡ t → accepts (cond t (formAt second) (formOfFirst first)) v ≡ false → (first ≡ escape) × (second ≡ threeDNow)
+    by false e h = absurd (false≢true (sym h ∙ plain (formOfFirst first) (first-passes (λ f. not (hasSuffix f)) refl refl first)))
+    by true e h = (
+      eqb-true first escape e,
+      found-has (λ x. x .form) absent (λ f. accepts f v ≡ false → second ≡ threeDNow) (λ x. eqb second (x .second)) (λ x. not (hasSuffix (x .form)) || eqb (x .second) threeDNow)
+      (λ h. absurd (false≢true (sym h))) listed lines refl h,
+    )
+      where
+        listed : (x : Line) → eqb second (x .second) ≡ true → (not (hasSuffix (x .form)) || eqb (x .second) threeDNow) ≡ true → accepts (x .form) v ≡ false → second ≡ threeDNow
+        listed x f g h = or (not (hasSuffix (x .form))) refl g
+          where
+            or : (t : Bool) → not (hasSuffix (x .form)) ≡ t → (t || eqb (x .second) threeDNow) ≡ true → second ≡ threeDNow
+            or true t g = absurd (false≢true (sym h ∙ plain (x .form) t))
+            or false t g = eqb-true second (x .second) f ∙ eqb-true (x .second) threeDNow g
+
+after-3dnow : (s : List ℕ) → Spoilt (accepts (formFor escape threeDNow)) (partsReader (formFor escape threeDNow) escape threeDNow) 2 s
+    → EndsUnlisted (escape ∷ threeDNow ∷ s)
+unfolding formAt
+after-3dnow s x =
+    record {
+      operands = x .before;
+      suffix = x .value;
+      starts = (x .rest, ap (λ (l : List ℕ). escape ∷ threeDNow ∷ l) (x .parts ∙ sym (append-assoc (x .before) (x .value ∷ []) (x .rest))));
+      unlisted = x .unlisted;
+      instruction = x .instruction;
+      found =
+          opcode-reads escape threeDNow (x .before ++ listedSuffix ∷ []) refl ∙ x .found
+          ∙ ap (good (x .instruction)) (let z : 2 + length (x .before) + 1 ≡ length (x .before) + 3 = omega arith in z);
+    }
+
 -- after the opcode bytes of a form that is there
 module _ (first second : ℕ) (there : isAbsent (formFor first second) ≡ false) where
   abbrev form : Form
@@ -212,55 +219,96 @@ module _ (first second : ℕ) (there : isAbsent (formFor first second) ≡ false
   abbrev opcode : List ℕ
   opcode = opcodeBytes first second
 
-  -- what follows them can be completed, or ends inside
-  due-after : (s more : List ℕ) (i : Instruction) (n : ℕ) → AllBytes more → readPart (opcode ++ (s ++ more)) ≡ good i n → Due (opcode ++ s)
-  due-after s more i n b e = inside (opcode ++ s) more i n b (ap readPart (append-assoc opcode s more) ∙ e)
+  abbrev other : ℕ
+  other = secondOf first second
+
+  -- what they ask for, and its immediate, ends
+  abbrev parts : Reader
+  parts = partsReader form first other
+
+  immediate-ends : (operand : Operand) → Ends (accepts form) (Unit {0}) (immediateReader form first other operand)
+  immediate-ends operand = by (hasSuffix form) refl (opcode-passes (λ f. not (hasSuffix f) || (eqb (immediateSize f) 1 && accepts f listedSuffix)) refl refl refl first second)
+    where
+      by : (t : Bool) → hasSuffix form ≡ t → (not t || (eqb (immediateSize form) 1 && accepts form listedSuffix)) ≡ true
+          → Ends (accepts form) (Unit {0}) (immediateReader form first other operand)
+      by false e h = number-ends form first other e operand
+      by true e h =
+          let (one, listed) = and-both (eqb (immediateSize form) 1) (accepts form listedSuffix) h in
+          suffix-ends form first other (Unit {0}) (eqb-true (immediateSize form) 1 one) listed operand
+
+  -- what follows the opcode bytes can be completed, and is good or ends inside; or it has another byte in the suffix's place
+  due-after : (s : List ℕ) → Completed parts (length opcode) s ⊎ Spoilt (accepts form) parts (length opcode) s → Due (opcode ++ s)
+  due-after s (inl c) =
+      inside (opcode ++ s) (c .more) (c .instruction) (c .size) (c .are-bytes)
+      (ap readPart (append-assoc opcode s (c .more)) ∙ opcode-reads first second (s ++ c .more) there ∙ c .found)
+  due-after s (inr x) =
+      let (is-escape, is-3dnow) = only-suffix first second (x .value) (x .unlisted) in
+      refusal notListed (five (inr (inr (subst₂ Unsuffixed (sym is-escape) (sym is-3dnow) (after-3dnow s) x))))
+    where
+      Unsuffixed : ℕ → ℕ → Type 0
+      Unsuffixed f k =
+          Spoilt (accepts (formFor f k)) (partsReader (formFor f k) f (secondOf f k)) (length (opcodeBytes f k)) s → EndsUnlisted (opcodeBytes f k ++ s)
 
   -- no ModRM byte
   due-bare : (s : List ℕ) → hasOperand form ≡ false → Due (opcode ++ s)
   due-bare s bare =
-      let other = secondOf first second in
-      let c = completed (immediateReader form first other noOperand) (immediate-ends form first other noOperand) (length opcode) s in
-      due-after s (c .more) (c .instruction) (c .size) (c .are-bytes)
-      (opcode-reads first second (s ++ c .more) there ∙ reads-no _ _ _ (length opcode) (s ++ c .more) bare ∙ c .found)
+      due-after s (rw bare (ending (accepts form) (Unit {0}) (immediateReader form first other noOperand) (immediate-ends noOperand) (length opcode) s))
 
-  -- a ModRM byte that is allowed can be completed
+  -- a ModRM byte that is allowed
   module _ (modrm : ℕ) (has : hasOperand form ≡ true) (passes : allows form (upper modrm) (middle modrm) (lower modrm) ≡ true) where
-    modrm-completed : (s : List ℕ) → Completed (partsReader form first (secondOf first second)) (length opcode) (modrm ∷ s)
+    behind-modrm : (s : List ℕ) → reads parts (length opcode) (modrm ∷ s) ≡ reads (sibReader form first other modrm) (length opcode + 1) s
     unfolding modrmReader
-    modrm-completed s =
-        let other = secondOf first second in
-        let c = completed (sibReader form first other modrm) (sib-ends form first other modrm) (length opcode + 1) s in
-        record {
-          more = c .more;
-          are-bytes = c .are-bytes;
-          instruction = c .instruction;
-          size = c .size;
-          found = reads-yes _ _ _ (length opcode) (modrm ∷ s ++ c .more) has ∙ reads-yes _ _ _ (length opcode + 1) (s ++ c .more) passes ∙ c .found;
-        }
+    behind-modrm s = reads-yes _ _ _ (length opcode) (modrm ∷ s) has ∙ reads-yes _ _ _ (length opcode + 1) s passes
 
-    due-modrm : (s : List ℕ) → Due (opcode ++ modrm ∷ s)
-    due-modrm s =
-        let c = modrm-completed s in
-        due-after (modrm ∷ s) (c .more) (c .instruction) (c .size) (c .are-bytes) (opcode-reads first second (modrm ∷ s ++ c .more) there ∙ c .found)
+    modrm-completed : (s : List ℕ) → Completed (sibReader form first other modrm) (length opcode + 1) s → Completed parts (length opcode) (modrm ∷ s)
+    modrm-completed s c =
+        record { more = c .more; are-bytes = c .are-bytes; instruction = c .instruction; size = c .size; found = behind-modrm (s ++ c .more) ∙ c .found }
+
+    behind-ends : (s : List ℕ) → Completed (sibReader form first other modrm) (length opcode + 1) s ⊎ Spoilt (accepts form) (sibReader form first other modrm) (length opcode + 1) s
+    behind-ends s = ending (accepts form) (Unit {0}) (sibReader form first other modrm) (sib-ends form first other (Unit {0}) immediate-ends modrm) (length opcode + 1) s
+
+    modrm-ends : (s : List ℕ) → Completed parts (length opcode) (modrm ∷ s) ⊎ Spoilt (accepts form) parts (length opcode) (modrm ∷ s)
+    modrm-ends s = by (behind-ends s)
+      where
+        by : Completed (sibReader form first other modrm) (length opcode + 1) s ⊎ Spoilt (accepts form) (sibReader form first other modrm) (length opcode + 1) s
+            → Completed parts (length opcode) (modrm ∷ s) ⊎ Spoilt (accepts form) parts (length opcode) (modrm ∷ s)
+        by (inl c) = inl (modrm-completed s c)
+        by (inr x) =
+            let size : length opcode + 1 + length (x .before) + 1 ≡ length opcode + length (modrm ∷ x .before) + 1 = omega arith in
+            inr (record {
+              before = modrm ∷ x .before;
+              value = x .value;
+              rest = x .rest;
+              parts = ap (λ (l : List ℕ). modrm ∷ l) (x .parts);
+              unlisted = x .unlisted;
+              instruction = x .instruction;
+              found = behind-modrm (x .before ++ listedSuffix ∷ []) ∙ x .found ∙ ap (good (x .instruction)) size;
+            })
+
+    -- no byte, where it may be the next
+    due-none : modrm < 256 → Due (opcode ++ [])
+    due-none fits = by (behind-ends [])
+      where
+        by : Completed (sibReader form first other modrm) (length opcode + 1) [] ⊎ Spoilt (accepts form) (sibReader form first other modrm) (length opcode + 1) [] → Due (opcode ++ [])
+        by (inl c) =
+            let d = modrm-completed [] c in
+            due-after [] (inl (record { more = modrm ∷ d .more; are-bytes = all-cons modrm (d .more) fits (d .are-bytes); instruction = d .instruction; size = d .size; found = d .found }))
+        by (inr x) = absurd (never-spoilt (accepts form) (sibReader form first other modrm) (length opcode + 1) x)
 
   due-form : (s : List ℕ) → Due (opcode ++ s)
   due-form s = by (hasOperand form) refl s
     where
       tested : (modrm : ℕ) (s : List ℕ) → hasOperand form ≡ true
           → (t : Bool) → allows form (upper modrm) (middle modrm) (lower modrm) ≡ t → Due (opcode ++ modrm ∷ s)
-      tested modrm s has true t = due-modrm modrm has t s
+      tested modrm s has true t = due-after (modrm ∷ s) (modrm-ends modrm has t s)
       tested modrm s has false t =
           refusal notAllowed (six (first, second, modrm, (s, sym (append-assoc opcode (modrm ∷ []) s)), there, has, t))
 
       by : (t : Bool) → hasOperand form ≡ t → (s : List ℕ) → Due (opcode ++ s)
       by false bare s = due-bare s bare
       by true has [] =
-          let modrm = sample form in
           let (fits, passes) = allowed first second in
-          let c = modrm-completed modrm has passes [] in
-          due-after [] (modrm ∷ c .more) (c .instruction) (c .size) (all-cons modrm (c .more) fits (c .are-bytes))
-          (opcode-reads first second (modrm ∷ c .more) there ∙ c .found)
+          due-none (sample form) has passes fits
       by true has (modrm ∷ s) = tested modrm s has (allows form (upper modrm) (middle modrm) (lower modrm)) refl
 
 -- by whether the first is 0F
@@ -285,7 +333,7 @@ due (first ∷ s) = by (eqb first escape) refl s
     single other s false t = due-listed first 0 false other t s
 
     listed : eqb first escape ≡ true → (second : ℕ) (s : List ℕ) (t : Bool) → isAbsent (formAt second) ≡ t → Due (first ∷ second ∷ s)
-    listed e second s true t = refusal notListed (five (inr (second, (s, ap (λ (b : ℕ). b ∷ second ∷ s) (eqb-true first escape e)), t)))
+    listed e second s true t = refusal notListed (five (inr (inl (second, (s, ap (λ (b : ℕ). b ∷ second ∷ s) (eqb-true first escape e)), t))))
     listed e second s false t = due-listed first second true e t s
 
     by : (t : Bool) → eqb first escape ≡ t → (s : List ℕ) → Due (first ∷ s)

@@ -1,7 +1,7 @@
 -- The writer's tests as facts: all of a list of tests is true exactly where each of them is.
 use Rattle.basis.specs.Names.{ℕ, _^_, _<_, _≡_, refl, Bool, true, false, not, cond, _&&_, List, [], _∷_, eqb, ltb}
 use Rattle.basis.proofs.Names.{sym, ap, _∙_, false≢true, lt-ltb, ltb-true, eqb-true, not-true}
-use Rattle.codec.specs.Forms.{Form, isAbsent, hasOperand, allows, immediateSize}
+use Rattle.codec.specs.Forms.{Form, isAbsent, hasOperand, allows, immediateSize, accepts}
 use Rattle.codec.specs.Opcodes.{formFor, escape}
 use Rattle.codec.specs.Table.{formOf}
 use Rattle.codec.specs.Operands.{hasSib, displacementSize, noOperand}
@@ -108,24 +108,26 @@ pub record Parts (form : Form) (w : Operand) (v : ℕ) : Type 0 where
   pub listed : isAbsent form ≡ false
   pub operand : cond (hasOperand form) (allows form (w .mode) (w .reg) (w .rm) && operandFits w) (operandIsZero w) ≡ true
   pub immediate : v < 256 ^ immediateSize form
+  pub accepted : accepts form v ≡ true
 
 abbrev partTests : Form → Operand → ℕ → List Bool
 partTests form w v =
     not (isAbsent form)
     ∷ cond (hasOperand form) (allows form (w .mode) (w .reg) (w .rm) && operandFits w) (operandIsZero w)
     ∷ fits (immediateSize form) v
+    ∷ accepts form v
     ∷ []
 
 pub parts : (form : Form) (w : Operand) (v : ℕ) → partsFit form w v ≡ true → Parts form w v
 unfolding partsFit
 parts form w v e =
     let h = all-true (partTests form w v) e in
-    record { listed = not-true (isAbsent form) (h .0); operand = h .1 .0; immediate = ltb-true _ _ (h .1 .1 .0) }
+    record { listed = not-true (isAbsent form) (h .0); operand = h .1 .0; immediate = ltb-true _ _ (h .1 .1 .0); accepted = h .1 .1 .1 .0 }
 
 parts-true : (form : Form) (w : Operand) (v : ℕ) → Parts form w v → partsFit form w v ≡ true
 unfolding partsFit
 parts-true form w v p =
-    true-all (partTests form w v) (ap not (p .listed), (p .operand, (lt-ltb _ _ (p .immediate), tt)))
+    true-all (partTests form w v) (ap not (p .listed), (p .operand, (lt-ltb _ _ (p .immediate), (p .accepted, tt))))
 
 -- opcode bytes: 0F and another, or one alone
 pub data Opcoded (first second : ℕ) : Type 0 where

@@ -1,10 +1,10 @@
 -- What the code's tests on a form's number say of the form: rules for the functions that take one.
-use Rattle.basis.specs.Names.{ℕ, zero, suc, _+_, _≤_, _<_, _≡_, refl, Bool, true, false, not, _&&_, List, [], _∷_, eqb, ltb}
+use Rattle.basis.specs.Names.{ℕ, zero, suc, _+_, _≤_, _<_, _≡_, refl, Bool, true, false, not, _&&_, _||_, List, [], _∷_, eqb, ltb}
 use Rattle.basis.proofs.Names.{sym, subst, _∙_, and-true, or-false, false≢true, arith, needs, ne-eqb, eqb-true, eqb-false, ltb-true, ltb-false, not-true}
 use Rattle.words.proofs.Laws.{and-both}
-use Rattle.codec.specs.Forms.{Use, Slot, reg, rm, rm/mem, mem, edi, fixed, opcode, zeroSlot, Form, alone/7, isAbsent, hasOperand, isAmong, slotAllows, slotsAllow, digitAmong, allows, immediateSize}
+use Rattle.codec.specs.Forms.{Use, Slot, reg, rm, rm/mem, mem, edi, fixed, opcode, zeroSlot, Form, alone/7, mmreg1·mmreg2/mem64, mmreg1·mmreg2/mem64+suffix, forms, isAbsent, isAny, hasOperand, isAmong, listAllows, slotAllows, slotsAllow, allows, immediateSize, hasSuffix, accepts}
 use Rattle.codec.specs.Table.{formOf}
-use Rattle.codec.proofs.Bytes.{number-passes}
+use Rattle.codec.proofs.Bytes.{found-has, number-passes}
 use Rattle.codec.proofs.Sizes.{sized-0, sized-1, sized-4}
 
 -- a form that allows everything
@@ -22,12 +22,8 @@ abbrev areFree : List (Use × Slot) → Bool
 areFree [] = true
 areFree ((how, x) ∷ xs) = isFreeSlot x && areFree xs
 
-abbrev noDigits : List ℕ → Bool
-noDigits [] = true
-noDigits (x ∷ xs) = false
-
 abbrev pub isFree : Form → Bool
-isFree form = areFree (form .operands) && noDigits (form .digits)
+isFree form = areFree (form .operands) && not (isAny (form .digits))
 
 slot-free : (x : Slot) (t : Bool) (other : ℕ) → isFreeSlot x ≡ true → slotAllows x t other ≡ true
 slot-free (reg file) t other e = refl
@@ -45,15 +41,15 @@ slots-free ((how, x) ∷ xs) t other rest e h =
     let (a, b) = and-both (isFreeSlot x) (areFree xs) e in
     simp (slot-free x t other a) (slots-free xs t other rest b h)
 
-digits-free : (ds : List ℕ) (d : ℕ) → noDigits ds ≡ true → digitAmong ds d ≡ true
-digits-free [] d e = refl
-digits-free (x ∷ xs) d e = absurd (false≢true e)
+pub list-free : (xs : List ℕ) (value : ℕ) → isAny xs ≡ false → listAllows xs value ≡ true
+list-free [] value e = refl
+list-free (x ∷ xs) value e = absurd (false≢true (sym e))
 
 pub free-allows : (form : Form) (mode digit other : ℕ) → isFree form ≡ true → allows form mode digit other ≡ true
 unfolding allows
 free-allows form mode digit other e =
-    let (a, b) = and-both (areFree (form .operands)) (noDigits (form .digits)) e in
-    slots-free (form .operands) (eqb mode 3) other _ a (digits-free (form .digits) digit b)
+    let (a, b) = and-both (areFree (form .operands)) (not (isAny (form .digits))) e in
+    slots-free (form .operands) (eqb mode 3) other _ a (list-free (form .digits) digit (not-true (isAny (form .digits)) b))
 
 -- what holds of so many numbers from one on, each
 abbrev pub Each : (ℕ → Type 0) → ℕ → ℕ → Type 0
@@ -207,8 +203,33 @@ module _ (n reg : ℕ) (p : 2 ≤ n) (q : n ≤ 3) where
   digit-none a b c =
       shift-by (λ k. false ≡ isAmong reg (formOf k .digits)) (simp (ne-eqb reg 2 a, ne-eqb reg 4 b, ne-eqb reg 6 c)) (simp (ne-eqb reg 2 a, ne-eqb reg 6 c))
 
-pub immediate-past : (n : ℕ) → 13 < n → 0 ≡ immediateSize (formOf n)
-immediate-past n h = sym (eqb-true _ _ (number-passes (λ f. eqb (immediateSize f) 0) 14 n h refl refl))
+-- 16 alone has a suffix
+pub no-suffix : (n : ℕ) → (n ≡ 16 → ⊥) → hasSuffix (formOf n) ≡ false
+no-suffix n other =
+    found-has (λ form. form) mmreg1·mmreg2/mem64 (λ f. hasSuffix f ≡ false) (λ form. eqb n (form .number)) (λ form. eqb (form .number) 16 || not (hasSuffix form)) refl
+    one forms refl
+  where
+    one : (form : Form) → eqb n (form .number) ≡ true → (eqb (form .number) 16 || not (hasSuffix form)) ≡ true → hasSuffix form ≡ false
+    one form e h = not-true (hasSuffix form) (simp (ne-eqb (form .number) 16 (λ z. other (eqb-true n (form .number) e ∙ z))) at h)
+
+module _ (n value : ℕ) where
+  pub accepted-other : (n ≡ 16 → ⊥) → true ≡ accepts (formOf n) value
+  accepted-other other = sym (list-free (formOf n .suffixes) value (no-suffix n other))
+
+  pub accepted-suffix : (t : Bool) → n ≡ 16 → t ≡ isAmong value (mmreg1·mmreg2/mem64+suffix .suffixes) → t ≡ accepts (formOf n) value
+  accepted-suffix t e h = rw e h
+
+module _ (n : ℕ) (past : 13 < n) where
+  pub immediate-past : (n ≡ 16 → ⊥) → 0 ≡ immediateSize (formOf n)
+  immediate-past other = by (ltb 16 n) refl
+    where
+      by : (t : Bool) → ltb 16 n ≡ t → 0 ≡ immediateSize (formOf n)
+      by true e = sym (eqb-true _ _ (number-passes (λ f. eqb (immediateSize f) 0) 17 n (ltb-true 16 n e) refl refl))
+      by false e =
+          in-range (λ k. (k ≡ 16 → ⊥) → 0 ≡ immediateSize (formOf k)) 14 3 n past (omega (arith, ltb-false 16 n e)) (λ z. refl, (λ z. refl, (λ z. absurd (z refl), tt))) other
+
+  pub immediate-suffix : n ≡ 16 → 1 ≡ immediateSize (formOf n)
+  immediate-suffix e = simp e
 
 pub immediate-before : (n : ℕ) → n < 2 → 0 ≡ immediateSize (formOf n)
 immediate-before n h = in-range (λ k. 0 ≡ immediateSize (formOf k)) 0 2 n (omega arith) h (refl, (refl, tt))
@@ -233,4 +254,4 @@ module _ (n : ℕ) where
       in-range (λ k. (k ≡ 10 → ⊥) → (k ≡ 12 → ⊥) → 1 ≡ immediateSize (formOf k)) 10 4 n p (omega arith)
       (λ g h. absurd (g refl), (λ g h. refl, (λ g h. absurd (h refl), (λ g h. refl, tt)))) a b
 
-pub ruleset form-rules = (needs, sized-0, sized-1, sized-4, operand-past, operand-before, operand-there, operand-loop, allowed-past, allowed-before, allowed-memory, allowed-digit, allowed-both, allowed-register, allowed-fence, add-memory, add-digit, allowed-loop, allowed-never, allowed-stream, allowed-prefetch, fence-memory, fence-other, fence-digit, digit-2, digit-6, digit-4, digit-none, immediate-past, immediate-before, immediate-there, immediate-none, immediate-set, immediate-decrement, immediate-loop)
+pub ruleset form-rules = (needs, sized-0, sized-1, sized-4, operand-past, operand-before, operand-there, operand-loop, allowed-past, allowed-before, allowed-memory, allowed-digit, allowed-both, allowed-register, allowed-fence, add-memory, add-digit, allowed-loop, allowed-never, allowed-stream, allowed-prefetch, fence-memory, fence-other, fence-digit, digit-2, digit-6, digit-4, digit-none, accepted-other, accepted-suffix, immediate-past, immediate-suffix, immediate-before, immediate-there, immediate-none, immediate-set, immediate-decrement, immediate-loop)

@@ -2,7 +2,7 @@
 use Rattle.basis.specs.Names.{ℕ, _≤_, _≡_, refl, Bool, true, false, cond, List, eqb}
 use Rattle.basis.proofs.Names.{ap, ap₂, _∙_, arith}
 use Rattle.codec.specs.Refusals.{prefixed, notListed}
-use Rattle.codec.specs.Forms.{Form, isAmong, isAbsent, hasOperand, allows}
+use Rattle.codec.specs.Forms.{Form, isAmong, isAbsent, hasOperand, allows, accepts}
 use Rattle.codec.specs.Opcodes.{formOfFirst, escape, prefixes}
 use Rattle.codec.specs.Operands.{upper, middle, lower, hasSib, operandOf, noOperand}
 use Rattle.codec.specs.inner.Fields.{Registers}
@@ -38,7 +38,10 @@ partsReader form first second = cond (hasOperand form) (modrmReader form first s
 module _ (form : Form) (first second : ℕ) where
   immediate-gives : (w : Operand) → Registers w → Gives first second (immediateReader form first second w)
   unfolding immediateReader
-  immediate-gives w h = (omega arith, λ v. record { first-kept = refl; kept = refl; registers = h })
+  immediate-gives w h = (
+    omega arith,
+    λ v. every-cond (Given first second) Refusal (accepts form v) _ _ (record { first-kept = refl; kept = refl; registers = h }) (omega arith),
+  )
 
   displacement-gives : (modrm sib : ℕ) → Gives first second (displacementReader form first second modrm sib)
   unfolding displacementReader

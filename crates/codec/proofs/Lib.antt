@@ -17,6 +17,7 @@ pub mod Spelling
 pub mod ReadingBack
 pub mod Ranges
 pub mod Theorems
+pub mod Completing
 pub mod Exactly
 pub mod Headings
 pub mod Sixes

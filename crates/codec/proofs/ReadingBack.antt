@@ -2,10 +2,11 @@
 use Rattle.basis.specs.Names.{ℕ, suc, _+_, _^_, _<_, _≡_, refl, Bool, true, false, cond, List, [], _∷_, _++_, eqb, length}
 use Rattle.basis.proofs.Names.{sym, ap, ap₂, _∙_, append-assoc, arith, add-zero, eqb-true, length-append}
 use Rattle.words.specs.Number.{AllBytes, bytes}
-use Rattle.codec.specs.Forms.{Form, isAbsent, hasOperand, allows, immediateSize}
+use Rattle.codec.specs.Refusals.{notListed}
+use Rattle.codec.specs.Forms.{Form, isAbsent, hasOperand, allows, immediateSize, accepts}
 use Rattle.codec.specs.Opcodes.{formAt, formOfFirst, formFor, opcodeBytes, escape}
 use Rattle.codec.specs.Operands.{upper, middle, lower, joined, hasSib, displacementSize, operandOf, noOperand}
-use Rattle.codec.specs.Reader.{Reader, whole, byte, field, reads}
+use Rattle.codec.specs.Reader.{Reader, whole, refuse, byte, field, reads}
 use Rattle.codec.specs.Reads.{instructionOf, immediateReader, displacementReader, sibReader, modrmReader, formReader, secondReader, firstReader, instructionReader}
 use Rattle.codec.specs.Fits.{sibFits, operandFits, hasBytes}
 use Rattle.codec.specs.Writes.{sibBytes, displacementBytes, operandBytes, partsBytes, bytesOf}
@@ -21,13 +22,15 @@ use Rattle.codec.proofs.Facts.{Fit, fit, sib-there, sib-absent, zero-is
 
 -- after the opcode
 module _ (form : Form) (first second : ℕ) where
-  immediate-back : (w : Operand) (at v : ℕ) (rest : List ℕ) → v < 256 ^ immediateSize form
+  immediate-back : (w : Operand) (at v : ℕ) (rest : List ℕ) → v < 256 ^ immediateSize form → accepts form v ≡ true
       → reads (immediateReader form first second w) at (bytes (immediateSize form) v ++ rest) ≡ good (instructionOf first second w v) (at + immediateSize form)
   unfolding immediateReader
-  immediate-back w at v rest h =
+  immediate-back w at v rest h a =
       let k = immediateSize form in
-      field-reads k at (λ d. whole (instructionOf first second w d)) (bytes k v) rest (length-bytes k v)
-      ∙ ap (λ (d : ℕ). good (instructionOf first second w d) (at + k)) (number-fits k v h)
+      let next : ℕ → Reader = λ d. cond (accepts form d) (whole (instructionOf first second w d)) (refuse notListed) in
+      field-reads k at next (bytes k v) rest (length-bytes k v)
+      ∙ ap (λ (d : ℕ). reads (next d) (at + k) rest) (number-fits k v h)
+      ∙ reads-yes (accepts form v) _ _ (at + k) rest a
 
   -- the displacement, where the bytes before it have the operand's fields
   displacement-back : (w : Operand) (modrm sib at : ℕ) (rest : List ℕ) → operandOf modrm sib (w .displacement) ≡ w
@@ -119,11 +122,11 @@ module _ (form : Form) (first second : ℕ) where
       in
       ap (reads (modrmReader form first second) at) (append-assoc (operandBytes w) (bytes k v) rest)
       ∙ operand-back w (fit w (c .1)) at (bytes k v ++ rest) (c .0)
-      ∙ immediate-back w (at + length (operandBytes w)) v rest (p .immediate) ∙ ap (good (instructionOf first second w v)) l
+      ∙ immediate-back w (at + length (operandBytes w)) v rest (p .immediate) (p .accepted) ∙ ap (good (instructionOf first second w v)) l
   parts-back false w at v rest e p =
       let k = immediateSize form in
       let z : w ≡ noOperand = zero-is w (simp e at (p .operand)) in
-      immediate-back noOperand at v rest (p .immediate)
+      immediate-back noOperand at v rest (p .immediate) (p .accepted)
       ∙ ap₂ (λ (x : Operand) (j : ℕ). good (instructionOf first second x v) (at + j)) (sym z) (sym (length-bytes k v))
 
 -- the second byte that a record has, by its opcode bytes

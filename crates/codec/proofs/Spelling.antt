@@ -2,7 +2,8 @@
 use Rattle.basis.specs.Names.{ℕ, suc, _+_, _^_, _<_, _≡_, refl, Bool, true, false, cond, _&&_, List, [], _∷_, _++_, eqb, take, drop}
 use Rattle.basis.proofs.Names.{sym, ap, subst, _∙_, false≢true, append-assoc, append-nil, arith, lt-ltb, take-add}
 use Rattle.words.specs.Number.{AllBytes, number, bytes}
-use Rattle.codec.specs.Forms.{Form, isAbsent, hasOperand, allows, immediateSize}
+use Rattle.codec.specs.Refusals.{notListed}
+use Rattle.codec.specs.Forms.{Form, isAbsent, hasOperand, allows, immediateSize, accepts}
 use Rattle.codec.specs.Opcodes.{formAt, formOfFirst, formFor, opcodeBytes, escape}
 use Rattle.codec.specs.Operands.{upper, middle, lower, hasSib, displacementSize, operandOf, noOperand}
 use Rattle.codec.specs.Reader.{Reader, whole, refuse, byte, field, reads}
@@ -74,10 +75,13 @@ module _ (first second : ℕ) (z : opcodeFits first second ≡ true) (y : isAbse
       → cond (hasOperand form) (operandBytes w) [] ≡ before
       → Spells (opcode ++ before) (immediateReader form first second w)
   unfolding immediateReader bytesOf partsBytes
-  immediate-spells w before p q v h = (
-    bytewise-true (instructionOf first second w v) (record { opcode = z; parts = record { listed = y; operand = p; immediate = h } }),
-    ap (λ (s : List ℕ). opcode ++ (s ++ bytes (immediateSize form) v)) q ∙ sym (append-assoc opcode before (bytes (immediateSize form) v)),
-  )
+  immediate-spells w before p q v h =
+      spells-cond (accepts form v) _ (whole (instructionOf first second w v)) (refuse notListed)
+      (λ a. (
+        bytewise-true (instructionOf first second w v) (record { opcode = z; parts = record { listed = y; operand = p; immediate = h; accepted = a } }),
+        ap (λ (s : List ℕ). opcode ++ (s ++ bytes (immediateSize form) v)) q ∙ sym (append-assoc opcode before (bytes (immediateSize form) v)),
+      ))
+      (λ a. tt)
 
   -- the operand of a ModRM byte and an SIB byte
   module _ (x : hasOperand form ≡ true) (modrm sib : ℕ) (m : modrm < 256)

@@ -4,7 +4,7 @@ use Rattle.basis.proofs.Names.{sym, ap, ap₂, _∙_, false≢true, arith, add-
 use Rattle.words.specs.Number.{number}
 use Rattle.words.proofs.Laws.{and-both}
 use Rattle.codec.specs.Refusals.{codeEnds, notListed, notAllowed}
-use Rattle.codec.specs.Forms.{Form, absent, isAbsent, hasOperand, allows, immediateSize}
+use Rattle.codec.specs.Forms.{Form, absent, isAbsent, hasOperand, allows, immediateSize, accepts}
 use Rattle.codec.specs.Contents.{loops}
 use Rattle.codec.specs.Opcodes.{isOf, formOfFirst, escape}
 use Rattle.codec.specs.Table.{formOf, entryOfFirst, formIn}
@@ -251,7 +251,7 @@ module _ (code : List ℕ) (at : ℕ) where
     -- the immediate
     module _ (w : Operand) (k : ℕ) (e : k ≡ immediateSize form) where
       abbrev after : ℕ → Reader
-      after v = whole (instructionOf first second w v)
+      after v = cond (accepts form v) (whole (instructionOf first second w v)) (refuse notListed)
 
       immediate-is : immediateReader form first second w ≡ field k after
       unfolding immediateReader
@@ -261,11 +261,17 @@ module _ (code : List ℕ) (at : ℕ) where
       immediate-none q h =
           h ∙ ap (found entry) (sym (ap (λ (r : Reader). reads r at (drop at code)) immediate-is ∙ field-none code at k after q))
 
-      pub immediate-on : (v : ℕ) → k ≤ length code - at → v ≡ number (take k (drop at code))
-          → x ≡ found entry (good (instructionOf first second w v) (at + k)) → Finds (immediateReader form first second w) at
-      immediate-on v q y h =
-          h ∙ ap (λ (d : ℕ). found entry (good (instructionOf first second w d) (at + k))) y
-          ∙ ap (found entry) (sym (ap (λ (r : Reader). reads r at (drop at code)) immediate-is ∙ field-here code at k after q))
+      module _ (v : ℕ) (q : k ≤ length code - at) (y : v ≡ number (take k (drop at code))) (t : Bool) (g : t ≡ accepts form v) where
+        immediate-here : reads (immediateReader form first second w) at (drop at code) ≡ reads (after v) (at + k) (drop (at + k) code)
+        immediate-here =
+            ap (λ (r : Reader). reads r at (drop at code)) immediate-is ∙ field-here code at k after q
+            ∙ ap (λ (d : ℕ). reads (after d) (at + k) (drop (at + k) code)) (sym y)
+
+        pub immediate-on : t ≡ true → x ≡ found entry (good (instructionOf first second w v) (at + k)) → Finds (immediateReader form first second w) at
+        immediate-on e h = h ∙ ap (found entry) (sym (immediate-here ∙ reads-yes _ _ _ (at + k) (drop (at + k) code) (sym g ∙ e)))
+
+        pub immediate-other : t ≡ false → x ≡ refusedAs notListed → Finds (immediateReader form first second w) at
+        immediate-other e h = h ∙ ap (found entry) (sym (immediate-here ∙ reads-no _ _ _ (at + k) (drop (at + k) code) (sym g ∙ e)))
 
   -- a number of one byte and of four
   pub number-1 : (k r : ℕ) → k ≡ 1 → r ≡ getD code at 0 + 256 * (0 + 256 * (0 + 256 * 0)) → at + k ≤ length code
@@ -331,6 +337,7 @@ pub ruleset reading = (
   displacement-on,
   immediate-none,
   immediate-on,
+  immediate-other,
   number-1,
   number-4,
 )

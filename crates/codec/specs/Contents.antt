@@ -1,8 +1,9 @@
 -- The instructions: manual 004's 47 headings and the 16 of manual 000, in the order of their tables of contents, each with its opcode bytes, forms
--- and operations; and the four of loops. Reading, writing, effects and footprints all go by these lists.
+-- and operations; the six of 3DNow; and the four of loops. Reading, writing, effects and footprints all go by these lists.
 use Rattle.basis.specs.Names.{ℕ, String, List, [], _∷_, _++_, Option, none, some}
 use Rattle.lanes.specs.Operations.{Operation, PUNPCKLBW, PUNPCKLWD, PUNPCKLDQ, PACKSSWB, PACKUSWB, PACKSSDW, PCMPGTB, PCMPGTW, PCMPGTD, PUNPCKHBW, PUNPCKHWD, PUNPCKHDQ, MOVE, PCMPEQB, PCMPEQW, PCMPEQD, PSRLW, PSRLD, PSRLQ, PSRAW, PSRAD, PSLLW, PSLLD, PSLLQ, PMULLW, PMULHW, PMADDWD, PSUBUSB, PSUBUSW, PADDUSB, PADDUSW, PSUBSB, PSUBSW, PADDSB, PADDSW, PAND, PANDN, POR, PXOR, PSUBB, PSUBW, PSUBD, PADDB, PADDW, PADDD, MASKMOVQ, PAVGB, PAVGW, PEXTRW, PINSRW, PMAXSW, PMAXUB, PMINSW, PMINUB, PMOVMSKB, PMULHUW, PSADBW, PSHUFW, KEEP}
-use Rattle.codec.specs.Forms.{Form, alone, mmreg1·imm8/2/4/6, mmreg1·imm8/2/6, reg32←mmreg2+imm8, mmreg1·reg32/mem16+imm8, mmreg1←mmreg2/mem64+imm8, reg32←mmreg2, edi·mmreg1·mmreg2, mem8/0/1/2/3, alone/7, reg32←imm32, reg32·imm8/0, reg32·alone, rel8off, mem64←mmreg1, reg32/mem32←mmreg1, mmreg1←reg32/mem32, mmreg2/mem64←mmreg1, mmreg1·mmreg2/mem32, mmreg1·mmreg2/mem64, mmreg1←mmreg2/mem64}
+use Rattle.singles.specs.Siblings.{Sibling, PF2IW, PI2FW, PSWAPD, PAVGUSB, PFCMPGT, PFMAX}
+use Rattle.codec.specs.Forms.{Form, alone, mmreg1·imm8/2/4/6, mmreg1·imm8/2/6, reg32←mmreg2+imm8, mmreg1·reg32/mem16+imm8, mmreg1←mmreg2/mem64+imm8, reg32←mmreg2, edi·mmreg1·mmreg2, mem8/0/1/2/3, alone/7, reg32←imm32, reg32·imm8/0, reg32·alone, rel8off, mem64←mmreg1, mmreg1·mmreg2/mem64+suffix, reg32/mem32←mmreg1, mmreg1←reg32/mem32, mmreg2/mem64←mmreg1, mmreg1·mmreg2/mem32, mmreg1·mmreg2/mem64, mmreg1←mmreg2/mem64}
 
 -- a line of a heading: the byte after 0F, the digit that reg must be, if any, the form, and the operation (MOVE leaves the source, KEEP computes
 -- nothing)
@@ -101,8 +102,36 @@ abbrev pub linesOf : List Heading → List Line
 linesOf [] = []
 linesOf (heading name lines ∷ rest) = lines ++ linesOf rest
 
+-- 3DNow's second byte, which the six share
+abbrev pub threeDNow : ℕ
+threeDNow = 0x0f
+
 abbrev pub lines : List Line
-lines = linesOf contents ++ linesOf extensions
+lines = linesOf contents ++ linesOf extensions ++ line threeDNow mmreg1·mmreg2/mem64+suffix KEEP ∷ []
+
+-- an instruction of 3DNow: its suffix, the form whose operands it uses, and which of the six it is
+pub record Suffixed : Type 0 where
+  pub name : String
+  pub suffix : ℕ
+  pub form : Form
+  pub sibling : Sibling
+
+abbrev suffixed : String → ℕ → Form → Sibling → Suffixed
+suffixed name suffix form sibling = record { name = name; suffix = suffix; form = form; sibling = sibling }
+
+abbrev pub maximum : Suffixed
+maximum = suffixed "PFMAX" 0xa4 mmreg1·mmreg2/mem64 PFMAX
+
+-- Manual 000's, then manual 003's that Req 10 adds, each in its order
+abbrev pub siblings : List Suffixed
+siblings =
+    suffixed "PF2IW" 0x1c mmreg1←mmreg2/mem64 PF2IW
+    ∷ suffixed "PI2FW" 0x0c mmreg1←mmreg2/mem64 PI2FW
+    ∷ suffixed "PSWAPD" 0xbb mmreg1←mmreg2/mem64 PSWAPD
+    ∷ suffixed "PAVGUSB" 0xbf mmreg1·mmreg2/mem64 PAVGUSB
+    ∷ suffixed "PFCMPGT" 0xa0 mmreg1·mmreg2/mem64 PFCMPGT
+    ∷ maximum
+    ∷ []
 
 -- an instruction of one opcode byte: the first such byte, and how many there are from it on (8 where the last three bits name a register, else 1)
 pub record OneByte : Type 0 where

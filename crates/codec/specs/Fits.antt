@@ -1,6 +1,6 @@
 -- Which records have bytes: each field fits its place, and one that has no place is 0.
 use Rattle.basis.specs.Names.{ℕ, _^_, List, [], _∷_, Bool, true, not, _&&_, cond, eqb, ltb}
-use Rattle.codec.specs.Forms.{Form, isAbsent, hasOperand, allows, immediateSize}
+use Rattle.codec.specs.Forms.{Form, isAbsent, hasOperand, allows, immediateSize, accepts}
 use Rattle.codec.specs.Opcodes.{formFor, escape}
 use Rattle.codec.specs.Operands.{hasSib, displacementSize}
 use Rattle.codec.specs.declared.Operand.{Operand}
@@ -51,6 +51,7 @@ partsFit form operand immediate =
     (allows form (operand .mode) (operand .reg) (operand .rm) && operandFits operand)
     (operandIsZero operand)
     ∷ fits (immediateSize form) immediate
+    ∷ accepts form immediate
     ∷ [])
 
 -- the opcode bytes: 0F and another; or one, and the second is 0

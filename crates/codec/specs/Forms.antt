@@ -68,7 +68,7 @@ reg32-in-opcode = opcode integerFile
 
 pub record Form : Type 0 where
   -- its number in the code's table (0: no instruction; 10 to 13 are not in it: their opcode is one byte); from 15 on are the forms of a destination
-  -- and a source alone, one named by reg, the other by r/m
+  -- and a source, one named by reg, the other by r/m, and of nothing else but 16's suffix
   pub number : ℕ
   -- what reg may be where it is a digit of the opcode; none where it names a register
   pub digits : List ℕ
@@ -76,102 +76,127 @@ pub record Form : Type 0 where
   pub operands : List (Use × Slot)
   -- how many immediate bytes there are
   pub immediate : ℕ
+  -- what the immediate may be where it is the opcode's suffix; none where it is a number
+  pub suffixes : List ℕ
   pub kind : Kind
 
 -- Forms, by their operands in the manuals' notation: ← where the destination is only written, · where it is read too, + before an immediate
 
 -- no instruction
 abbrev pub absent : Form
-absent = record { number = 0; digits = []; operands = []; immediate = 0; kind = Ordinary }
+absent = record { number = 0; digits = []; operands = []; immediate = 0; suffixes = []; kind = Ordinary }
 
 -- EMMS
 abbrev pub alone : Form
-alone = record { number = 1; digits = []; operands = []; immediate = 0; kind = Emms }
+alone = record { number = 1; digits = []; operands = []; immediate = 0; suffixes = []; kind = Emms }
 
 -- 004's mmreg1, imm8: the register is the one that rm names, and reg has the digit: /2 right logical, /4 right arithmetic, /6 left
 abbrev pub mmreg1·imm8/2/4/6 : Form
-mmreg1·imm8/2/4/6 = record { number = 2; digits = 2 ∷ 4 ∷ 6 ∷ []; operands = (updated, mmreg2) ∷ []; immediate = 1; kind = Ordinary }
+mmreg1·imm8/2/4/6 = record { number = 2; digits = 2 ∷ 4 ∷ 6 ∷ []; operands = (updated, mmreg2) ∷ []; immediate = 1; suffixes = []; kind = Ordinary }
 
 abbrev pub mmreg1·imm8/2/6 : Form
-mmreg1·imm8/2/6 = record { number = 3; digits = 2 ∷ 6 ∷ []; operands = (updated, mmreg2) ∷ []; immediate = 1; kind = Ordinary }
+mmreg1·imm8/2/6 = record { number = 3; digits = 2 ∷ 6 ∷ []; operands = (updated, mmreg2) ∷ []; immediate = 1; suffixes = []; kind = Ordinary }
 
 -- PINSRW, PSHUFW, PEXTRW: an immediate beside two operands
 abbrev pub mmreg1·reg32/mem16+imm8 : Form
-mmreg1·reg32/mem16+imm8 = record { number = 4; digits = []; operands = (updated, mmreg1) ∷ (read, reg32/mem16) ∷ []; immediate = 1; kind = Ordinary }
+mmreg1·reg32/mem16+imm8 =
+    record { number = 4; digits = []; operands = (updated, mmreg1) ∷ (read, reg32/mem16) ∷ []; immediate = 1; suffixes = []; kind = Ordinary }
 
 abbrev pub mmreg1←mmreg2/mem64+imm8 : Form
-mmreg1←mmreg2/mem64+imm8 = record { number = 5; digits = []; operands = (written, mmreg1) ∷ (read, mmreg2/mem64) ∷ []; immediate = 1; kind = Ordinary }
+mmreg1←mmreg2/mem64+imm8 =
+    record { number = 5; digits = []; operands = (written, mmreg1) ∷ (read, mmreg2/mem64) ∷ []; immediate = 1; suffixes = []; kind = Ordinary }
 
 abbrev pub reg32←mmreg2+imm8 : Form
-reg32←mmreg2+imm8 = record { number = 6; digits = []; operands = (written, reg32) ∷ (read, mmreg2) ∷ []; immediate = 1; kind = Ordinary }
+reg32←mmreg2+imm8 = record { number = 6; digits = []; operands = (written, reg32) ∷ (read, mmreg2) ∷ []; immediate = 1; suffixes = []; kind = Ordinary }
 
 -- PMOVMSKB
 abbrev pub reg32←mmreg2 : Form
-reg32←mmreg2 = record { number = 7; digits = []; operands = (written, reg32) ∷ (read, mmreg2) ∷ []; immediate = 0; kind = Ordinary }
+reg32←mmreg2 = record { number = 7; digits = []; operands = (written, reg32) ∷ (read, mmreg2) ∷ []; immediate = 0; suffixes = []; kind = Ordinary }
 
 -- MASKMOVQ: 000's mmreg1, mmreg2 (edi), the data and the mask
 abbrev pub edi·mmreg1·mmreg2 : Form
 edi·mmreg1·mmreg2 =
-    record { number = 8; digits = []; operands = (updated, mem64-at-edi) ∷ (read, mmreg1) ∷ (read, mmreg2) ∷ []; immediate = 0; kind = Ordinary }
+    record {
+      number = 8;
+      digits = [];
+      operands = (updated, mem64-at-edi) ∷ (read, mmreg1) ∷ (read, mmreg2) ∷ [];
+      immediate = 0;
+      suffixes = [];
+      kind = Ordinary;
+    }
 
 -- SFENCE: its ModRM byte is F8
 abbrev pub alone/7 : Form
-alone/7 = record { number = 9; digits = 7 ∷ []; operands = (untouched, fixed 0) ∷ []; immediate = 0; kind = Silent }
+alone/7 = record { number = 9; digits = 7 ∷ []; operands = (untouched, fixed 0) ∷ []; immediate = 0; suffixes = []; kind = Silent }
 
 -- MOV of an immediate: B8 +rd
 abbrev pub reg32←imm32 : Form
-reg32←imm32 = record { number = 10; digits = []; operands = (written, reg32-in-opcode) ∷ []; immediate = 4; kind = Loop }
+reg32←imm32 = record { number = 10; digits = []; operands = (written, reg32-in-opcode) ∷ []; immediate = 4; suffixes = []; kind = Loop }
 
 -- ADD of a signed byte: 83 /0, to a register alone
 abbrev pub reg32·imm8/0 : Form
-reg32·imm8/0 = record { number = 11; digits = 0 ∷ []; operands = (updated, reg32-in-rm) ∷ (written, zeroSlot) ∷ []; immediate = 1; kind = Loop }
+reg32·imm8/0 =
+    record { number = 11; digits = 0 ∷ []; operands = (updated, reg32-in-rm) ∷ (written, zeroSlot) ∷ []; immediate = 1; suffixes = []; kind = Loop }
 
 -- DEC: 48 +rd
 abbrev pub reg32·alone : Form
-reg32·alone = record { number = 12; digits = []; operands = (updated, reg32-in-opcode) ∷ (written, zeroSlot) ∷ []; immediate = 0; kind = Loop }
+reg32·alone =
+    record { number = 12; digits = []; operands = (updated, reg32-in-opcode) ∷ (written, zeroSlot) ∷ []; immediate = 0; suffixes = []; kind = Loop }
 
 -- JNZ by a signed byte
 abbrev pub rel8off : Form
-rel8off = record { number = 13; digits = []; operands = (read, zeroSlot) ∷ []; immediate = 1; kind = Loop }
+rel8off = record { number = 13; digits = []; operands = (read, zeroSlot) ∷ []; immediate = 1; suffixes = []; kind = Loop }
 
 -- the prefetches: /0 NTA, /1 T0, /2 T1, /3 T2
 abbrev pub mem8/0/1/2/3 : Form
-mem8/0/1/2/3 = record { number = 14; digits = 0 ∷ 1 ∷ 2 ∷ 3 ∷ []; operands = (untouched, mem8) ∷ []; immediate = 0; kind = Silent }
+mem8/0/1/2/3 = record { number = 14; digits = 0 ∷ 1 ∷ 2 ∷ 3 ∷ []; operands = (untouched, mem8) ∷ []; immediate = 0; suffixes = []; kind = Silent }
 
 -- an ordinary instruction of a destination and a source
 abbrev pub pair : ℕ → Use × Slot → Slot → Form
 pair number destination source =
-    record { number = number; digits = []; operands = destination ∷ (read, source) ∷ []; immediate = 0; kind = Ordinary }
+    record { number = number; digits = []; operands = destination ∷ (read, source) ∷ []; immediate = 0; suffixes = []; kind = Ordinary }
 
 -- MOVNTQ
 abbrev pub mem64←mmreg1 : Form
 mem64←mmreg1 = pair 15 (written, mem64) mmreg1
 
+-- 3DNow: two operands, and the suffix says which instruction it is, and whether it reads the first (Contents.antt, `siblings`)
+abbrev pub mmreg1·mmreg2/mem64+suffix : Form
+mmreg1·mmreg2/mem64+suffix =
+    record {
+      number = 16;
+      digits = [];
+      operands = (updated, mmreg1) ∷ (read, mmreg2/mem64) ∷ [];
+      immediate = 1;
+      suffixes = 0x0c ∷ 0x1c ∷ 0xa0 ∷ 0xa4 ∷ 0xbb ∷ 0xbf ∷ [];
+      kind = Ordinary;
+    }
+
 abbrev pub reg32/mem32←mmreg1 : Form
-reg32/mem32←mmreg1 = pair 16 (written, reg32/mem32) mmreg1
+reg32/mem32←mmreg1 = pair 17 (written, reg32/mem32) mmreg1
 
 abbrev pub mmreg1←reg32/mem32 : Form
-mmreg1←reg32/mem32 = pair 17 (written, mmreg1) reg32/mem32
+mmreg1←reg32/mem32 = pair 18 (written, mmreg1) reg32/mem32
 
 abbrev pub mmreg2/mem64←mmreg1 : Form
-mmreg2/mem64←mmreg1 = pair 18 (written, mmreg2/mem64) mmreg1
+mmreg2/mem64←mmreg1 = pair 19 (written, mmreg2/mem64) mmreg1
 
 abbrev pub mmreg1←mmreg2/mem64 : Form
-mmreg1←mmreg2/mem64 = pair 19 (written, mmreg1) mmreg2/mem64
+mmreg1←mmreg2/mem64 = pair 20 (written, mmreg1) mmreg2/mem64
 
 abbrev pub mmreg1·mmreg2/mem32 : Form
-mmreg1·mmreg2/mem32 = pair 20 (updated, mmreg1) mmreg2/mem32
+mmreg1·mmreg2/mem32 = pair 21 (updated, mmreg1) mmreg2/mem32
 
 -- (the usual form)
 abbrev pub mmreg1·mmreg2/mem64 : Form
-mmreg1·mmreg2/mem64 = pair 21 (updated, mmreg1) mmreg2/mem64
+mmreg1·mmreg2/mem64 = pair 22 (updated, mmreg1) mmreg2/mem64
 
 abbrev pub forms : List Form
 forms =
     absent ∷ alone ∷ mmreg1·imm8/2/4/6 ∷ mmreg1·imm8/2/6
     ∷ mmreg1·reg32/mem16+imm8 ∷ mmreg1←mmreg2/mem64+imm8 ∷ reg32←mmreg2+imm8 ∷ reg32←mmreg2 ∷ edi·mmreg1·mmreg2 ∷ alone/7
     ∷ reg32←imm32 ∷ reg32·imm8/0 ∷ reg32·alone ∷ rel8off ∷ mem8/0/1/2/3
-    ∷ mem64←mmreg1 ∷ reg32/mem32←mmreg1 ∷ mmreg1←reg32/mem32 ∷ mmreg2/mem64←mmreg1 ∷ mmreg1←mmreg2/mem64 ∷ mmreg1·mmreg2/mem32 ∷ mmreg1·mmreg2/mem64 ∷ []
+    ∷ mem64←mmreg1 ∷ mmreg1·mmreg2/mem64+suffix ∷ reg32/mem32←mmreg1 ∷ mmreg1←reg32/mem32 ∷ mmreg2/mem64←mmreg1 ∷ mmreg1←mmreg2/mem64 ∷ mmreg1·mmreg2/mem32 ∷ mmreg1·mmreg2/mem64 ∷ []
 
 -- What a form says
 
@@ -206,10 +231,10 @@ abbrev pub isAmong : ℕ → List ℕ → Bool
 isAmong value [] = false
 isAmong value (x ∷ xs) = eqb value x || isAmong value xs
 
--- a digit of the list, or anything where there is no list
-abbrev pub digitAmong : List ℕ → ℕ → Bool
-digitAmong [] digit = true
-digitAmong (x ∷ xs) digit = isAmong digit (x ∷ xs)
+-- a number of the list, or any where there is no list
+abbrev pub listAllows : List ℕ → ℕ → Bool
+listAllows [] value = true
+listAllows (x ∷ xs) value = isAmong value (x ∷ xs)
 
 -- whether an operand allows mod 11 (true), or another mod (false), with this rm
 abbrev pub slotAllows : Slot → Bool → ℕ → Bool
@@ -229,10 +254,18 @@ slotsAllow ((how, slot) ∷ xs) register lower rest = slotAllows slot register l
 
 -- what a ModRM byte may be, by its fields mod, reg and rm: mod and rm for each operand, reg where it is a digit
 unfoldable pub allows : Form → ℕ → ℕ → ℕ → Bool
-allows form upper middle lower = slotsAllow (form .operands) (eqb upper 3) lower (digitAmong (form .digits) middle)
+allows form upper middle lower = slotsAllow (form .operands) (eqb upper 3) lower (listAllows (form .digits) middle)
 
 abbrev pub immediateSize : Form → ℕ
 immediateSize form = form .immediate
+
+-- whether the immediate is a suffix
+abbrev pub hasSuffix : Form → Bool
+hasSuffix form = isAny (form .suffixes)
+
+-- what the immediate may be
+abbrev pub accepts : Form → ℕ → Bool
+accepts form immediate = listAllows (form .suffixes) immediate
 
 -- the size of the operand in memory, in bytes
 abbrev sizeIn : List (Use × Slot) → ℕ

@@ -1,8 +1,8 @@
--- The opcode bytes: the prefixes, 0F, and what the lists say of the byte after 0F, and of another first byte.
+-- The opcode bytes: the prefixes, 0F, and what the lists say of the byte after 0F, of a suffix, and of another first byte.
 use Rattle.basis.specs.Names.{ℕ, _+_, List, [], _∷_, Bool, true, _&&_, cond, Option, none, some, eqb, leb, ltb}
 use Rattle.lanes.specs.Operations.{Operation, KEEP}
-use Rattle.codec.specs.Forms.{Form, absent}
-use Rattle.codec.specs.Contents.{lines, OneByte, loops}
+use Rattle.codec.specs.Forms.{Form, absent, hasSuffix}
+use Rattle.codec.specs.Contents.{lines, Suffixed, maximum, siblings, OneByte, loops}
 
 abbrev pub prefixes : List ℕ
 prefixes = 0x26 ∷ 0x2e ∷ 0x36 ∷ 0x3e ∷ 0x64 ∷ 0x65 ∷ 0x66 ∷ 0x67 ∷ 0xf0 ∷ 0xf2 ∷ 0xf3 ∷ []
@@ -28,6 +28,14 @@ matchesDigit (some digit) reg = eqb reg digit
 -- the operation of a second byte, with what stands in reg; KEEP where no line fits
 unfoldable pub operationAt : ℕ → ℕ → Operation
 operationAt second reg = find (λ x. eqb second (x .second) && matchesDigit (x .digit) reg) (λ x. x .operation) KEEP lines
+
+-- the instruction of a suffix (one that is not listed is never read: it is taken for the last)
+unfoldable pub suffixedOf : ℕ → Suffixed
+suffixedOf suffix = find (λ x. eqb suffix (x .suffix)) (λ x. x) maximum siblings
+
+-- the form whose operands an instruction uses: where the opcode has a suffix, that of the suffix
+abbrev pub usedForm : Form → ℕ → Form
+usedForm form immediate = cond (hasSuffix form) (suffixedOf immediate .form) form
 
 -- a first byte is one of those that an instruction has
 abbrev pub isOf : OneByte → ℕ → Bool

@@ -1,7 +1,7 @@
 -- What reading an instruction gives: its bytes from left to right, the first refusal that is met, and the limit of the code.
 use Rattle.basis.specs.Names.{ℕ, List, cond, eqb, ltb, length, drop}
 use Rattle.codec.specs.Refusals.{codeTooLong, prefixed, notListed, notAllowed}
-use Rattle.codec.specs.Forms.{Form, isAmong, isAbsent, hasOperand, allows, immediateSize}
+use Rattle.codec.specs.Forms.{Form, isAmong, isAbsent, hasOperand, allows, immediateSize, accepts}
 use Rattle.codec.specs.Opcodes.{formAt, formOfFirst, escape, prefixes}
 use Rattle.codec.specs.Operands.{upper, middle, lower, hasSib, displacementSize, operandOf, noOperand}
 use Rattle.codec.specs.Reader.{Reader, whole, refuse, byte, field, reads}
@@ -15,10 +15,11 @@ instructionOf first second operand immediate =
 
 -- after the opcode bytes of a form
 module _ (form : Form) (first second : ℕ) where
-  -- the immediate, and then the instruction is whole
+  -- the immediate, and then the instruction is whole; a suffix must be listed
   unfoldable pub immediateReader : Operand → Reader
   immediateReader operand =
-      field (immediateSize form) (λ immediate. whole (instructionOf first second operand immediate))
+      field (immediateSize form)
+      (λ immediate. cond (accepts form immediate) (whole (instructionOf first second operand immediate)) (refuse notListed))
 
   -- the displacement, of as many bytes as the ModRM and SIB bytes ask for
   unfoldable pub displacementReader : ℕ → ℕ → Reader

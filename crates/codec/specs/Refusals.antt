@@ -13,7 +13,7 @@ codeEnds = 3
 abbrev pub prefixed : ℕ
 prefixed = 4
 
--- another first byte than 0F and those of loops, or a second byte that is not in the table
+-- another first byte than 0F and those of loops, a second byte that is not in the table, or a suffix that is not listed
 abbrev pub notListed : ℕ
 notListed = 5
 

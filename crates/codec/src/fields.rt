@@ -14,14 +14,16 @@ use crate::forms::SHIFT_Q;
 use crate::forms::SHIFT_WD;
 use crate::forms::SHUFFLE;
 use crate::forms::STREAM;
+use crate::forms::SUFFIXED;
 use crate::modes::BYTE_DISPLACEMENT;
 use crate::modes::LONG_DISPLACEMENT;
 use crate::modes::NO_BASE;
 use crate::modes::NO_DISPLACEMENT;
 use crate::modes::REGISTER;
 use crate::modes::SIB;
+use crate::suffixes;
 ghost use Rattle.basis.specs.Names.{_≡_, _≤_, _<_};
-ghost use Rattle.codec.specs.Forms.{alone/7, hasOperand, isAmong, allows, immediateSize};
+ghost use Rattle.codec.specs.Forms.{alone/7, mmreg1·mmreg2/mem64+suffix, hasOperand, isAmong, allows, immediateSize, accepts};
 ghost use Rattle.codec.specs.Table.{formOf};
 ghost use Rattle.codec.specs.Operands.{hasSib, displacementSize};
 ghost use Rattle.codec.specs.inner.Fields.{Sized};
@@ -157,6 +159,9 @@ pub(crate) fn immediate_size(form: u32) -> usize
     ensures { λ r. ⌜ (r ≡ immediateSize (formOf form)) × Sized r ⌝ }
 {
     if JUMP < form {
+        if form == SUFFIXED {
+            return ONE_BYTE;
+        }
         return NO_BYTE;
     }
     if form < SHIFT_WD {
@@ -175,6 +180,38 @@ pub(crate) fn immediate_size(form: u32) -> usize
         return NO_BYTE;
     }
     ONE_BYTE
+}
+
+// Whether a byte is a suffix.
+pub fn is_suffix(value: u32) -> bool
+    ensures { λ r. ⌜ r ≡ isAmong value (mmreg1·mmreg2/mem64+suffix .suffixes) ⌝ }
+{
+    if value == suffixes::PI2FW {
+        return true;
+    }
+    if value == suffixes::PF2IW {
+        return true;
+    }
+    if value == suffixes::PFCMPGT {
+        return true;
+    }
+    if value == suffixes::PFMAX {
+        return true;
+    }
+    if value == suffixes::PSWAPD {
+        return true;
+    }
+    value == suffixes::PAVGUSB
+}
+
+// Whether a form may have an immediate: a suffix is a listed one.
+pub(crate) fn accepted(form: u32, immediate: u32) -> bool
+    ensures { λ r. ⌜ r ≡ accepts (formOf form) immediate ⌝ }
+{
+    if form == SUFFIXED {
+        return is_suffix(immediate);
+    }
+    true
 }
 
 // Whether an SIB byte follows the ModRM byte.

@@ -60,26 +60,29 @@ pub const JUMP: u32 = 13;
 // mem8: the prefetches. From here to STREAM there is memory alone.
 pub const PREFETCH: u32 = 14;
 
-// From here on: a destination and a source, one named by reg, the other by r/m.
+// From here on: a destination and a source, one named by reg, the other by r/m, and nothing else but the suffix of SUFFIXED.
 pub const TWO_OPERANDS: u32 = 15;
 
 // mem64, mmreg1: MOVNTQ.
 pub const STREAM: u32 = 15;
 
+// mmreg1, mmreg2/mem64, and a suffix: 3DNow.
+pub const SUFFIXED: u32 = 16;
+
 // reg32/mem32, mmreg1: MOVD from MMX.
-pub const STORE_D: u32 = 16;
+pub const STORE_D: u32 = 17;
 
 // mmreg1, reg32/mem32: MOVD to MMX.
-pub const LOAD_D: u32 = 17;
+pub const LOAD_D: u32 = 18;
 
 // mmreg2/mem64, mmreg1: MOVQ's store form.
-pub const STORE_Q: u32 = 18;
+pub const STORE_Q: u32 = 19;
 
 // mmreg1, mmreg2/mem64, and mmreg1 is only written: MOVQ's load form.
-pub const LOAD_Q: u32 = 19;
+pub const LOAD_Q: u32 = 20;
 
 // mmreg1, mmreg2/mem32: the low unpacks.
-pub const LOW: u32 = 20;
+pub const LOW: u32 = 21;
 
 // mmreg1, mmreg2/mem64: the usual form.
-pub(crate) const USUAL: u32 = 21;
+pub(crate) const USUAL: u32 = 22;

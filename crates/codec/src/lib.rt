@@ -13,6 +13,7 @@ mod opcodes;
 pub mod prefixes;
 mod reader;
 pub mod refusals;
+pub mod suffixes;
 mod writer;
 
 use prefixes::ESCAPE;
@@ -34,7 +35,7 @@ pub struct Operand {
 }
 
 // The opcode bytes, of which the second is 0 where there is one alone, the operand and the immediate; where the opcode has a digit (71 to 73, 18, AE,
-// 83), it is in reg.
+// 83), it is in reg, and where it has a suffix (0F), that is the immediate.
 pub struct Instruction {
     pub first: u8,
     pub second: u8,

@@ -23,6 +23,7 @@ use crate::forms::SIZE;
 use crate::forms::STORE_D;
 use crate::forms::STORE_Q;
 use crate::forms::STREAM;
+use crate::forms::SUFFIXED;
 use crate::forms::TOP_BITS;
 use crate::forms::USUAL;
 use crate::prefixes::ESCAPE;
@@ -115,12 +116,14 @@ const DOUBLEWORDS: u32 = 32 * LANE;
 
 const WHOLE: u32 = 64 * LANE;
 
-// Whole entries: EMMS, the prefetches, SFENCE, and a byte that the table has not.
+// Whole entries: EMMS, the prefetches, SFENCE, 3DNow, and a byte that the table has not.
 const ALONE: u32 = EMMS * FORM + WHOLE + lanes::KEEP as u32;
 
 const PREFETCH_BYTE: u32 = PREFETCH * FORM + SIZE + WHOLE + lanes::KEEP as u32;
 
 const STORE_FENCE: u32 = FENCE * FORM + WHOLE + lanes::KEEP as u32;
+
+const SUFFIX: u32 = SUFFIXED * FORM + 8 * SIZE + WHOLE + lanes::KEEP as u32;
 
 const NONE: u32 = ABSENT * FORM + WHOLE + lanes::KEEP as u32;
 
@@ -141,7 +144,7 @@ pub(crate) const TABLE: [u32; 256] = [
     NONE,
     NONE,
     NONE,
-    NONE,
+    SUFFIX, // 0f: 3DNow
     NONE,
     NONE,
     NONE,

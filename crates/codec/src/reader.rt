@@ -92,16 +92,20 @@ fn immediate_at(code: &[u8], at: usize, opcode: Opcode, operand: Operand) -> Fou
         return refused(CODE_ENDS);
     }
     let immediate = number_at(code, at, k);
-    Found {
-        refusal: 0,
-        entry: opcode.entry,
-        instruction: Instruction {
-            first: opcode.first,
-            second: opcode.second,
-            operand: operand,
-            immediate: immediate,
-        },
-        next: at + k,
+    if fields::accepted(opcode.form, immediate) {
+        Found {
+            refusal: 0,
+            entry: opcode.entry,
+            instruction: Instruction {
+                first: opcode.first,
+                second: opcode.second,
+                operand: operand,
+                immediate: immediate,
+            },
+            next: at + k,
+        }
+    } else {
+        refused(NOT_LISTED)
     }
 }
 

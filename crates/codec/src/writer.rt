@@ -4,8 +4,9 @@ use crate::Operand;
 use crate::fields;
 use crate::forms::ABSENT;
 use crate::prefixes::ESCAPE;
-ghost use Rattle.basis.specs.Names.{_≡_, true, _+_, _≤_, length, sets};
+ghost use Rattle.basis.specs.Names.{_≡_, true, _&&_, _+_, _≤_, length, sets};
 ghost use Rattle.words.specs.Number.{bytes};
+ghost use Rattle.codec.specs.Forms.{immediateSize, accepts};
 ghost use Rattle.codec.specs.Opcodes.{formFor, opcodeBytes};
 ghost use Rattle.codec.specs.Table.{formOf};
 ghost use Rattle.codec.specs.Operands.{joined};
@@ -117,6 +118,16 @@ fn operand_is_zero(operand: Operand) -> bool
     operand.displacement == 0
 }
 
+// Whether the immediate is one that the form may have.
+fn immediate_fits(form: u32, immediate: u32) -> bool
+    ensures { λ r. ⌜ r ≡ (fits (immediateSize (formOf form)) immediate && accepts (formOf form) immediate) ⌝ }
+{
+    if field_fits(fields::immediate_size(form), immediate) {
+        return fields::accepted(form, immediate);
+    }
+    false
+}
+
 // Whether the operand and the immediate are such as the form has.
 fn parts_fit(form: u32, operand: Operand, immediate: u32) -> bool
     ensures { λ r. ⌜ r ≡ partsFit (formOf form) operand immediate ⌝ }
@@ -127,13 +138,13 @@ fn parts_fit(form: u32, operand: Operand, immediate: u32) -> bool
     if fields::has_operand(form) {
         if fields::allowed(form, operand.mode, operand.reg, operand.rm) {
             if operand_fits(operand) {
-                return field_fits(fields::immediate_size(form), immediate);
+                return immediate_fits(form, immediate);
             }
         }
         return false;
     }
     if operand_is_zero(operand) {
-        return field_fits(fields::immediate_size(form), immediate);
+        return immediate_fits(form, immediate);
     }
     false
 }

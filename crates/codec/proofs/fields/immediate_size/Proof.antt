@@ -8,4 +8,4 @@ immediate-size-spec =
     tie.close
     (tie.spec
     (λ c. search form-rules) (λ c. search form-rules) (λ c. search form-rules) (λ c. search form-rules) (λ c. search form-rules)
-    (λ c. search form-rules) (λ c. search form-rules))
+    (λ c. search form-rules) (λ c. search form-rules) (λ c. search form-rules))

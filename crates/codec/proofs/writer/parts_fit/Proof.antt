@@ -7,6 +7,5 @@ pub parts-fit-spec : {M : Type 1} → statement M
 parts-fit-spec =
     tie.close
     (tie.spec
-    (λ c. search checks) (λ c κs. search checks) (λ c κs. search checks) (λ c κs. search checks) (λ c κs. search checks) (λ c κs. search checks)
-    (λ c. search checks) (λ c. search checks) (λ c. search checks) (λ c κs. search checks) (λ c κs. search checks) (λ c κs. search checks)
-    (λ c. search checks) (λ c. search checks))
+    (λ c. search checks) (λ c κs. search checks) (λ c κs. search checks) (λ c κs. search checks) (λ c κs. search checks) (λ c. search checks)
+    (λ c. search checks) (λ c. search checks) (λ c κs. search checks) (λ c κs. search checks) (λ c. search checks) (λ c. search checks))
