@@ -6,12 +6,12 @@ use Rattle.reorder.specs.Run.{Answer, finished, spent, stopped, runFrom}
 use Rattle.codec.specs.Refusals.{codeTooLong, notAllowed}
 use Rattle.codec.specs.Reads.{longestCode}
 use Rattle.codec.specs.Reasons as codec
-use Rattle.manual.specs.Refusals.{memoryTooLong, outsideMemory, outsideByStack, jumpsOutside, floorTooHigh, belowFloor}
+use Rattle.manual.specs.Refusals.{memoryTooLong, outsideMemory, outsideByStack, jumpsOutside, floorTooHigh, belowFloor, halfUnsupported}
 use Rattle.manual.specs.State.{State, frozen}
 use Rattle.manual.specs.Instructions.{execute}
 use Rattle.manual.specs.Jumps.{next}
 use Rattle.manual.specs.Steps.{Outcome, completed, refusedWith, stepAt}
-use Rattle.manual.specs.Reasons.{Fits, Reason, one, twenty, reading, seven, eight, nine, ten, fourteen, twentyOne, nineteen}
+use Rattle.manual.specs.Reasons.{Fits, Reason, one, twenty, reading, seven, eight, nine, ten, fourteen, twentyOne, twentyTwo, nineteen}
 use Rattle.manual.specs.Runs.{read, runOf}
 use Rattle.manual.proofs.Turns.{onward, still-fits, of-run, turn, instruction-here}
 use Rattle.manual.proofs.Locality.{local}
@@ -34,9 +34,9 @@ pub reading-small : (code : List ℕ) (at n : ℕ) → codec.ReasonAt code at n 
 reading-small code at n (codec.two h) = omega arith
 reading-small code at n (codec.reading h r) = part-small (drop at code) n r
 
--- those that are no floor's: 1 to 10, 14 and 19
+-- those that are no floor's: 1 to 10, 14, 19 and 22
 abbrev pub Floorless : ℕ → Type 0
-Floorless n = ((memoryTooLong ≤ n) × (n ≤ outsideMemory)) ⊎ ((n ≡ outsideByStack) ⊎ (n ≡ jumpsOutside))
+Floorless n = ((memoryTooLong ≤ n) × (n ≤ outsideMemory)) ⊎ (n ≡ outsideByStack) ⊎ (n ≡ jumpsOutside) ⊎ (n ≡ halfUnsupported)
 
 -- a step's is one of these, or 20 or 21 of a floor above 0
 reason-number : (floor : ℕ) (code : List ℕ) (at : ℕ) (s : State) (n : ℕ) → Reason floor code at s n
@@ -50,11 +50,12 @@ reason-number floor code at s n (nine i size h em ts pending) = inl (inl (omega 
 reason-number floor code at s n (ten i size h x touches o based) = inl (inl (omega arith))
 reason-number floor code at s n (fourteen i size h x touches o based) = inl (inr (inl refl))
 reason-number floor code at s n (twentyOne i size h x given b) = inr (omega (arith, b .low))
-reason-number floor code at s n (nineteen i size h jump clear astray) = inl (inr (inr refl))
+reason-number floor code at s n (twentyTwo i size h above u) = inl (inr (inr (inr refl)))
+reason-number floor code at s n (nineteen i size h jump clear astray) = inl (inr (inr (inl refl)))
 
 reason-small : (floor : ℕ) (code : List ℕ) (at : ℕ) (s : State) (n : ℕ) → Reason floor code at s n → n ≤ greatestRefusal
 reason-small floor code at s n r =
-    ⊎-elim (⊎-elim (λ h. omega arith) (⊎-elim (λ h. omega arith) (λ h. omega arith))) (λ h. omega arith) (reason-number floor code at s n r)
+    ⊎-elim (⊎-elim (λ h. omega arith) (⊎-elim (λ h. omega arith) (⊎-elim (λ h. omega arith) (λ h. omega arith)))) (λ h. omega arith) (reason-number floor code at s n r)
 
 module _ (floor : ℕ) (code : List ℕ) (code-fits : ltb longestCode (length code) ≡ false) where
   -- a completed step leaves a position of the code
@@ -120,7 +121,7 @@ run-bounded floor code budget s =
     still : Bounds code budget s 0 0 s
     still = record { position = omega arith; completed-steps = omega arith; kept = refl }
 
--- Over floor 0 a refusal is one of 1 to 10, 14 and 19: neither 20 nor 21 is given
+-- Over floor 0 a refusal is one of 1 to 10, 14, 19 and 22: neither 20 nor 21 is given
 
 pub step-zero : (code : List ℕ) (at n : ℕ) (s : State) → stepAt 0 code at s ≡ refusedWith n at s → Floorless n
 step-zero code at n s e = ⊎-elim (λ h. h) (λ h. absurd (omega arith)) (reason-number 0 code at s n (step-exactly 0 code at s n .0 e))

@@ -1,30 +1,38 @@
--- Each refusal of a step is given exactly when there is its reason: the tests stand in the order of documents 01 and 02, the operand test and then
--- the floor's as the last; a jump passes all of these, and is tested for where it goes.
+-- Each refusal of a step is given exactly when there is its reason: the tests stand in the order of documents 01 and 02, the operand test, the floor's
+-- and that of the halves as the last; a jump passes all of these, and is tested for where it goes.
 use Rattle.basis.specs.Names.{_≡_, refl, Bool, true, false, cond, List, [], _∷_, _++_, _&&_, List·Memᴰ as In, ℕ, zero, suc, _+_, leb, length}
 use Rattle.basis.proofs.Names.{sym, ap, ap₂, subst, _∙_, _↔_, inl, inr, ⊎-elim, false≢true, and-false, List·Memᴰ·head as here, List·Memᴰ·tail as there, leb-false, lt-leb, eqb-true, arith}
 use Rattle.reorder.specs.Result.{Result, done, refused, andThen, mapResult, caseOf}
-use Rattle.reorder.specs.Plan.{perform}
+use Rattle.reorder.specs.Plan.{looks, leaves as plan-leaves, perform}
 use Rattle.codec.specs.Answers as decoded
 use Rattle.codec.specs.Reads.{readAt}
 use Rattle.codec.specs.declared.Instruction.{Instruction}
 use Rattle.codec.proofs.Exactly.{reading-exactly}
-use Rattle.manual.specs.Refusals.{memoryTooLong, outsideMemory, outsideByStack, floorTooHigh, belowFloor}
+use Rattle.manual.specs.Refusals.{memoryTooLong, outsideMemory, outsideByStack, floorTooHigh, belowFloor, halfUnsupported}
 use Rattle.manual.specs.State.{State, isTooLong, isTooHigh}
 use Rattle.manual.specs.Places.{Place, look, put, allWritable}
 use Rattle.manual.specs.Kinds.{marked}
 use Rattle.manual.specs.Addresses.{Address, isStackBase, address}
 use Rattle.manual.specs.Locations.{Location, mmxRegister, integerRegister, memory, zeroOperand, liesInside, bytesFrom, missOf, placesOf}
-use Rattle.manual.specs.Effects.{placesOfAll, planOn, guarded, placedAbove, plan, unlessMarked}
+use Rattle.manual.specs.Effects.{placesOfAll, valuesIn, contentsOfAll, planOn, guarded, placedAbove, plan, unlessMarked}
 use Rattle.manual.specs.inner.Unmarked.{directly}
 use Rattle.manual.specs.Instructions.{effectOf, execute}
 use Rattle.manual.specs.Jumps.{isJump, next}
 use Rattle.manual.specs.Steps.{refusedWith, resultOf, concluded, instructionAt, stepAt}
-use Rattle.manual.specs.Reasons.{Fits, Stands, stopsIt, Passes, Touches, Outside, Below, Reason, one, twenty, reading, seven, eight, nine, ten, fourteen, twentyOne, nineteen}
+use Rattle.manual.specs.Reasons.{Fits, Stands, stopsIt, Passes, Touches, Outside, Below, Unsupported, Reason, one, twenty, reading, seven, eight, nine, ten, fourteen, twentyOne, twentyTwo, nineteen}
 use Rattle.manual.proofs.Marking.{controlled}
 use Rattle.manual.proofs.Jumps.{missing-refused, refused-missing}
 use Rattle.manual.proofs.Floors.{writable-bytes, writable-both}
 use Rattle.manual.proofs.Loops.{jump-leaves}
 use Rattle.manual.proofs.OneAddress.{pointed, one-address}
+use Rattle.manual.proofs.Values.{Apiece, apiece, values-are}
+use Rattle.manual.proofs.Halves.{Decided, fails, leaves, made-exactly}
+
+one-number : (o : Result State) (m n : ℕ) → o ≡ refused m → o ≡ refused n → m ≡ n
+one-number o m n e f = cc
+
+not-both : (o : Result State) (t : State) (n : ℕ) → o ≡ done t → o ≡ refused n → ⊥
+not-both o t n e f = false≢true (cc)
 
 -- Operands: the only refusal is that of a miss, and it is given exactly where an operand is outside
 
@@ -95,22 +103,7 @@ all-inside s xs inside = by (placesOfAll s xs) refl
     by (done ps) e = (ps, e)
     by (refused n) e = let o = refused-all s xs n e in absurd (inside (o .operand) (o .among) (o .missed .outside))
 
--- and those that have, are not outside: the first has its places, and the others have theirs
-record Apiece (s : State) (y : Location) (ys : List Location) (ps : List Place) : Type 0 where
-  own : List Place
-  others : List Place
-  first : placesOf s y ≡ done own
-  rest : placesOfAll s ys ≡ done others
-  both : own ++ others ≡ ps
-
-apiece : (s : State) (y : Location) (ys : List Location) (ps : List Place) → placesOfAll s (y ∷ ys) ≡ done ps → Apiece s y ys ps
-apiece s y ys ps e = by (placesOf s y) (placesOfAll s ys) refl refl e
-  where
-    by : (a b : Result (List Place)) → placesOf s y ≡ a → placesOfAll s ys ≡ b → andThen a (λ own. mapResult (λ others. own ++ others) b) ≡ done ps → Apiece s y ys ps
-    by (done own) (done others) ea eb h = record { own = own; others = others; first = ea; rest = eb; both = cc }
-    by (done own) (refused n) ea eb h = absurd (false≢true (cc))
-    by (refused n) b ea eb h = absurd (false≢true (cc))
-
+-- and those that have, are not outside
 placed-inside : (s : State) (xs : List Location) (ps : List Place) → placesOfAll s xs ≡ done ps → (x : Location) → In x xs → ¬ Outside s x
 placed-inside s (y ∷ ys) ps e x (here same) o =
     false≢true (cc (apiece s y ys ps e .first, ap (placesOf s) same, outside-refused s x o))
@@ -187,25 +180,48 @@ module _ (floor : ℕ) (i : Instruction) (s : State) where
   abbrev with-places : Result (List Place) → Result (List Place) → Result State
   with-places a b = perform look put marked s (andThen (andThen a (λ from. mapResult (planOn (effectOf i) from) b)) (guarded floor))
 
-  -- why the operands or the floor refuse it
+  abbrev AllInside : Type 0
+  AllInside = (x : Location) → Touches i x → ¬ Outside s x
+
+  abbrev NoneBelow : Type 0
+  NoneBelow = (x : Location) → In x (effectOf i .gives) → ¬ Below floor s x
+
+  -- why the operands, the floor or what it computes refuse it
   data Refusing : ℕ → Type 0 where
     misses : (x : Location) → Touches i x → (o : Outside s x) → Refusing (missOf (o .at))
-    sinks : ((x : Location) → Touches i x → ¬ Outside s x) → (x : Location) → In x (effectOf i .gives) → Below floor s x → Refusing belowFloor
+    sinks : AllInside → (x : Location) → In x (effectOf i .gives) → Below floor s x → Refusing belowFloor
+    makes-none : AllInside → NoneBelow → Unsupported s i → Refusing halfUnsupported
+
+  -- what it computes, where its operands have their places
+  makes : (from : List Place) → source ≡ done from → Decided s (Unsupported s i) (effectOf i .value (valuesIn (effectOf i .takes) (looks look s from)))
+  makes from e = subst (λ (l : List ℕ). Decided s (Unsupported s i) (effectOf i .value l)) (sym (values-are s (effectOf i .takes) from e)) (made-exactly s i)
+
+  -- what is left of it then
+  abbrev after : List Place → List Place → Result (List ℕ) → Result State
+  after from to o = mapResult (plan-leaves put marked (planOn (effectOf i) from to) s) (mapResult (contentsOfAll (effectOf i .gives)) o)
 
   refused-unmarked : (n : ℕ) → directly floor (effectOf i) s ≡ refused n → Refusing n
-  unfolding effectOf
   refused-unmarked n h = by source target refl refl h
     where
+      all-have : (from to : List Place) → source ≡ done from → target ≡ done to → AllInside
+      all-have from to ea eb x = ⊎-elim (placed-inside s (effectOf i .takes) from ea x) (placed-inside s (effectOf i .gives) to eb x)
+
       missing : (x : Location) → Touches i x → Missed s x n → Refusing n
       missing x touched m = subst Refusing (sym (m .number)) (misses x touched (m .outside))
 
-      -- what an instruction computes is never refused
+      computed : (from to : List Place) → source ≡ done from → target ≡ done to → allWritable floor to ≡ true
+          → Decided s (Unsupported s i) (effectOf i .value (valuesIn (effectOf i .takes) (looks look s from))) → perform look put marked s (done (planOn (effectOf i) from to)) ≡ refused n → Refusing n
+      computed from to ea eb t (fails u e) h =
+          subst Refusing (one-number _ halfUnsupported n (ap (after from to) e) h)
+          (makes-none (all-have from to ea eb) (λ x m b. false≢true (sym (below-one floor s (effectOf i .gives) to eb x m b) ∙ t)) u)
+      computed from to ea eb t (leaves none v e) h = absurd (not-both _ _ n (ap (after from to) e) h)
+
       tested : (from to : List Place) → source ≡ done from → target ≡ done to → (t : Bool) → allWritable floor to ≡ t
           → perform look put marked s (cond t (done (planOn (effectOf i) from to)) (refused belowFloor)) ≡ refused n → Refusing n
-      tested from to ea eb true t h = absurd (false≢true (cc))
+      tested from to ea eb true t h = computed from to ea eb t (makes from ea) h
       tested from to ea eb false t h =
           let o = one-below floor s (effectOf i .gives) to eb t in
-          subst Refusing (cc) (sinks (λ x. ⊎-elim (placed-inside s (effectOf i .takes) from ea x) (placed-inside s (effectOf i .gives) to eb x)) (o .operand) (o .among) (o .below))
+          subst Refusing (cc) (sinks (all-have from to ea eb) (o .operand) (o .among) (o .below))
 
       by : (a b : Result (List Place)) → source ≡ a → target ≡ b → with-places a b ≡ refused n → Refusing n
       by (refused m) b ea eb h =
@@ -236,13 +252,30 @@ module _ (floor : ℕ) (i : Instruction) (s : State) where
           let other = refused-all s (effectOf i .takes) n e in
           ap refused (other .missed .number ∙ alike (other .operand) (inl (other .among)) (other .missed .outside))
 
-  below-unmarked : ((x : Location) → Touches i x → ¬ Outside s x) → (x : Location) → In x (effectOf i .gives) → Below floor s x
+  below-unmarked : AllInside → (x : Location) → In x (effectOf i .gives) → Below floor s x
       → directly floor (effectOf i) s ≡ refused belowFloor
   below-unmarked inside x m b =
       let (from, ea) = all-inside s (effectOf i .takes) (λ y n. inside y (inl n)) in
       let (to, eb) = all-inside s (effectOf i .gives) (λ y n. inside y (inr n)) in
       ap₂ with-places ea eb
       ∙ ap (λ t. perform look put marked s (cond t (done (planOn (effectOf i) from to)) (refused belowFloor))) (below-one floor s (effectOf i .gives) to eb x m b)
+
+  unsupported-unmarked : AllInside → NoneBelow → Unsupported s i → directly floor (effectOf i) s ≡ refused halfUnsupported
+  unsupported-unmarked inside above u =
+      let (from, ea) = all-inside s (effectOf i .takes) (λ y n. inside y (inl n)) in
+      let (to, eb) = all-inside s (effectOf i .gives) (λ y n. inside y (inr n)) in
+      ap₂ with-places ea eb ∙ by from to eb (allWritable floor to) refl (makes from ea)
+    where
+      computed : (from to : List Place) → Decided s (Unsupported s i) (effectOf i .value (valuesIn (effectOf i .takes) (looks look s from)))
+          → perform look put marked s (done (planOn (effectOf i) from to)) ≡ refused halfUnsupported
+      computed from to (fails v e) = ap (after from to) e
+      computed from to (leaves none v e) = absurd (none u)
+
+      by : (from to : List Place) → target ≡ done to → (t : Bool) → allWritable floor to ≡ t
+          → Decided s (Unsupported s i) (effectOf i .value (valuesIn (effectOf i .takes) (looks look s from)))
+          → perform look put marked s (cond t (done (planOn (effectOf i) from to)) (refused belowFloor)) ≡ refused halfUnsupported
+      by from to eb true t d = computed from to d
+      by from to eb false t d = let o = one-below floor s (effectOf i .gives) to eb t in absurd (above (o .operand) (o .among) (o .below))
 
 -- The step
 
@@ -288,6 +321,8 @@ module _ (floor : ℕ) (code : List ℕ) (at : ℕ) (s : State) where
       step-missed i size passes x touched o ∙ ap (λ (m : ℕ). refusedWith m at s) (miss-by (o .at) true based)
   step-given n (twentyOne i size reaches x given b) =
       step-passes i size (reaches .passes) ∙ ap (concluded at (nextAfter i size) s) (below-unmarked floor i s (reaches .inside) x given b)
+  step-given n (twentyTwo i size reaches above u) =
+      step-passes i size (reaches .passes) ∙ ap (concluded at (nextAfter i size) s) (unsupported-unmarked floor i s (reaches .inside) above u)
   step-given n (nineteen i size stands jump clear astray) =
       step-jumps i size stands jump
       ∙ ap (λ further. concluded at further s (done s)) (missing-refused (length code) i s (at + size) (record { jump = jump; clear = clear; astray = astray }))
@@ -306,6 +341,7 @@ module _ (floor : ℕ) (code : List ℕ) (at : ℕ) (s : State) where
           by false based = subst Why (sym (miss-by (o .at) false based)) (ten i size passes x touched o based)
           by true based = subst Why (sym (miss-by (o .at) true based)) (fourteen i size passes x touched o based)
       operands i size passes m (sinks inside x given b) = twentyOne i size (record { passes = passes; inside = inside }) x given b
+      operands i size passes m (makes-none inside above u) = twentyTwo i size (record { passes = passes; inside = inside }) above u
 
       marks : (i : Instruction) (size : ℕ) → Stands floor code at s i size → (em ts pending : Bool)
           → stopsIt i (s .marks .em) ≡ em → stopsIt i (s .marks .ts) ≡ ts → stopsIt i (s .marks .pending) ≡ pending

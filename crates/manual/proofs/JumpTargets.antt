@@ -18,7 +18,7 @@ use Rattle.manual.specs.Refusals.{jumpsOutside}
 use Rattle.manual.specs.State.{State}
 use Rattle.manual.specs.Jumps.{ahead}
 use Rattle.manual.specs.Steps.{refusedWith, stepAt}
-use Rattle.manual.specs.Reasons.{Fits, Astray, Reason, one, twenty, reading, seven, eight, nine, ten, fourteen, twentyOne, nineteen}
+use Rattle.manual.specs.Reasons.{Fits, Astray, Reason, one, twenty, reading, seven, eight, nine, ten, fourteen, twentyOne, twentyTwo, nineteen}
 use Rattle.manual.proofs.Exactly.{step-exactly}
 use Rattle.manual.proofs.Bounds.{reading-small}
 
@@ -125,6 +125,7 @@ nineteen-in-words floor code at s =
     there n (ten i size h x touches o based) e = absurd (omega arith)
     there n (fourteen i size h x touches o based) e = absurd (omega arith)
     there n (twentyOne i size h x given b) e = absurd (omega arith)
+    there n (twentyTwo i size h above u) e = absurd (omega arith)
     there n (nineteen i size h jump clear astray) e = by (ltb longestCode (length code)) refl (h .read)
       where
         by : (t : Bool) → ltb longestCode (length code) ≡ t → cond t (refused codeTooLong) (readPart (drop at code)) ≡ good i size → Nineteen floor code at s

@@ -13,6 +13,8 @@ pub mod Floors
 pub mod OneAddress
 pub mod Loops
 pub mod ZeroMark
+pub mod Values
+pub mod Halves
 pub mod Exactly
 pub mod Bounds
 pub mod StackBases

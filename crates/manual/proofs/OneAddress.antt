@@ -6,10 +6,10 @@ use Rattle.words.proofs.Laws.{and-both}
 use Rattle.codec.specs.Forms.{File, mmxFile, integerFile, Slot, reg, rm, rm/mem, mem, edi, fixed, opcode, zeroSlot, Form, memorySize}
 use Rattle.codec.specs.Opcodes.{formFor}
 use Rattle.codec.specs.declared.Instruction.{Instruction}
-use Rattle.codec.proofs.Bytes.{allPass, opcode-passes}
+use Rattle.codec.proofs.Bytes.{allPass, opcode-passes, used-passes}
 use Rattle.manual.specs.Addresses.{Address, addressOf}
 use Rattle.manual.specs.Locations.{memory, registerIn, rmOf, atEdi, locate}
-use Rattle.manual.specs.Instructions.{sources, targets, effectOf}
+use Rattle.manual.specs.Instructions.{sources, targets, formUsed, effectOf}
 use Rattle.manual.specs.Reasons.{Touches}
 
 -- the address in EDI (`true`), or the one that r/m names
@@ -72,14 +72,19 @@ touchesAt inEdi form =
 
 pub record OneAddress (i : Instruction) : Type 0 where
   pub inEdi : Bool
-  pub points : (a : Address) (size : ℕ) → Touches i (memory a size) → PointedAt inEdi i (memorySize (formFor (i .first) (i .second))) a size
+  pub points : (a : Address) (size : ℕ) → Touches i (memory a size) → PointedAt inEdi i (memorySize (formUsed i)) a size
 
 pub one-address : (i : Instruction) → OneAddress i
 unfolding effectOf
-one-address i = by (touchesAt false form) (touchesAt true form) refl refl (opcode-passes (λ f. touchesAt false f || touchesAt true f) refl refl refl (i .first) (i .second))
+one-address i = by (touchesAt false form) (touchesAt true form) refl refl passes
   where
     form : Form
-    form = formFor (i .first) (i .second)
+    form = formUsed i
+
+    passes : (touchesAt false form || touchesAt true form) ≡ true
+    passes =
+        let test : Form → Bool = λ f. touchesAt false f || touchesAt true f in
+        used-passes test refl refl (formFor (i .first) (i .second)) (i .immediate) (opcode-passes test refl refl refl (i .first) (i .second))
 
     at : (inEdi : Bool) → touchesAt inEdi form ≡ true → OneAddress i
     at inEdi h =

@@ -5,8 +5,9 @@ use Rattle.basis.proofs.Names.{zero-add}
 use Rattle.lanes.specs.Signed.{clampSigned, clampUnsigned}
 use Rattle.lanes.specs.Rules.{packed, pairwise, sum, difference, sumSigned, differenceSigned, sumUnsigned, differenceUnsigned, equal, greater, productLow, productHigh, productSum, pack, unpackLow, unpackHigh, andNot, shift, left, right, rightSigned, blend, mean, extract, insert, maximumSigned, maximumUnsigned, minimumSigned, minimumUnsigned, topBits, productHighUnsigned, distances, shuffle}
 use Rattle.lanes.specs.Operations.{described, operate, operateThree}
+use Rattle.singles.specs.Siblings.{pf2iw, pi2fw, pswapd, pfcmpgt, pfmax, leave}
 use Rattle.codec.specs.Forms.{isAmong, isAbsent, hasOperand, immediateSize}
-use Rattle.codec.specs.Opcodes.{escape, formAt, operationAt, formOfFirst}
+use Rattle.codec.specs.Opcodes.{escape, formAt, operationAt, suffixedOf, formOfFirst}
 use Rattle.codec.specs.Table.{listed}
 use Rattle.codec.specs.Reads.{instructionOf}
 use Rattle.codec.specs.declared.Operand.{Operand}
@@ -15,8 +16,8 @@ use Rattle.reorder.specs.Result.{done}
 use Rattle.manual.specs.Addresses.{addressOf}
 use Rattle.manual.specs.Locations.{Location, mmxRegister, integerRegister, memory, zeroOperand, rmOf, atEdi}
 use Rattle.manual.specs.Effects.{Effect}
-use Rattle.manual.specs.Instructions.{effectOf}
-use Rattle.manual.proofs.Shapes.{both, move, three, bare}
+use Rattle.manual.specs.Instructions.{supported, effectOf}
+use Rattle.manual.proofs.Shapes.{both, bothOr, move, moveOr, three, bare}
 
 -- "the reg field names the MMX register and r/m the other operand": at mod 11 a register, else bytes in memory
 
@@ -122,6 +123,19 @@ extension =
     -- SFENCE
     ∷ (0xae, λ w immediate. bare Silent) ∷ []
 
+-- 3DNow, by the suffix after 0F 0F and the operands: manual 000's Table 1, of which Req 10 names PF2IW, PI2FW and PSWAPD, then manual 003's Table 2,
+-- of which it names PAVGUSB, PFCMPGT and PFMAX
+abbrev suffixTable : List (ℕ × (Operand → Effect))
+suffixTable =
+    -- "PF2IW, PI2FW and PSWAPD don't read their destination"
+    (0x1c, λ w. moveOr (λ x. supported (pf2iw x)) (mmxOfReg w) (mmxOr 8 w))
+    ∷ (0x0c, λ w. copies pi2fw mmxOfReg (mmxOr 8) w)
+    ∷ (0xbb, λ w. copies pswapd mmxOfReg (mmxOr 8) w)
+    -- 000: PAVGB is the same
+    ∷ (0xbf, λ w. eight (packed (pairwise mean) 8) w)
+    ∷ (0xa0, λ w. bothOr (λ x y. supported (pfcmpgt x y)) (mmxOfReg w) (mmxOr 8 w))
+    ∷ (0xa4, λ w. bothOr (λ x y. supported (pfmax x y)) (mmxOfReg w) (mmxOr 8 w)) ∷ []
+
 -- "immediate shifts of W, D, Q: /2 right logical, /4 right arithmetic (71 and 72 only), /6 left": the byte, the digit, and what the register becomes
 -- by a count
 abbrev shifts : List (ℕ × (ℕ × (ℕ → ℕ → ℕ)))
@@ -140,14 +154,15 @@ tableBytes = 0x71 ∷ 0x72 ∷ 0x73 ∷ map (λ (x : ℕ × (Operand → Effect)
 abbrev extensionBytes : List ℕ
 extensionBytes = map (λ (x : ℕ × (Operand → ℕ → Effect)). x .0) extension
 
+-- and 3DNow's second byte
 abbrev isListed : ℕ → Bool
-isListed b = isAmong b (tableBytes ++ extensionBytes)
+isListed b = isAmong b (0x0f ∷ tableBytes ++ extensionBytes)
 
 pub record Agrees : Type 0 where
-  -- "That is 52 second bytes"; 000's are 16, together 68 different ones, and the list has no other
+  -- "That is 52 second bytes"; 000's are 16, with 3DNow's together 69 different ones, and the list has no other
   pub count : length tableBytes ≡ 52
   pub count-of-extension : length extensionBytes ≡ 16
-  pub together : length (flatten (listed (λ b. cond (isListed b) (b ∷ []) []) 0 256)) ≡ 68
+  pub together : length (flatten (listed (λ b. cond (isListed b) (b ∷ []) []) 0 256)) ≡ 69
   pub bytes : listed isListed 0 256 ≡ listed (λ b. not (isAbsent (formAt b))) 0 256
   pub effects : (w : Operand) (immediate : ℕ)
       → map (λ (x : ℕ × (Operand → Effect)). effectOf (instructionOf escape (x .0) w immediate)) table
@@ -155,9 +170,14 @@ pub record Agrees : Type 0 where
   pub effects-of-extension : (w : Operand) (immediate : ℕ)
       → map (λ (x : ℕ × (Operand → ℕ → Effect)). effectOf (instructionOf escape (x .0) w immediate)) extension
       ≡ map (λ (x : ℕ × (Operand → ℕ → Effect)). x .1 w immediate) extension
-  -- "All but EMMS have a ModRM byte; 71-73 then have one immediate byte", and of 000's so have PINSRW, PEXTRW and PSHUFW
+  -- 3DNow has six suffixes, and the list has no other
+  pub suffixes : formAt 0x0f .suffixes ≡ flatten (listed (λ b. cond (isAmong b (map (λ (x : ℕ × (Operand → Effect)). x .0) suffixTable)) (b ∷ []) []) 0 256)
+  pub effects-of-suffixes : (w : Operand)
+      → map (λ (x : ℕ × (Operand → Effect)). effectOf (instructionOf escape 0x0f w (x .0))) suffixTable
+      ≡ map (λ (x : ℕ × (Operand → Effect)). x .1 w) suffixTable
+  -- "All but EMMS have a ModRM byte; 71-73 then have one immediate byte", and of 000's so have PINSRW, PEXTRW and PSHUFW; so is a suffix
   pub operand-bytes : listed (λ b. hasOperand (formAt b)) 0 256 ≡ listed (λ b. isListed b && not (eqb b 0x77)) 0 256
-  pub immediates : listed (λ b. immediateSize (formAt b)) 0 256 ≡ listed (λ b. cond (isAmong b (0x71 ∷ 0x72 ∷ 0x73 ∷ 0xc4 ∷ 0xc5 ∷ 0x70 ∷ [])) 1 0) 0 256
+  pub immediates : listed (λ b. immediateSize (formAt b)) 0 256 ≡ listed (λ b. cond (isAmong b (0x71 ∷ 0x72 ∷ 0x73 ∷ 0xc4 ∷ 0xc5 ∷ 0x70 ∷ 0x0f ∷ [])) 1 0) 0 256
   -- the lane widths of the table: of 71 to 73, then in the order of the rows
   pub widths : map (λ b. described (operationAt b 2) .width) tableBytes
       ≡ 16 ∷ 32 ∷ 64 ∷ 8 ∷ 16 ∷ 32 ∷ 8 ∷ 8 ∷ 16 ∷ 8 ∷ 16 ∷ 32 ∷ 8 ∷ 16 ∷ 32 ∷ 64 ∷ 64 ∷ 64 ∷ 64 ∷ 8 ∷ 16 ∷ 32 ∷ 64
@@ -170,7 +190,7 @@ pub record Agrees : Type 0 where
       ≡ map (λ (x : ℕ × (ℕ × (ℕ → ℕ → ℕ))). move (λ y. x .1 .1 y immediate) (mmxRegister (w .rm)) (mmxRegister (w .rm))) shifts
 
 pub agrees : Agrees
-unfolding flatten operate operateThree formAt operationAt rmOf effectOf
+unfolding flatten operate operateThree leave formAt operationAt suffixedOf rmOf effectOf
 agrees =
     record {
       count = refl;
@@ -179,6 +199,8 @@ agrees =
       bytes = refl;
       effects = λ w immediate. refl;
       effects-of-extension = λ w immediate. refl;
+      suffixes = refl;
+      effects-of-suffixes = λ w. refl;
       operand-bytes = refl;
       immediates = refl;
       widths = refl;

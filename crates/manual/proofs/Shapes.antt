@@ -1,6 +1,6 @@
 -- The shapes of effects that the instructions have whose first byte is 0F.
 use Rattle.basis.specs.Names.{[], _∷_, ℕ, getD}
-use Rattle.reorder.specs.Result.{done}
+use Rattle.reorder.specs.Result.{Result, done, mapResult}
 use Rattle.codec.specs.declared.Kind.{Kind}
 use Rattle.codec.specs.declared.Kind.the-variants.{Ordinary}
 use Rattle.manual.specs.Locations.{Location}
@@ -23,6 +23,25 @@ move f destination source =
       takes = source ∷ [];
       gives = destination ∷ [];
       value = λ values. done (f (getD values 0 0) ∷ []);
+      kind = Ordinary;
+    }
+
+-- the same two, where there may be no such number
+abbrev pub bothOr : (ℕ → ℕ → Result ℕ) → Location → Location → Effect
+bothOr f destination source =
+    record {
+      takes = destination ∷ source ∷ [];
+      gives = destination ∷ [];
+      value = λ values. mapResult (λ x. x ∷ []) (f (getD values 0 0) (getD values 1 0));
+      kind = Ordinary;
+    }
+
+abbrev pub moveOr : (ℕ → Result ℕ) → Location → Location → Effect
+moveOr f destination source =
+    record {
+      takes = source ∷ [];
+      gives = destination ∷ [];
+      value = λ values. mapResult (λ x. x ∷ []) (f (getD values 0 0));
       kind = Ordinary;
     }
 

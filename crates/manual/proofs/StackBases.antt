@@ -4,15 +4,15 @@ use Rattle.basis.specs.Names.{_≡_, refl, _⊎_, Bool, true, false, List, ℕ,
 use Rattle.basis.proofs.Names.{sym, ap, subst, _∙_, _↔_, inl, inr, false≢true, and-false, arith, eqb-true, eqb-false, eq-eqb, ne-eqb}
 use Rattle.codec.specs.Operands.{hasSib}
 use Rattle.codec.specs.Forms.{memorySize}
-use Rattle.codec.specs.Opcodes.{formFor}
 use Rattle.codec.specs.declared.Operand.{Operand}
 use Rattle.codec.specs.declared.Instruction.{Instruction}
 use Rattle.manual.specs.Refusals.{outsideByStack}
 use Rattle.manual.specs.State.{State}
 use Rattle.manual.specs.Addresses.{Address, baseOf, addressOf, isStackBase, address}
 use Rattle.manual.specs.Locations.{memory}
+use Rattle.manual.specs.Instructions.{formUsed}
 use Rattle.manual.specs.Steps.{refusedWith, stepAt}
-use Rattle.manual.specs.Reasons.{Passes, Touches, Reason, one, twenty, reading, seven, eight, nine, ten, fourteen, twentyOne, nineteen}
+use Rattle.manual.specs.Reasons.{Passes, Touches, Reason, one, twenty, reading, seven, eight, nine, ten, fourteen, twentyOne, twentyTwo, nineteen}
 use Rattle.manual.proofs.OneAddress.{PointedAt, one-address}
 use Rattle.manual.proofs.Exactly.{step-exactly}
 use Rattle.manual.proofs.Bounds.{reading-small}
@@ -89,13 +89,14 @@ fourteen-in-words floor code at s = (λ e. there outsideByStack (step-exactly fl
     there n (nine i size h em ts pending) e = absurd (omega arith)
     there n (ten i size h x touches o based) e = absurd (omega arith)
     there n (twentyOne i size h x given b) e = absurd (omega arith)
+    there n (twentyTwo i size h above u) e = absurd (omega arith)
     there n (nineteen i size h jump clear astray) e = absurd (omega arith)
     there n (fourteen i size h x touches o based) e = by (one-address i .inEdi) (one-address i .points (o .at) (o .size) touched)
       where
         touched : Touches i (memory (o .at) (o .size))
         touched = subst (Touches i) (o .operand) touches
 
-        by : (inEdi : Bool) → PointedAt inEdi i (memorySize (formFor (i .first) (i .second))) (o .at) (o .size) → Fourteen floor code at s
+        by : (inEdi : Bool) → PointedAt inEdi i (memorySize (formUsed i)) (o .at) (o .size) → Fourteen floor code at s
         by true p = absurd (false≢true (ap (λ (a : Address). isStackBase (a .base)) (sym (p .same)) ∙ based))
         by false p =
             record {

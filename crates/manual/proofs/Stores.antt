@@ -2,18 +2,18 @@
 -- 7F and E7 where r/m names no register, and 0F F7, whatever its mask.
 use Rattle.basis.specs.Names.{_≡_, refl, Bool, true, false, _||_, List, [], _∷_, map, List·Memᴰ as In, ℕ, _+_, _%_, _<_, _≤_, eqb, length}
 use Rattle.basis.proofs.Names.{sym, ap, subst, subst₂, _∙_, _↔_, inr, false≢true, or-false, List·Memᴰ·head as here, List·Memᴰ·tail as there, List·Memᴰ·eq-of-singleton as eq-of-singleton, arith, decLt, eqb-true, ne-eqb}
-use Rattle.codec.specs.Forms.{File, mmxFile, integerFile, Slot, reg, rm, rm/mem, mem, edi, fixed, opcode, zeroSlot, absent, isAmong}
+use Rattle.codec.specs.Forms.{File, mmxFile, integerFile, Slot, reg, rm, rm/mem, mem, edi, fixed, opcode, zeroSlot, Form, absent, isAmong}
 use Rattle.codec.specs.Contents.{Line, lines}
-use Rattle.codec.specs.Opcodes.{escape, formAt, formFor}
+use Rattle.codec.specs.Opcodes.{escape, formAt, usedForm, formFor}
 use Rattle.codec.specs.declared.Instruction.{Instruction}
-use Rattle.codec.proofs.Bytes.{allPass, found-has, first-passes, among}
+use Rattle.codec.proofs.Bytes.{allPass, found-has, first-passes, used-passes, among}
 use Rattle.manual.specs.Refusals.{belowFloor}
 use Rattle.manual.specs.State.{State}
 use Rattle.manual.specs.Addresses.{Address, addressOf, address}
 use Rattle.manual.specs.Locations.{Location, memory, rmOf, atEdi, locate}
-use Rattle.manual.specs.Instructions.{targets, effectOf}
+use Rattle.manual.specs.Instructions.{targets, formUsed, effectOf}
 use Rattle.manual.specs.Steps.{refusedWith, stepAt}
-use Rattle.manual.specs.Reasons.{Passes, Touches, Outside, Reason, one, twenty, reading, seven, eight, nine, ten, fourteen, twentyOne, nineteen}
+use Rattle.manual.specs.Reasons.{Passes, Touches, Outside, Reason, one, twenty, reading, seven, eight, nine, ten, fourteen, twentyOne, twentyTwo, nineteen}
 use Rattle.manual.proofs.OneAddress.{no-register, at-rm, one-address}
 use Rattle.manual.proofs.Exactly.{step-exactly}
 use Rattle.manual.proofs.Bounds.{reading-small}
@@ -42,7 +42,7 @@ isRegister zeroSlot = true
 module _ (i : Instruction) where
   -- what an instruction of both opcode bytes gives
   abbrev givenAt : ℕ → ℕ → List Location
-  givenAt first second = map (locate i) (targets (formFor first second .operands))
+  givenAt first second = map (locate i) (targets (usedForm (formFor first second) (i .immediate) .operands))
 
   -- no other second byte gives an operand that may be in memory
   registers-given : isAmong (i .second) storeBytes ≡ false → allPass isRegister (targets (formAt (i .second) .operands)) ≡ true
@@ -56,6 +56,13 @@ module _ (i : Instruction) where
       other x e g =
           let same : isAmong (x .second) storeBytes ≡ false = ap (λ (k : ℕ). isAmong k storeBytes) (sym (eqb-true (i .second) (x .second) e)) ∙ h in
           sym (or-false _) ∙ (ap (λ (t : Bool). allPass isRegister (targets (x .form .operands)) || t) (sym same) ∙ g)
+
+  -- nor does a suffix
+  abbrev givesRegisters : Form → Bool
+  givesRegisters form = allPass isRegister (targets (form .operands))
+
+  used-registers : (form : Form) → givesRegisters form ≡ true → givesRegisters (usedForm form (i .immediate)) ≡ true
+  used-registers form h = used-passes givesRegisters refl refl form (i .immediate) h
 
   -- so that it has none
   module _ (a : Address) (size : ℕ) where
@@ -101,9 +108,9 @@ module _ (i : Instruction) where
 
       by : (t u : Bool) → eqb (i .first) escape ≡ t → isAmong (i .second) storeBytes ≡ u → In (memory a size) (givenAt (i .first) (i .second)) → Stores i a size
       by true true e h m = let first = eqb-true (i .first) escape e in after first h (subst (λ (n : ℕ). In (memory a size) (givenAt n (i .second))) first m)
-      by true false e h m = absurd (no-memory a size (targets (formFor (i .first) (i .second) .operands)) (simp e (registers-given h)) m)
+      by true false e h m = absurd (no-memory a size (targets (formUsed i .operands)) (used-registers (formFor (i .first) (i .second)) (simp e (registers-given h))) m)
       by false u e h m =
-          absurd (no-memory a size (targets (formFor (i .first) (i .second) .operands)) (simp e (first-passes (λ f. allPass isRegister (targets (f .operands))) refl refl (i .first))) m)
+          absurd (no-memory a size (targets (formUsed i .operands)) (used-registers (formFor (i .first) (i .second)) (simp e (first-passes givesRegisters refl refl (i .first)))) m)
 
       there : (first second : ℕ) (x : Location) → i .first ≡ first → i .second ≡ second → In x (givenAt first second) → In x (givenAt (i .first) (i .second))
       there first second x e f m = subst₂ (λ (j k : ℕ). In x (givenAt j k)) (sym e) (sym f) m
@@ -146,6 +153,7 @@ twenty-one-in-words floor code at s = (λ e. there belowFloor (step-exactly floo
     there n (nine i size h em ts pending) e = absurd (omega arith)
     there n (ten i size h x touches o based) e = absurd (omega arith)
     there n (fourteen i size h x touches o based) e = absurd (omega arith)
+    there n (twentyTwo i size h above u) e = absurd (omega arith)
     there n (nineteen i size h jump clear astray) e = absurd (omega arith)
     there n (twentyOne i size reaches x given b) e =
         record {

@@ -11,14 +11,14 @@ use Rattle.codec.specs.Opcodes.{escape, formAt, formOfFirst, formFor}
 use Rattle.codec.specs.declared.Operand.{Operand}
 use Rattle.codec.specs.declared.Instruction.{Instruction}
 use Rattle.codec.specs.declared.Kind.{Kind}
-use Rattle.codec.proofs.Bytes.{allPass, form-passes}
+use Rattle.codec.proofs.Bytes.{allPass, form-passes, used-passes}
 use Rattle.manual.specs.State.{State, frozen}
 use Rattle.manual.specs.Places.{Place, mmx, integer, zeroMark, look, put}
 use Rattle.manual.specs.Kinds.{marked, KindsMeet}
 use Rattle.manual.specs.Addresses.{addressOf, address}
 use Rattle.manual.specs.Locations.{Location, mmxRegister, integerRegister, memory, zeroOperand, registerIn, rmOf, locate, bytesFrom, liesInside, missOf, placesOf}
 use Rattle.manual.specs.Effects.{placesOfAll, via, plan}
-use Rattle.manual.specs.Instructions.{targets, effectOf, execute}
+use Rattle.manual.specs.Instructions.{targets, formUsed, effectOf, execute}
 use Rattle.manual.proofs.Laws.{laws, zero-seen}
 use Rattle.manual.proofs.Floors.{plan-on}
 
@@ -98,7 +98,7 @@ module _ (i : Instruction) where
   -- it does not give the zero mark
   not-given : ((k : ℕ) → ¬ Counts i k) → In zeroOperand (effectOf i .gives) → ⊥
   unfolding effectOf
-  not-given other = no-slots (targets (formFor (i .first) (i .second) .operands)) (others-keep other)
+  not-given other = no-slots (targets (formUsed i .operands)) (used-passes keepsZero refl refl (formFor (i .first) (i .second)) (i .immediate) (others-keep other))
 
 -- the zero mark is a place of operands only where it is one of them
 module _ (s : State) where

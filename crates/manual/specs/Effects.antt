@@ -3,15 +3,16 @@
 use Rattle.basis.specs.Names.{cond, List, [], _∷_, _++_, map, ℕ, getD, take, drop}
 use Rattle.words.specs.Number.{number, bytes}
 use Rattle.reorder.specs.Result.{Result, done, refused, andThen, mapResult}
-use Rattle.reorder.specs.Plan.{Plan, execBy}
+use Rattle.reorder.specs.Plan.{Plan, looks, execBy}
 use Rattle.reorder.specs.Footprint.{Footprint, footprintBy}
 use Rattle.codec.specs.declared.Kind.{Kind}
 use Rattle.manual.specs.declared.Marks.{Marks}
 use Rattle.manual.specs.Refusals.{invalidOpcode, notAvailable, isPending, belowFloor}
 use Rattle.manual.specs.State.{State}
-use Rattle.manual.specs.Places.{Place, integer, look, put, allWritable}
+use Rattle.manual.specs.Places.{Place, mmx, integer, zeroMark, look, put, allWritable}
 use Rattle.manual.specs.Kinds.{marked, heeded}
-use Rattle.manual.specs.Locations.{Location, mmxRegister, integerRegister, memory, zeroOperand, placesOf, registersBehind}
+use Rattle.manual.specs.Addresses.{address}
+use Rattle.manual.specs.Locations.{Location, mmxRegister, integerRegister, memory, zeroOperand, bytesFrom, placesOf, registersBehind}
 
 pub record Effect : Type 0 where
   pub takes : List Location
@@ -42,6 +43,13 @@ valueIn (mmxRegister k) contents = getD contents 0 0
 valueIn (integerRegister k) contents = getD contents 0 0
 valueIn (memory a size) contents = number contents
 valueIn zeroOperand contents = getD contents 0 0
+
+-- the number of an operand in a state
+abbrev pub numberOf : State → Location → ℕ
+numberOf s (mmxRegister k) = look s (mmx k)
+numberOf s (integerRegister k) = look s (integer k)
+numberOf s (memory a size) = number (looks look s (bytesFrom (address (s .integers) a) size))
+numberOf s zeroOperand = look s zeroMark
 
 -- one number for each operand, from what stands in all their places
 abbrev pub valuesIn : List Location → List ℕ → List ℕ

@@ -1,13 +1,18 @@
--- What each instruction takes and gives: by its form's operands and its operation, or as those of loops do.
+-- What each instruction takes and gives: by its form's operands and its operation, as those of loops do, or as 3DNow's do, by their suffix.
 use Rattle.basis.specs.Names.{Bool, true, false, cond, List, [], _∷_, map, ℕ, _+_, _-_, _^_, _%_, eqb, length, getD}
 use Rattle.lanes.specs.Operations.{Operation, operate, operateThree}
-use Rattle.reorder.specs.Result.{Result, done}
+use Rattle.singles.specs.Siblings.{leave}
+use Rattle.singles.specs.declared.answers.Answer.{Answer}
+use Rattle.singles.specs.declared.answers.Answer.the-variants.{Leaves, Fails}
+use Rattle.reorder.specs.Result.{Result, done, refused, mapResult}
 use Rattle.reorder.specs.Footprint.{Footprint}
-use Rattle.codec.specs.Forms.{Use, read, written, updated, untouched, File, mmxFile, integerFile, Slot, reg, rm, rm/mem, mem, edi, fixed, opcode, zeroSlot, Form}
-use Rattle.codec.specs.Opcodes.{formFor, operationFor}
+use Rattle.codec.specs.Forms.{Use, read, written, updated, untouched, File, mmxFile, integerFile, Slot, reg, rm, rm/mem, mem, edi, fixed, opcode, zeroSlot, Form, hasSuffix}
+use Rattle.codec.specs.Contents.{Suffixed}
+use Rattle.codec.specs.Opcodes.{suffixedOf, usedForm, formFor, operationFor}
 use Rattle.codec.specs.declared.Instruction.{Instruction}
 use Rattle.codec.specs.declared.Kind.{Kind}
 use Rattle.codec.specs.declared.Kind.the-variants.{Ordinary, Emms, Silent, Loop}
+use Rattle.manual.specs.Refusals.{halfUnsupported}
 use Rattle.manual.specs.State.{State}
 use Rattle.manual.specs.Places.{Place}
 use Rattle.manual.specs.Addresses.{signedByte}
@@ -71,29 +76,48 @@ isLoop Emms = false
 isLoop Silent = false
 isLoop Loop = true
 
+-- what one of 3DNow's leaves, or 22 where a half that it reads is unsupported
+abbrev pub supported : Answer → Result ℕ
+supported (Leaves x) = done x
+supported Fails = refused halfUnsupported
+
+-- of the numbers that are read: the first and the last (which are one, where one is read)
+abbrev pub leftBySuffix : Suffixed → List ℕ → Result ℕ
+leftBySuffix x values = supported (leave (x .sibling) (getD values 0 0) (lastNumber (x .form) 0 values))
+
 -- what an instruction leaves: of loops, a sum; else what its operation leaves
 abbrev pub resultBy : Form → Operation → ℕ → List ℕ → ℕ
 resultBy form operation immediate values =
     cond (isLoop (form .kind)) (getD values 0 0 + addend (form .immediate) immediate) (leftBy form operation immediate values)
 
+-- the same, or what its suffix says
+abbrev pub computedBy : Form → Operation → ℕ → List ℕ → Result ℕ
+computedBy form operation immediate values =
+    cond (hasSuffix form) (leftBySuffix (suffixedOf immediate) values) (done (resultBy form operation immediate values))
+
 -- the effect of an instruction by a form and an operation: every operand that is written becomes what the instruction leaves
 abbrev pub effectBy : Form → Operation → Instruction → Effect
 effectBy form operation i =
+    let used = usedForm form (i .immediate) in
     record {
-      takes = map (locate i) (sources (form .operands));
-      gives = map (locate i) (targets (form .operands));
-      value = λ values. done (map (λ x. keptBy x (resultBy form operation (i .immediate) values)) (targets (form .operands)));
-      kind = form .kind;
+      takes = map (locate i) (sources (used .operands));
+      gives = map (locate i) (targets (used .operands));
+      value = λ values. mapResult (λ left. map (λ x. keptBy x left) (targets (used .operands))) (computedBy form operation (i .immediate) values);
+      kind = used .kind;
     }
 
--- the effect of an instruction, by the lists
+-- the form whose operands an instruction uses, by the lists
+abbrev pub formUsed : Instruction → Form
+formUsed i = usedForm (formFor (i .first) (i .second)) (i .immediate)
+
+-- its effect
 unfoldable pub effectOf : Instruction → Effect
 effectOf i = effectBy (formFor (i .first) (i .second)) (operationFor (i .first) (i .second) (i .operand .reg)) i
 
--- one instruction over a floor, in a state: the state that it leaves, or 7 to 10, 14 or 21
+-- one instruction over a floor, in a state: the state that it leaves, or 7 to 10, 14, 21 or 22
 unfoldable pub execute : ℕ → Instruction → State → Result State
 execute floor i s = perform floor (effectOf i) s
 
--- its footprint, or 7 to 10, 14 or 21
+-- its footprint, or 7 to 10, 14, 21 or 22
 unfoldable pub footprint : ℕ → Instruction → State → Result (Footprint Place Kind)
 footprint floor i s = footprintOf floor (effectOf i) s

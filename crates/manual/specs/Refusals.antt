@@ -1,4 +1,4 @@
--- The refusal numbers of steps, runs and footprints, from document 01's table of them and document 02's Req 04, 07 and 08 (2 to 6 are the reader's).
+-- The refusal numbers of steps, runs and footprints, from document 01's table of them and document 02's Req 04, 07, 08 and 10 (2 to 6 are the reader's).
 use Rattle.basis.specs.Names.{ℕ}
 
 -- the memory is longer than 32,768 bytes
@@ -36,3 +36,7 @@ floorTooHigh = 20
 -- a byte below the floor would be written
 abbrev pub belowFloor : ℕ
 belowFloor = 21
+
+-- a half that is read as a single-precision number is unsupported
+abbrev pub halfUnsupported : ℕ
+halfUnsupported = 22

@@ -35,7 +35,7 @@ abbrev pub concluded : ℕ → Result ℕ → State → Result State → Outcome
 concluded at further s (done t) = caseOf further (λ n. refusedWith n at s) (λ position. completed position t)
 concluded at further s (refused n) = refusedWith n at s
 
--- 1, 20 and 2 to 6 where there is no instruction, then 7 to 10, 14 and 21 by the instruction, then 19 by where the run goes on
+-- 1, 20 and 2 to 6 where there is no instruction, then 7 to 10, 14, 21 and 22 by the instruction, then 19 by where the run goes on
 unfoldable pub stepAt : ℕ → List ℕ → ℕ → State → Outcome
 stepAt floor code at s =
     caseOf (instructionAt floor code at s) (λ n. refusedWith n at s)
