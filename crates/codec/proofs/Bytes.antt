@@ -1,11 +1,14 @@
 -- What is found in a list: what every line passes is passed by the line found. So it is said of every second byte, of every first byte, and of every
 -- form's number. And what is among the numbers of a list.
-use Rattle.basis.specs.Names.{ℕ, _≤_, _≡_, refl, Bool, true, false, cond, _&&_, _||_, List, [], _∷_, map, eqb, ltb, getD, drop}
-use Rattle.basis.proofs.Names.{sym, ap, subst, false≢true, arith, ltb-true, le-ltb, eqb-true}
+use Rattle.basis.specs.Names.{ℕ, _≤_, _≡_, refl, Bool, true, false, not, cond, _&&_, _||_, List, [], _∷_, map, eqb, ltb, getD, drop}
+use Rattle.basis.proofs.Names.{sym, ap, subst, _∙_, false≢true, arith, ltb-true, le-ltb, eqb-true}
 use Rattle.codec.specs.Forms.{Form, absent, mmreg1·mmreg2/mem64, forms, isAmong, hasSuffix}
 use Rattle.codec.specs.Contents.{lines, maximum, siblings, loops}
 use Rattle.codec.specs.Opcodes.{find, suffixedOf, usedForm, isOf, formAt, formOfFirst, formFor, escape}
 use Rattle.codec.specs.Table.{formOf}
+use Rattle.codec.specs.inner.Entries.{isOrdinary}
+use Rattle.codec.specs.declared.Kind.{Kind}
+use Rattle.codec.specs.declared.Kind.the-variants.{Ordinary, Emms, Silent, Loop}
 use Rattle.words.proofs.Laws.{and-both}
 
 abbrev pub allPass : {A : Type 0} → (A → Bool) → List A → Bool
@@ -75,6 +78,23 @@ used-passes test last h form immediate own = by (hasSuffix form)
     by : (t : Bool) → test (cond t (suffixedOf immediate .form) form) ≡ true
     by true = found-has (λ x. x) maximum (λ x. test (x .form) ≡ true) (λ x. eqb immediate (x .suffix)) (λ x. test (x .form)) last (λ x e q. q) siblings h
     by false = own
+
+-- and its kind is that of the opcode, where one with a suffix is ordinary
+pub ordinary : (k : Kind) → isOrdinary k ≡ true → k ≡ Ordinary
+ordinary Ordinary h = refl
+ordinary Emms h = absurd (false≢true h)
+ordinary Silent h = absurd (false≢true h)
+ordinary Loop h = absurd (false≢true h)
+
+abbrev pub ordinarySuffix : Form → Bool
+ordinarySuffix form = not (hasSuffix form) || isOrdinary (form .kind)
+
+pub used-kind : (form : Form) (immediate : ℕ) → ordinarySuffix form ≡ true → usedForm form immediate .kind ≡ form .kind
+used-kind form immediate h = by (hasSuffix form) refl h
+  where
+    by : (t : Bool) → hasSuffix form ≡ t → (not t || isOrdinary (form .kind)) ≡ true → usedForm form immediate .kind ≡ form .kind
+    by true e g = ordinary _ (used-passes (λ f. isOrdinary (f .kind)) refl refl form immediate g) ∙ sym (ordinary _ g)
+    by false e g = simp e
 
 -- the form of a number from `first` on passes a test
 pub number-passes : (test : Form → Bool) (first n : ℕ) → first ≤ n → test mmreg1·mmreg2/mem64 ≡ true

@@ -186,7 +186,7 @@ only-suffix first second v = by (eqb first escape) refl
     by true e h = (
       eqb-true first escape e,
       found-has (λ x. x .form) absent (λ f. accepts f v ≡ false → second ≡ threeDNow) (λ x. eqb second (x .second)) (λ x. not (hasSuffix (x .form)) || eqb (x .second) threeDNow)
-      (λ h. absurd (false≢true (sym h))) listed lines refl h,
+          (λ h. absurd (false≢true (sym h))) listed lines refl h,
     )
       where
         listed : (x : Line) → eqb second (x .second) ≡ true → (not (hasSuffix (x .form)) || eqb (x .second) threeDNow) ≡ true → accepts (x .form) v ≡ false → second ≡ threeDNow

@@ -16,14 +16,16 @@ use codec::Instruction;
 use codec::Kind;
 use codec::Operand;
 use codec::forms::FORM;
+use codec::forms::SUFFIXED;
 use codec::prefixes::ESCAPE;
 use codec::refusals::CODE_TOO_LONG;
 use codec::refusals::LONGEST_CODE;
-ghost use Rattle.basis.specs.Names.{_≡_};
+use works::REFUSE;
+ghost use Rattle.basis.specs.Names.{_≡_, _/_, _^_};
 ghost use Rattle.codec.specs.inner.Fields.{Registers};
 ghost use Rattle.machine.specs.State.{stateOf};
 ghost use Rattle.machine.specs.Footprints.{maskedAt, paperOfFootprint};
-ghost use Rattle.machine.specs.inner.Reaches.{ordinaryFootprint, pointedBy, footprintOfWay, unmarkedFootprint};
+ghost use Rattle.machine.specs.inner.Reaches.{ordinaryFootprint, pointedBy, footprintOfWay, unmarkedFootprint, Completes};
 ghost use Rattle.machine.specs.inner.Works.{effectIn, Listed};
 
 // What is read, with the address registers, and what is written.
@@ -73,6 +75,7 @@ fn footprint_of_way(way: Way, operand: Operand, registers: u8, places: Places) -
         Way::Stores => ordinary(registers, own, places),
         Way::Loads => ordinary(registers, places, own),
         Way::Computes => ordinary(registers, reaches::with_register(operand.reg, places), own),
+        Way::Suffixes => ordinary(registers, reaches::with_register(operand.reg, places), own),
         Way::Inserts => ordinary(registers, reaches::with_register(operand.reg, places), own),
         Way::Shuffles => ordinary(registers, places, own),
         Way::Masks => {
@@ -98,10 +101,41 @@ fn pointed(way: Way, operand: Operand) -> Operand
         Way::Stores => operand,
         Way::Loads => operand,
         Way::Computes => operand,
+        Way::Suffixes => operand,
         Way::Inserts => operand,
         Way::Shuffles => operand,
         Way::Masks => AT_EDI,
     }
+}
+
+// An instruction with a suffix that completes.
+fn completed(machine: Machine, entry: u32, instruction: Instruction, memory: &[u8]) -> Tracing
+    requires { ⌜ Registers (instruction .operand) × (Listed entry × ((entry / 2 ^ 24 ≡ 16) × Completes (effectIn entry instruction) (stateOf machine (now memory)))) ⌝ }
+    ensures { λ r. ⌜ paperOfFootprint r ≡ unmarkedFootprint (effectIn entry instruction) (stateOf machine (now (memory .entry))) ⌝ }
+{
+    let operand = instruction.operand;
+    match reaches::reach_operand(machine, entry, operand, memory) {
+        Reach::Inside(registers, places) => {
+            let way = ways::suffix_way(instruction.immediate);
+            Tracing::Traced(footprint_of_way(way, operand, registers, places))
+        }
+        Reach::Refused(refusal) => Tracing::Refused(refusal),
+    }
+}
+
+// An instruction with a suffix: its footprint is refused as its work is.
+fn suffixed(machine: Machine, entry: u32, instruction: Instruction, memory: &[u8]) -> Tracing
+    requires { ⌜ Registers (instruction .operand) × (Listed entry × (entry / 2 ^ 24 ≡ 16)) ⌝ }
+    ensures { λ r. ⌜ paperOfFootprint r ≡ unmarkedFootprint (effectIn entry instruction) (stateOf machine (now (memory .entry))) ⌝ }
+{
+    let mmx = machine.mmx;
+    let integers = machine.integers;
+    let work = gathering::suffixed(&mmx, &integers, entry, instruction, 0, memory);
+    let what = work.what;
+    if what == REFUSE {
+        return Tracing::Refused(work.number);
+    }
+    completed(machine, entry, instruction, memory)
 }
 
 // An instruction that the control marks let pass.
@@ -109,6 +143,9 @@ fn unmarked(machine: Machine, entry: u32, instruction: Instruction, memory: &[u8
     requires { ⌜ Registers (instruction .operand) × Listed entry ⌝ }
     ensures { λ r. ⌜ paperOfFootprint r ≡ unmarkedFootprint (effectIn entry instruction) (stateOf machine (now (memory .entry))) ⌝ }
 {
+    if entry / FORM == SUFFIXED {
+        return suffixed(machine, entry, instruction, memory);
+    }
     let operand = instruction.operand;
     let way = ways::way_of(entry / FORM);
     if ways::has_other(way) {

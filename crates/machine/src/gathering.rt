@@ -33,6 +33,7 @@ ghost use Rattle.machine.specs.inner.Picks.{pickedWork};
 ghost use Rattle.machine.specs.inner.Spots.{otherOf, spotOf};
 ghost use Rattle.machine.specs.inner.Ways.{hasOther, wayOf};
 ghost use Rattle.works.specs.Bars.{openTable};
+ghost use Rattle.works.specs.Siblings.{suffixedWork};
 ghost use Rattle.machine.specs.inner.Works.{stoppingBy, effectIn, Listed, putWork, takeWork, Does, Gathered};
 
 // The refusal of the control marks, or 0, where they stop the form of an entry; else 0.
@@ -119,6 +120,23 @@ fn with_immediate(
     )
 }
 
+// An instruction with a suffix: the operand's number is gathered as for a computation, and the suffix says what becomes of it.
+pub(crate) fn suffixed(
+    mmx: &[u64; 8],
+    integers: &[u32; 8],
+    entry: u32,
+    instruction: Instruction,
+    next: usize,
+    memory: &[u8],
+) -> Work
+    requires { ⌜ Registers (instruction .operand) × (Listed entry × (hasOther (wayOf (entry / 2 ^ 24)) ≡ true)) ⌝ }
+    ensures { λ r. ⌜ r ≡ suffixedWork (instruction .immediate) (getD (now (mmx .entry)) (instruction .operand .reg) 0) (takeWork (now (mmx .entry)) (now (integers .entry)) (now (memory .entry)) (entry % 256) (instruction .operand .reg) (spotOf (now (integers .entry)) (length (now (memory .entry))) (otherOf (entry / 2 ^ 24) (instruction .operand))) next) ⌝ }
+{
+    let operand = instruction.operand;
+    let work = computed(mmx, integers, entry, operand, next, memory);
+    works::suffixed(instruction.immediate, mmx[operand.reg as usize], work)
+}
+
 // An instruction that the control marks let pass.
 fn sorted(
     mmx: &[u64; 8],
@@ -158,6 +176,7 @@ fn sorted(
         }
         Way::Loads => computed(mmx, integers, entry, operand, next, memory),
         Way::Computes => computed(mmx, integers, entry, operand, next, memory),
+        Way::Suffixes => suffixed(mmx, integers, entry, instruction, next, memory),
         Way::Inserts => with_immediate(mmx, integers, entry, instruction, next, memory),
         Way::Shuffles => with_immediate(mmx, integers, entry, instruction, next, memory),
         Way::Masks => picking::masked(mmx, integers, operand, next, memory),

@@ -6,6 +6,7 @@ use crate::shifts;
 use codec::fields::MIDDLE;
 use codec::fields::UPPER;
 use codec::fields::VALUES;
+use codec::fields::is_suffix;
 use codec::forms::EMMS;
 use codec::forms::FORM;
 use codec::forms::LANE;
@@ -20,6 +21,7 @@ use codec::forms::SHIFT_Q;
 use codec::forms::SHIFT_WD;
 use codec::forms::STORE_D;
 use codec::forms::STORE_Q;
+use codec::forms::SUFFIXED;
 use codec::forms::TWO_OPERANDS;
 use codec::modes::REGISTER;
 use codec::prefixes::ESCAPE;
@@ -38,7 +40,7 @@ ghost use Rattle.codec.specs.Forms.{isAmong};
 ghost use Rattle.codec.specs.Table.{formOf};
 ghost use Rattle.codec.specs.Finding.{findWith};
 ghost use Rattle.machine.specs.inner.Pointers.{Unless};
-ghost use Rattle.machine.specs.inner.Quick.{Quick, QuickAfter, QuickAnywhere, QuickAnyhow, Within, AtAddress};
+ghost use Rattle.machine.specs.inner.Quick.{Quick, QuickAfter, QuickAnywhere, QuickAnyhow, Within, SuffixAt, SuffixInMemory, AtAddress};
 ghost use Rattle.works.specs.Works.{toOperate, toStore, toEmpty, toRefuse, workOf, refusedWork};
 
 // The bytes before the ModRM byte, and with it.
@@ -90,7 +92,65 @@ fn store(
     none()
 }
 
-// An MMX register and memory, by the form.
+// A byte as a suffix.
+fn suffix_of(byte: u8) -> u32
+    ensures { λ r. ⌜ r ≡ byte ⌝ }
+{
+    byte as u32
+}
+
+// The suffix at a position, with what the register held and the operand's number.
+fn suffixed(old: u64, register: usize, value: u64, code: &[u8], at: usize) -> Work
+    ensures { λ r. ⌜ Unless (r .what ≡ toRefuse) (SuffixAt r old register value (now (code .entry)) at) ⌝ }
+{
+    if code.len() <= at {
+        return none();
+    }
+    let suffix = suffix_of(code[at]);
+    if is_suffix(suffix) {
+        let work = work_of(OPERATE, 0, register, value, at + 1);
+        return works::suffixed(suffix, old, work);
+    }
+    none()
+}
+
+// The same, with an operand in memory.
+fn suffixed_in_memory(
+    old: u64,
+    register: usize,
+    address: usize,
+    code: &[u8],
+    at: usize,
+    memory: &[u8],
+) -> Work
+    ensures { λ r. ⌜ Unless (r .what ≡ toRefuse) (SuffixInMemory r old register (now (memory .entry)) address (now (code .entry)) at) ⌝ }
+{
+    if works::is_inside(memory.len(), address, QUADWORD as usize) {
+        let value = words::load(memory, address, QUADWORD as usize);
+        return suffixed(old, register, value, code, at);
+    }
+    none()
+}
+
+// An operation on an MMX register with memory.
+fn from_address(
+    mmx: &[u64; 8],
+    entry: u32,
+    register: usize,
+    address: usize,
+    next: usize,
+    memory: &[u8],
+) -> Work
+    requires { ⌜ 0x14000000 ≤ entry ⌝ }
+    ensures { λ r. ⌜ Unless (r .what ≡ toRefuse) (AtAddress r (now (mmx .entry)) (now (memory .entry)) entry register address next) ⌝ }
+{
+    if entry / FORM == LOW {
+        return load(entry, register, address, DOUBLEWORD, next, memory);
+    }
+    load(entry, register, address, QUADWORD, next, memory)
+}
+
+// A move between an MMX register and memory, by the form.
 fn at_address(
     mmx: &[u64; 8],
     entry: u32,
@@ -99,16 +159,10 @@ fn at_address(
     next: usize,
     memory: &[u8],
 ) -> Work
-    requires { ⌜ (register < 8) × (15 ≤ entry / 2 ^ 24) ⌝ }
+    requires { ⌜ (register < 8) × ((15 ≤ entry / 2 ^ 24) × ((entry / 2 ^ 24 ≡ 16 → ⊥) × (entry < 0x14000000))) ⌝ }
     ensures { λ r. ⌜ Unless (r .what ≡ toRefuse) (AtAddress r (now (mmx .entry)) (now (memory .entry)) entry register address next) ⌝ }
 {
     let form = entry / FORM;
-    if LOAD_Q <= form {
-        if form == LOW {
-            return load(entry, register, address, DOUBLEWORD, next, memory);
-        }
-        return load(entry, register, address, QUADWORD, next, memory);
-    }
     if form == STORE_D {
         return store(mmx, register, address, DOUBLEWORD, next, memory.len());
     }
@@ -199,6 +253,9 @@ fn moved(mmx: &[u64; 8], integers: &[u32; 8], entry: u32, modrm: u8, code: &[u8]
             at + 1,
         );
     }
+    if form == SUFFIXED {
+        return suffixed(mmx[register], register, mmx[other], code, at + 1);
+    }
     shifted(entry, modrm, code, at)
 }
 
@@ -248,7 +305,14 @@ fn in_memory(
         return none();
     }
     let register = (modrm / MIDDLE % VALUES) as usize;
-    at_address(mmx, entry, register, pointer.address as usize, next, memory)
+    let address = pointer.address as usize;
+    if FROM_MMX <= entry {
+        return from_address(mmx, entry, register, address, next, memory);
+    }
+    if entry / FORM == SUFFIXED {
+        return suffixed_in_memory(mmx[register], register, address, code, next, memory);
+    }
+    at_address(mmx, entry, register, address, next, memory)
 }
 
 // The entry of a second byte.

@@ -11,14 +11,18 @@ use codec::forms::SHUFFLE;
 use codec::forms::STORE_D;
 use codec::forms::STORE_Q;
 use codec::forms::STREAM;
+use codec::forms::SUFFIXED;
 use codec::forms::TOP_BITS;
 use codec::forms::TWO_OPERANDS;
+use codec::suffixes::PF2IW;
+use codec::suffixes::PI2FW;
+use codec::suffixes::PSWAPD;
 ghost use Rattle.basis.specs.Names.{_≡_, _<_};
-ghost use Rattle.machine.specs.inner.Ways.{isUnstopped, isInteger, hasOther, wayOf};
+ghost use Rattle.machine.specs.inner.Ways.{isUnstopped, isInteger, hasOther, wayOf, suffixWay};
 
 // The tag mark is set empty; nothing is touched; a register is shifted by an immediate; a part of an MMX register goes to an integer register; an MMX
-// register is stored in the operand of r/m, loaded from it, or computed with it; a word of it is inserted, or its words are shuffled; or an MMX
-// register is stored in memory at EDI under a mask.
+// register is stored in the operand of r/m, loaded from it, or computed with it, or a suffix says which; a word of it is inserted, or its words are
+// shuffled; or an MMX register is stored in memory at EDI under a mask.
 pub(crate) enum Way {
     Empties,
     Passes,
@@ -27,6 +31,7 @@ pub(crate) enum Way {
     Stores,
     Loads,
     Computes,
+    Suffixes,
     Inserts,
     Shuffles,
     Masks,
@@ -44,6 +49,7 @@ pub(crate) fn way_of(form: u32) -> Way
     match form {
         STORE_D | STORE_Q => Way::Stores,
         LOAD_D | LOAD_Q => Way::Loads,
+        SUFFIXED => Way::Suffixes,
         _ => Way::Computes,
     }
 }
@@ -74,6 +80,22 @@ fn odd_way(form: u32) -> Way
     Way::Passes
 }
 
+// The way that an instruction goes by its suffix: PF2IW, PI2FW and PSWAPD don't read their destination.
+pub(crate) fn suffix_way(suffix: u32) -> Way
+    ensures { λ r. ⌜ r ≡ suffixWay suffix ⌝ }
+{
+    if suffix == PF2IW {
+        return Way::Loads;
+    }
+    if suffix == PI2FW {
+        return Way::Loads;
+    }
+    if suffix == PSWAPD {
+        return Way::Loads;
+    }
+    Way::Computes
+}
+
 // Whether an operand may be in memory, and is touched.
 pub(crate) fn has_other(way: Way) -> bool
     ensures { λ r. ⌜ r ≡ hasOther way ⌝ }
@@ -86,6 +108,7 @@ pub(crate) fn has_other(way: Way) -> bool
         Way::Stores => true,
         Way::Loads => true,
         Way::Computes => true,
+        Way::Suffixes => true,
         Way::Inserts => true,
         Way::Shuffles => true,
         Way::Masks => true,

@@ -6,7 +6,7 @@ use Rattle.words.specs.Number.{number, bytes}
 use Rattle.words.specs.inner.Bytewise.{gets}
 use Rattle.words.proofs.Laws.{length-gets}
 use Rattle.reorder.specs.Result.{Result, done, refused, andThen, mapResult}
-use Rattle.reorder.specs.Plan.{Plan, looks, puts, perform}
+use Rattle.reorder.specs.Plan.{Plan, looks, puts, leaves, perform}
 use Rattle.codec.specs.declared.Kind.{Kind}
 use Rattle.codec.specs.declared.Kind.the-variants.{Ordinary}
 use Rattle.manual.specs.Refusals.{belowFloor}
@@ -15,11 +15,11 @@ use Rattle.manual.specs.Places.{Place, mmx, integer, byte, zeroMark, loo
 use Rattle.manual.specs.Kinds.{marked, heeded}
 use Rattle.manual.specs.Addresses.{Address, address}
 use Rattle.manual.specs.Locations.{Location, mmxRegister, integerRegister, memory, zeroOperand, bytesFrom, liesInside, missOf, placesOf}
-use Rattle.manual.specs.Effects.{Effect, placeCount, valueIn, contentsOf, unlessMarked, planOn, guarded, placedAbove, perform as performs}
+use Rattle.manual.specs.Effects.{Effect, placeCount, valueIn, contentsOf, contentsOfAll, unlessMarked, planOn, guarded, placedAbove, perform as performs}
 use Rattle.manual.specs.inner.Unmarked.{directly}
 use Rattle.manual.proofs.Marking.{past-marks}
 use Rattle.manual.proofs.Floors.{past-test}
-use Rattle.manual.proofs.Shapes.{both, move, three}
+use Rattle.manual.proofs.Shapes.{both, bothOr, move, moveOr, three, bare}
 
 -- the places of a list of one operand
 abbrev pub one : Result (List Place) → Result (List Place)
@@ -138,6 +138,41 @@ module _ (floor : ℕ) (s : State) where
       → directly floor (both f (mmxRegister r) x) s ≡ andThen (valueAt s x) (λ v. putAt s floor (mmxRegister r) (f (getD (s .mmx) r 0) v))
   unfolding opened
   both-direct f r x = operates f r x (valueAt s x) (placesOf s x) (taken s x)
+
+  -- a register made from the source alone, or from both, where there may be no such number
+  abbrev register : ℕ → ℕ → Result State
+  register r value = putAt s floor (mmxRegister r) value
+
+  put-result : (r : ℕ) (o : Result ℕ)
+      → mapResult (leaves put marked (planOn (bare Ordinary) [] (mmx r ∷ [])) s) (mapResult (contentsOfAll (mmxRegister r ∷ [])) (mapResult (λ x. x ∷ []) o)) ≡ andThen o (register r)
+  put-result r (done x) = refl
+  put-result r (refused n) = refl
+
+  moves-or : (f : ℕ → Result ℕ) (r : ℕ) (x : Location) (u : Result ℕ) (ps : Result (List Place)) → Taken s x u ps
+      → opened (moveOr f (mmxRegister r) x) (one ps) (done (mmx r ∷ [])) ≡ andThen u (λ v. andThen (f v) (register r))
+  unfolding opened
+  moves-or f r x (done v) (done ps) t = put-result r (f (valueIn x (take (placeCount x) (looks look s (ps ++ []))))) ∙ ap (λ (y : ℕ). andThen (f y) (register r)) t
+  moves-or f r x (refused n) (refused n′) t = ap refused (sym t)
+  moves-or f r x (done v) (refused n) t = absurd t
+  moves-or f r x (refused n) (done ps) t = absurd t
+
+  pub move-or-direct : (f : ℕ → Result ℕ) (r : ℕ) (x : Location) → directly floor (moveOr f (mmxRegister r) x) s ≡ andThen (valueAt s x) (λ v. andThen (f v) (register r))
+  unfolding opened
+  move-or-direct f r x = moves-or f r x (valueAt s x) (placesOf s x) (taken s x)
+
+  operates-or : (f : ℕ → ℕ → Result ℕ) (r : ℕ) (x : Location) (u : Result ℕ) (ps : Result (List Place)) → Taken s x u ps
+      → opened (bothOr f (mmxRegister r) x) (mapResult (λ qs. mmx r ∷ qs) (one ps)) (done (mmx r ∷ [])) ≡ andThen u (λ v. andThen (f (getD (s .mmx) r 0) v) (register r))
+  unfolding opened
+  operates-or f r x (done v) (done ps) t =
+      put-result r (f (getD (s .mmx) r 0) (valueIn x (take (placeCount x) (looks look s (ps ++ []))))) ∙ ap (λ (y : ℕ). andThen (f (getD (s .mmx) r 0) y) (register r)) t
+  operates-or f r x (refused n) (refused n′) t = ap refused (sym t)
+  operates-or f r x (done v) (refused n) t = absurd t
+  operates-or f r x (refused n) (done ps) t = absurd t
+
+  pub both-or-direct : (f : ℕ → ℕ → Result ℕ) (r : ℕ) (x : Location)
+      → directly floor (bothOr f (mmxRegister r) x) s ≡ andThen (valueAt s x) (λ v. andThen (f (getD (s .mmx) r 0) v) (register r))
+  unfolding opened
+  both-or-direct f r x = operates-or f r x (valueAt s x) (placesOf s x) (taken s x)
 
   -- eight bytes made from themselves and two registers
   pub three-direct : (f : ℕ → ℕ → ℕ → ℕ) (a : Address) (j k : ℕ) → let x = memory a 8 in

@@ -72,9 +72,19 @@ module _ (s : State) where
     suffix-decides : (suffix : ℕ) → SuffixDecides (suffixedOf suffix)
     unfolding suffixedOf
     suffix-decides suffix =
-        found-each (λ x. x) maximum SuffixDecides (λ x. eqb suffix (x .suffix)) (both-read PFMAX _ _ refl refl) siblings
-        (λ e. one-read PF2IW _ refl refl, (λ e. unread PI2FW _ _ _ refl refl, (λ e. unread PSWAPD _ _ _ refl refl, (λ e. unread PAVGUSB _ _ _ refl refl,
-        (λ e. both-read PFCMPGT _ _ refl refl, (λ e. both-read PFMAX _ _ refl refl, tt))))))
+        found-each (λ x. x) maximum SuffixDecides (λ x. eqb suffix (x .suffix)) (both-read PFMAX _ _ refl refl) siblings (
+          λ e. one-read PF2IW _ refl refl,
+          (
+            λ e. unread PI2FW _ _ _ refl refl,
+            (
+              λ e. unread PSWAPD _ _ _ refl refl,
+              (
+                λ e. unread PAVGUSB _ _ _ refl refl,
+                (λ e. both-read PFCMPGT _ _ refl refl, (λ e. both-read PFMAX _ _ refl refl, tt)),
+              ),
+            ),
+          ),
+        )
 
     -- what it computes of its operands' numbers, by whether it has a suffix
     abbrev form : Form

@@ -1,6 +1,6 @@
 -- The footprint says what a step uses: the step goes by what its footprint reads alone, and so does where it goes on; and it changes what it writes
 -- alone. For both are made from one plan.
-use Rattle.basis.specs.Names.{_≡_, refl, Bool, true, false, cond, not, _&&_, _||_, List, [], _∷_, List·Memᴰ as In, ℕ, _+_, eqb, leb, ltb, length, getD, drop}
+use Rattle.basis.specs.Names.{_≡_, refl, Bool, true, false, cond, _&&_, _||_, List, [], _∷_, List·Memᴰ as In, ℕ, _+_, eqb, leb, ltb, length, getD, drop}
 use Rattle.basis.proofs.Names.{sym, ap, ap₂, _∙_, subst, subst₂, false≢true, or-false, List·Memᴰ·head as here, eqb-true}
 use Rattle.words.proofs.Laws.{and-both}
 use Rattle.reorder.specs.Result.{Result, done, refused, caseOf, andThen, mapResult, provided}
@@ -10,12 +10,12 @@ use Rattle.reorder.specs.Run.{Fetched}
 use Rattle.reorder.proofs.Results.{provided-done}
 use Rattle.reorder.proofs.Swapping.{completed as planned}
 use Rattle.reorder.proofs.Honest.{Alike, asked-reads, honest, untouched}
-use Rattle.codec.specs.Forms.{absent, isAmong, hasSuffix, reg32←imm32, reg32·imm8/0, reg32·alone, rel8off}
+use Rattle.codec.specs.Forms.{absent, isAmong, reg32←imm32, reg32·imm8/0, reg32·alone, rel8off}
 use Rattle.codec.specs.Contents.{Line, lines}
-use Rattle.codec.specs.Opcodes.{escape, formAt, usedForm, formOfFirst, formFor, operationFor}
+use Rattle.codec.specs.Opcodes.{escape, formAt, formOfFirst, formFor, operationFor}
 use Rattle.codec.specs.declared.Instruction.{Instruction}
 use Rattle.codec.specs.inner.Entries.{isOrdinary}
-use Rattle.codec.proofs.Bytes.{found-has, opcode-passes, used-passes, among}
+use Rattle.codec.proofs.Bytes.{found-has, opcode-passes, ordinary, ordinarySuffix, used-kind, among}
 use Rattle.codec.specs.declared.Kind.{Kind}
 use Rattle.codec.specs.declared.Kind.the-variants.{Ordinary, Emms, Silent, Loop}
 use Rattle.codec.specs.Reads.{readAt}
@@ -155,12 +155,6 @@ isLoopByte first =
 abbrev pub kindAt : ℕ → ℕ → Kind
 kindAt first second = cond (isEmms first second) Emms (cond (isSilent first second) Silent (cond (isLoopByte first) Loop Ordinary))
 
-ordinary : (k : Kind) → isOrdinary k ≡ true → k ≡ Ordinary
-ordinary Ordinary h = refl
-ordinary Emms h = absurd (false≢true h)
-ordinary Silent h = absurd (false≢true h)
-ordinary Loop h = absurd (false≢true h)
-
 -- which the list says too: 77 has the kind of EMMS, 18 and AE that of what touches nothing, and no other second byte has another than the usual kind
 byte-kind : (second : ℕ) → formAt second .kind ≡ cond (eqb second 0x77) Emms (cond (isAmong second silentBytes) Silent Ordinary)
 unfolding formAt
@@ -179,20 +173,11 @@ byte-kind second = by (eqb second 0x77) (isAmong second silentBytes) refl refl
             let same : x .second ≡ second = sym (eqb-true second (x .second) g) in
             ordinary (x .form .kind) (sym (or-false (isOrdinary (x .form .kind))) ∙ (simp (e, f) at (rw same at h)))
 
--- a suffix has the usual kind, as its opcode bytes have
-used-kind : (first second immediate : ℕ) → usedForm (formFor first second) immediate .kind ≡ formFor first second .kind
-used-kind first second immediate = by (hasSuffix (formFor first second)) refl (opcode-passes (λ f. not (hasSuffix f) || isOrdinary (f .kind)) refl refl refl first second)
-  where
-    by : (t : Bool) → hasSuffix (formFor first second) ≡ t → (not t || isOrdinary (formFor first second .kind)) ≡ true
-        → usedForm (formFor first second) immediate .kind ≡ formFor first second .kind
-    by true e h =
-        ordinary _ (used-passes (λ f. isOrdinary (f .kind)) refl refl (formFor first second) immediate h) ∙ sym (ordinary _ h)
-    by false e h = simp e
-
 -- an instruction has the kind of its opcode bytes
 kind-exactly : (i : Instruction) → effectOf i .kind ≡ kindAt (i .first) (i .second)
 unfolding effectOf formOfFirst
-kind-exactly i = used-kind (i .first) (i .second) (i .immediate) ∙ by (eqb (i .first) escape) refl
+kind-exactly i =
+    used-kind (formFor (i .first) (i .second)) (i .immediate) (opcode-passes ordinarySuffix refl refl refl (i .first) (i .second)) ∙ by (eqb (i .first) escape) refl
   where
     n : ℕ
     n = i .first

@@ -25,6 +25,8 @@ use Rattle.works.proofs.misses.miss_of.Reads as miss-of-reads
 use Rattle.works.proofs.misses.miss_of.Kinds as miss-of-kinds
 use Rattle.works.proofs.performing.perform.Reads as perform-reads
 use Rattle.works.proofs.performing.perform.Kinds as perform-kinds
+use Rattle.works.proofs.siblings.suffixed.Reads as suffixed-reads
+use Rattle.works.proofs.siblings.suffixed.Kinds as suffixed-kinds
 use Rattle.works.proofs.signs.extended.Reads as extended-reads
 use Rattle.works.proofs.signs.extended.Kinds as extended-kinds
 
@@ -76,6 +78,11 @@ pub perform-one : (κs : Lfts 3) (a : Dens κs perform-kinds.ps) (r₁ r₂ : re
 perform-one κs a r₁ r₂ s₁ s₂ p q =
     let same = p ∙ sym q in
     (ap (λ (x : Left). x .moved) same, (ap (λ (x : Left). x .mmx) same, (ap (λ (x : Left). x .integers) same, ap (λ (x : Left). x .memory) same)))
+
+pub suffixed-one : (κs : Lfts 0) (a : Dens κs suffixed-kinds.ps) (r₁ r₂ : resT suffixed-kinds.r κs .Denot)
+    (s₁ s₂ : AtExit (endedOf 0 suffixed-kinds.ps suffixed-kinds.r) κs)
+    → suffixed-reads.Post κs a r₁ s₁ → suffixed-reads.Post κs a r₂ s₂ → r₁ ≡ r₂
+suffixed-one κs a r₁ r₂ s₁ s₂ p q = p ∙ sym q
 
 pub extended-one : (κs : Lfts 0) (a : Dens κs extended-kinds.ps) (r₁ r₂ : resT extended-kinds.r κs .Denot)
     (s₁ s₂ : AtExit (endedOf 0 extended-kinds.ps extended-kinds.r) κs)

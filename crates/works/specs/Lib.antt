@@ -2,3 +2,4 @@
 pub mod Bars
 pub mod Jumps
 pub mod Works
+pub mod Siblings

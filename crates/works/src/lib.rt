@@ -1,10 +1,12 @@
-// What remains to be done of an instruction, as plain numbers, and what does it; its tests, where a jump leads, and the refusal of a miss.
+// What remains to be done of an instruction, as plain numbers, and what does it; its tests, where a jump leads, the refusal of a miss, and what is left
+// to do by a suffix.
 mod bars;
 mod inside;
 mod jumps;
 mod misses;
 mod performing;
 pub mod refusals;
+mod siblings;
 mod signs;
 
 pub use bars::barred;
@@ -15,6 +17,7 @@ pub use jumps::target_of;
 pub use misses::miss_of;
 pub use performing::Moved;
 pub use performing::perform;
+pub use siblings::suffixed;
 pub use signs::extended;
 ghost use Rattle.basis.specs.Names.{_≡_};
 ghost use Rattle.works.specs.Works.{workOf, refusedWork};

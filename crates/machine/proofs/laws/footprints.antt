@@ -2,5 +2,6 @@
 pub mod Registers
 pub mod Reaching
 pub mod ByWay
+pub mod Suffixing
 pub mod Forms
 pub mod Tests

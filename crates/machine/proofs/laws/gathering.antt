@@ -4,4 +4,5 @@ pub mod Testing
 pub mod Soundness
 pub mod Listing
 pub mod Sorting
+pub mod Suffixing
 pub mod Fetching

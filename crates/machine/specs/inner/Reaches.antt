@@ -1,5 +1,5 @@
 -- The footprint as the program makes it, in masks and ranges: first where an operand is, then what each way reads and writes.
-use Rattle.basis.specs.Names.{false, cond, List, [], ℕ, _^_, bitOr, eqb}
+use Rattle.basis.specs.Names.{_≡_, false, cond, List, [], ℕ, _^_, bitOr, eqb}
 use Rattle.reorder.specs.Result.{Result, done, refused, mapResult}
 use Rattle.reorder.specs.Footprint.{footprintIn}
 use Rattle.codec.specs.declared.Kind.the-variants.{Ordinary, Emms, Silent}
@@ -9,12 +9,13 @@ use Rattle.manual.specs.Places.{Place, look}
 use Rattle.manual.specs.Addresses.{addressOf, addressRegisters}
 use Rattle.manual.specs.Locations.{Location, registersBehind}
 use Rattle.manual.specs.Effects.{Effect, placed, via}
+use Rattle.manual.specs.inner.Unmarked.{directly}
 use Rattle.machine.specs.declared.Places.{Places}
 use Rattle.machine.specs.declared.Footprint.{Footprint}
 use Rattle.machine.specs.declared.reaches.Reach.{Reach}
 use Rattle.machine.specs.declared.reaches.Reach.the-variants.{Inside, Refused}
 use Rattle.machine.specs.declared.ways.Way.{Way}
-use Rattle.machine.specs.declared.ways.Way.the-variants.{Empties, Passes, Shifts, Extracts, Stores, Loads, Computes, Inserts, Shuffles, Masks}
+use Rattle.machine.specs.declared.ways.Way.the-variants.{Empties, Passes, Shifts, Extracts, Stores, Loads, Computes, Suffixes, Inserts, Shuffles, Masks}
 use Rattle.machine.specs.Footprints.{mask, setOf, masked}
 
 abbrev pub nowhere : Places
@@ -60,11 +61,13 @@ pointedBy Extracts w = w
 pointedBy Stores w = w
 pointedBy Loads w = w
 pointedBy Computes w = w
+pointedBy Suffixes w = w
 pointedBy Inserts w = w
 pointedBy Shuffles w = w
 pointedBy Masks w = ediOperand
 
--- what each way reads and writes, and the operand that may be in memory has these address registers and places
+-- what each way reads and writes, and the operand that may be in memory has these address registers and places (with a suffix an instruction goes on
+-- as one that loads or computes; computing reads more)
 abbrev pub footprintOfWay : Way → Operand → ℕ → Places → Footprint
 footprintOfWay Empties w registers p = record { reads = nowhere; writes = nowhere; kind = Emms }
 footprintOfWay Passes w registers p = record { reads = nowhere; writes = nowhere; kind = Silent }
@@ -73,6 +76,7 @@ footprintOfWay Shifts w registers p = ordinaryFootprint 0 (beside (w .rm) nowher
 footprintOfWay Stores w registers p = ordinaryFootprint registers (beside (w .reg) nowhere) p
 footprintOfWay Loads w registers p = ordinaryFootprint registers p (beside (w .reg) nowhere)
 footprintOfWay Computes w registers p = ordinaryFootprint registers (beside (w .reg) p) (beside (w .reg) nowhere)
+footprintOfWay Suffixes w registers p = ordinaryFootprint registers (beside (w .reg) p) (beside (w .reg) nowhere)
 footprintOfWay Inserts w registers p = ordinaryFootprint registers (beside (w .reg) p) (beside (w .reg) nowhere)
 footprintOfWay Shuffles w registers p = ordinaryFootprint registers p (beside (w .reg) nowhere)
 footprintOfWay Masks w registers p = ordinaryFootprint registers (beside (w .reg) (beside (w .rm) p)) p
@@ -81,3 +85,8 @@ footprintOfWay Masks w registers p = ordinaryFootprint registers (beside (w .reg
 unfoldable pub unmarkedFootprint : Effect → State → Result Footprint
 unmarkedFootprint e s =
     mapResult masked (footprintIn look (via e) s (placed e s))
+
+-- an effect that no control mark stops completes
+pub record Completes (e : Effect) (s : State) : Type 0 where
+  pub leaves : State
+  pub is : directly 0 e s ≡ done leaves

@@ -49,7 +49,7 @@ effectIn entry i = effectBy (formOf (entry / 2 ^ 24)) (operationIn entry (i .ope
 abbrev owners : List (ℕ × Operation)
 owners =
     (4, PINSRW) ∷ (5, PSHUFW) ∷ (6, PEXTRW) ∷ (7, PMOVMSKB) ∷ (8, MASKMOVQ)
-    ∷ (15, MOVE) ∷ (16, MOVE) ∷ (17, MOVE) ∷ (18, MOVE) ∷ (19, MOVE) ∷ []
+    ∷ (15, MOVE) ∷ (17, MOVE) ∷ (18, MOVE) ∷ (19, MOVE) ∷ (20, MOVE) ∷ []
 
 -- the number of that operation
 abbrev pub owned : ℕ → Option ℕ

@@ -10,4 +10,4 @@ pointed-spec =
     (λ c. search pointing) (λ c. search pointing) (λ c. search pointing) (λ c. search pointing) (λ c. search pointing) (λ c. search pointing)
     (λ c. search pointing) (λ c. search pointing) (λ c. search pointing) (λ c. search pointing) (λ c. search pointing) (λ c. search pointing)
     (λ c. search pointing) (λ c. search pointing) (λ c. search pointing) (λ c. search pointing) (λ c. search pointing) (λ c. search pointing)
-    (λ c. search pointing) (λ c. search pointing))
+    (λ c. search pointing) (λ c. search pointing) (λ c. search pointing) (λ c. search pointing))

@@ -1,5 +1,5 @@
 -- `gathering::sorted` meets its contract: each way has its work, wherever its operand is.
-use Rattle.machine.proofs.laws.gathering.Sorting.{sorting}
+use Rattle.machine.proofs.laws.gathering.Suffixing.{sorting}
 use Rattle.machine.proofs.gathering.sorted.Statement.{statement}
 use Rattle.machine.proofs.gathering.sorted.Tie as tie
 
@@ -12,5 +12,6 @@ sorted-spec =
     (λ c. search sorting) (λ c. search sorting) (λ c. search sorting) (λ c κs. search sorting) (λ c. search sorting) (λ c κs. search sorting)
     (λ c. search sorting) (λ c. search sorting) (λ c. search sorting) (λ c κs. search sorting) (λ c. search sorting) (λ c κs. search sorting)
     (λ c. search sorting) (λ c κs. search sorting) (λ c. search sorting) (λ c κs. search sorting) (λ c. search sorting) (λ c κs. search sorting)
-    (λ c. search sorting) (λ c κs. search sorting) (λ c. search sorting) (λ c. search sorting) (λ c. search sorting) (λ c. search sorting)
-    (λ c. search sorting) (λ c. search sorting) (λ c. search sorting) (λ c. search sorting) (λ c. search sorting) (λ c. search sorting))
+    (λ c. search sorting) (λ c κs. search sorting) (λ c. search sorting) (λ c κs. search sorting) (λ c. search sorting) (λ c. search sorting)
+    (λ c. search sorting) (λ c. search sorting) (λ c. search sorting) (λ c. search sorting) (λ c. search sorting) (λ c. search sorting)
+    (λ c. search sorting) (λ c. search sorting) (λ c. search sorting))

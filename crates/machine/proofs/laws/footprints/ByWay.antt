@@ -18,7 +18,7 @@ use Rattle.machine.specs.declared.Footprint.{Footprint}
 use Rattle.machine.specs.declared.reaches.Reach.{Reach}
 use Rattle.machine.specs.declared.reaches.Reach.the-variants.{Inside, Refused}
 use Rattle.machine.specs.declared.ways.Way.{Way}
-use Rattle.machine.specs.declared.ways.Way.the-variants.{Empties, Passes, Shifts, Extracts, Stores, Loads, Computes, Inserts, Shuffles, Masks}
+use Rattle.machine.specs.declared.ways.Way.the-variants.{Empties, Passes, Shifts, Extracts, Stores, Loads, Computes, Suffixes, Inserts, Shuffles, Masks}
 use Rattle.machine.specs.Footprints.{mask, setOf, masked}
 use Rattle.machine.specs.inner.Reaches.{nowhere, integerAlone, beside, through, reachOf, ordinaryFootprint, footprintOfWay}
 use Rattle.machine.proofs.laws.meetings.Masks.{or-assoc}
@@ -91,10 +91,13 @@ module _ (y : Way) (w : Operand) (m : ℕ) (p : Places) where
       pub made-computes : (both : Places) → y ≡ Computes → both ≡ beside (w .reg) p → r ≡ ordinaryFootprint m both own → r ≡ footprintOfWay y w m p
       made-computes both e g h = made-by Computes e (simp (f, g) at h)
 
+      pub made-suffixes : (both : Places) → y ≡ Suffixes → both ≡ beside (w .reg) p → r ≡ ordinaryFootprint m both own → r ≡ footprintOfWay y w m p
+      made-suffixes both e g h = made-by Suffixes e (simp (f, g) at h)
+
       pub made-inserts : (both : Places) → y ≡ Inserts → both ≡ beside (w .reg) p → r ≡ ordinaryFootprint m both own → r ≡ footprintOfWay y w m p
       made-inserts both e g h = made-by Inserts e (simp (f, g) at h)
 
       pub made-shuffles : y ≡ Shuffles → r ≡ ordinaryFootprint m p own → r ≡ footprintOfWay y w m p
       made-shuffles e h = made-by Shuffles e (simp f at h)
 
-pub ruleset footprint-rules = (needs, made-empties, made-passes, made-shifts, made-extracts, made-stores, made-loads, made-computes, made-inserts, made-shuffles, made-masks)
+pub ruleset footprint-rules = (needs, made-empties, made-passes, made-shifts, made-extracts, made-stores, made-loads, made-computes, made-suffixes, made-inserts, made-shuffles, made-masks)

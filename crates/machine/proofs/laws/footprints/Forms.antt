@@ -19,12 +19,12 @@ use Rattle.machine.specs.declared.Footprint.{Footprint}
 use Rattle.machine.specs.declared.reaches.Reach.{Reach}
 use Rattle.machine.specs.declared.reaches.Reach.the-variants.{Inside, Refused}
 use Rattle.machine.specs.declared.ways.Way.{Way}
-use Rattle.machine.specs.declared.ways.Way.the-variants.{Empties, Passes, Shifts, Extracts, Stores, Loads, Computes, Inserts, Shuffles, Masks}
+use Rattle.machine.specs.declared.ways.Way.the-variants.{Empties, Passes, Shifts, Extracts, Stores, Loads, Computes, Suffixes, Inserts, Shuffles, Masks}
 use Rattle.machine.specs.inner.Reaches.{nowhere, reachOf, ediOperand, pointedBy, footprintOfWay, unmarkedFootprint}
 use Rattle.machine.specs.inner.Spots.{fileIn, otherOf}
 use Rattle.machine.specs.inner.Ways.{wayOf, hasOther}
 use Rattle.machine.specs.inner.Works.{effectIn, Listed}
-use Rattle.machine.proofs.laws.ways.Numbering.{HasWay, empties, passes-fence, passes-prefetch, shifts-WD, shifts-Q, extracts-word, extracts-bits, inserts, shuffles, masks, streams, stores, loads, computes, goes, two-tested}
+use Rattle.machine.proofs.laws.ways.Numbering.{HasWay, empties, passes-fence, passes-prefetch, shifts-WD, shifts-Q, extracts-word, extracts-bits, inserts, shuffles, masks, suffixes, streams, stores, loads, computes, goes, two-tested}
 use Rattle.machine.proofs.laws.footprints.ByWay.{tracedAs, store-footprint, load-footprint, compute-footprint, mask-footprint}
 
 module _ (s : State) (entry : ℕ) (i : Instruction) where
@@ -41,37 +41,38 @@ module _ (s : State) (entry : ℕ) (i : Instruction) where
   abbrev copied : ℕ → ℕ
   copied v = operate named v v
 
-  footprints : (y : Way) (f : Form) → HasWay form y f → unmarkedFootprint (effectBy f named i) s
+  footprints : (form ≡ 16 → ⊥) → (y : Way) (f : Form) → HasWay form y f → unmarkedFootprint (effectBy f named i) s
       ≡ tracedAs (footprintOfWay y (i .operand)) (cond (hasOther y) (reachOf (other y f) (placesOf s (other y f))) (Inside 0 nowhere))
   unfolding unmarkedFootprint rmOf addressOf hasSib baseOf displacementOf
-  footprints y f empties = refl
-  footprints y f passes-fence = refl
-  footprints y f passes-prefetch = refl
-  footprints y f shifts-WD = refl
-  footprints y f shifts-Q = refl
-  footprints y f (extracts-word e) = simp or-zero-r
-  footprints y f (extracts-bits e) = simp or-zero-r
-  footprints y f (inserts e x) = compute-footprint s (i .operand) (other y f) (λ old v. operateThree named old v (i .immediate)) (placesOf s (other y f))
-  footprints y f (shuffles e x) = load-footprint s (i .operand) (other y f) (λ v. operate named v (i .immediate)) (placesOf s (other y f))
-  footprints y f (masks e x) =
+  footprints plain y f empties = refl
+  footprints plain y f passes-fence = refl
+  footprints plain y f passes-prefetch = refl
+  footprints plain y f shifts-WD = refl
+  footprints plain y f shifts-Q = refl
+  footprints plain y f (extracts-word e) = simp or-zero-r
+  footprints plain y f (extracts-bits e) = simp or-zero-r
+  footprints plain y f (inserts e x) = compute-footprint s (i .operand) (other y f) (λ old v. operateThree named old v (i .immediate)) (placesOf s (other y f))
+  footprints plain y f (shuffles e x) = load-footprint s (i .operand) (other y f) (λ v. operate named v (i .immediate)) (placesOf s (other y f))
+  footprints plain y f (masks e x) =
       let a = address (s .integers) atEdi in
       mask-footprint s (i .operand) (operateThree named) (liesInside (length (s .memory)) 8 a) a
-  footprints y f (streams moves x) = store-footprint s (i .operand) (other y f) copied (placesOf s (other y f))
-  footprints y f (stores file size moves x) = store-footprint s (i .operand) (other y f) (λ v. keptBy (rm/mem file size) (copied v)) (placesOf s (other y f))
-  footprints y f (loads file size moves x) = load-footprint s (i .operand) (other y f) copied (placesOf s (other y f))
-  footprints y f (computes file size x) = compute-footprint s (i .operand) (other y f) (operate named) (placesOf s (other y f))
+  footprints plain y f (suffixes e x) = absurd (plain e)
+  footprints plain y f (streams moves x) = store-footprint s (i .operand) (other y f) copied (placesOf s (other y f))
+  footprints plain y f (stores file size moves x) = store-footprint s (i .operand) (other y f) (λ v. keptBy (rm/mem file size) (copied v)) (placesOf s (other y f))
+  footprints plain y f (loads file size moves x) = load-footprint s (i .operand) (other y f) copied (placesOf s (other y f))
+  footprints plain y f (computes file size x) = compute-footprint s (i .operand) (other y f) (operate named) (placesOf s (other y f))
 
-  module _ (l : Listed entry) (y : Way) (way : y ≡ wayOf form) (t : Bool) (test : t ≡ hasOther y) where
+  module _ (l : Listed entry) (plain : form ≡ 16 → ⊥) (y : Way) (way : y ≡ wayOf form) (t : Bool) (test : t ≡ hasOther y) where
     pub traced-few : (f : Footprint) → t ≡ false → f ≡ footprintOfWay y (i .operand) 0 nowhere → done f ≡ unmarkedFootprint (effectIn entry i) s
-    traced-few f few e = simp (footprints y (formOf form) (goes entry l y y way refl), ← test, few, e)
+    traced-few f few e = simp (footprints plain y (formOf form) (goes entry l y y way refl), ← test, few, e)
 
     module _ (two : t ≡ true) (p : Operand) (pointed : p ≡ pointedBy y (i .operand)) (r : Reach)
         (reached : r ≡ reachOf (otherOf form p) (placesOf s (otherOf form p))) where
       pub traced-inside : (f : Footprint) (m : ℕ) (q : Places) → r ≡ Inside m q → f ≡ footprintOfWay y (i .operand) m q → done f ≡ unmarkedFootprint (effectIn entry i) s
-      traced-inside f m q inside e = simp (footprints y (formOf form) (goes entry l y y way refl), ← test, two, ← pointed, ← reached, inside, e)
+      traced-inside f m q inside e = simp (footprints plain y (formOf form) (goes entry l y y way refl), ← test, two, ← pointed, ← reached, inside, e)
 
       pub traced-outside : (n : ℕ) → r ≡ Refused n → refused n ≡ unmarkedFootprint (effectIn entry i) s
-      traced-outside n e = simp (footprints y (formOf form) (goes entry l y y way refl), ← test, two, ← pointed, ← reached, e)
+      traced-outside n e = simp (footprints plain y (formOf form) (goes entry l y y way refl), ← test, two, ← pointed, ← reached, e)
 
 -- the operand that may be in memory
 module _ (y : Way) (w : Operand) where
@@ -92,6 +93,7 @@ module _ (y : Way) (w : Operand) where
       by Stores = r
       by Loads = r
       by Computes = r
+      by Suffixes = r
       by Inserts = r
       by Shuffles = r
       by Masks = edi

@@ -102,7 +102,7 @@ module _ (code : List ℕ) (at : ℕ) (machine : Machine) (memory : List ℕ) wh
         -- the number of the marks that stop it, or 0, where its first byte is 0F
         module _ (escaped : x .instruction .first ≡ escape) (bar stop : ℕ) (found : bar ≡ barredBy (machine .marks)) (stopping : stop ≡ stoppingBy bar (x .entry / 2 ^ 24)) where
           stops-it : stop ≡ barredBy (heeded (effectIn (x .entry) (x .instruction) .kind) (machine .marks))
-          stops-it = stopping ∙ ap (λ (k : ℕ). stoppingBy k (x .entry / 2 ^ 24)) found ∙ sym (stopped-by (x .entry / 2 ^ 24) (machine .marks))
+          stops-it = stopping ∙ ap (λ (k : ℕ). stoppingBy k (x .entry / 2 ^ 24)) found ∙ sym (stopped-by (x .entry / 2 ^ 24) (machine .marks) (x .instruction .immediate))
 
           traced-behind : maskedAt code at here ≡ unlessMarked (heeded (effectIn (x .entry) (x .instruction) .kind) (machine .marks)) answered
           traced-behind =

@@ -4,7 +4,8 @@ use Rattle.basis.specs.Names.{_≡_, refl, Bool, false, cond, List, ℕ, _+_, _
 use Rattle.basis.proofs.Names.{sym, ap, subst, _∙_, arith, needs, eq-eqb, ne-eqb, le-ltb}
 use Rattle.reorder.specs.Result.{Result, done, caseOf}
 use Rattle.codec.specs.Forms.{isAbsent}
-use Rattle.codec.specs.Opcodes.{escape, formAt, formOfFirst}
+use Rattle.codec.specs.Opcodes.{escape, formAt, formOfFirst, formFor}
+use Rattle.codec.proofs.Bytes.{opcode-passes, ordinarySuffix, used-kind}
 use Rattle.codec.specs.inner.Fields.{Registers}
 use Rattle.codec.specs.Table.{entryOfFirst, opcodeTable}
 use Rattle.codec.specs.Reads.{longestCode, readPart}
@@ -90,7 +91,9 @@ module _ (table code : List ℕ) (at : ℕ) (x : Found) (ours : table ≡ opcode
       ∙ found-known (λ y. (y .instruction .first ≡ escape → ⊥) → effectOf (y .instruction) .kind ≡ Loop) (λ i n g other. of i (other-known i g other) other) passed h
     where
       of : (i : Instruction) → isAbsent (formOfFirst (i .first)) ≡ false → (i .first ≡ escape → ⊥) → effectOf i .kind ≡ Loop
-      of i there other = ap (λ (t : Bool). cond t (formAt (i .second)) (formOfFirst (i .first)) .kind) (ne-eqb (i .first) escape other) ∙ loop-kind (i .first) there
+      of i there other =
+          used-kind (formFor (i .first) (i .second)) (i .immediate) (opcode-passes ordinarySuffix refl refl refl (i .first) (i .second))
+          ∙ ap (λ (t : Bool). cond t (formAt (i .second)) (formOfFirst (i .first)) .kind) (ne-eqb (i .first) escape other) ∙ loop-kind (i .first) there
 
   -- within the limits
   module _ (floor : ℕ) (s : State) (code-fits : length code ≤ longestCode) (memory-fits : length (s .memory) ≤ longestMemory) (floor-fits : floor ≤ length (s .memory)) where
@@ -167,7 +170,7 @@ module _ (table code : List ℕ) (at : ℕ) (x : Found) (ours : table ≡ opcode
     module _ (passed : x .refusal ≡ 0) (escaped : x .instruction .first ≡ escape) (stop : ℕ) (stopping : stop ≡ stoppingBy bar (x .entry / 2 ^ 24)) where
       -- the number of the marks that stop it
       stops-it : (marks : Marks) → bar ≡ barredBy marks → stop ≡ barredBy (heeded (effectIn (x .entry) (x .instruction) .kind) marks)
-      stops-it marks b = stopping ∙ ap (λ (k : ℕ). stoppingBy k (x .entry / 2 ^ 24)) b ∙ sym (stopped-by (x .entry / 2 ^ 24) marks)
+      stops-it marks b = stopping ∙ ap (λ (k : ℕ). stoppingBy k (x .entry / 2 ^ 24)) b ∙ sym (stopped-by (x .entry / 2 ^ 24) marks (x .instruction .immediate))
 
       pub gathered-barred : (stop ≡ 0 → ⊥) → work ≡ refusedWork stop → Gathered work registers integers bar zero code at m
       unfolding performed

@@ -123,7 +123,7 @@ module _ (registers integers m : List ℕ) (next : ℕ) where
   state marks = stateOf (machineOf registers integers marks) m
 
   -- a work leaves what a result says
-  abbrev Leaves : Work → (ℕ → State → Result State) → Type 0
+  abbrev pub Leaves : Work → (ℕ → State → Result State) → Type 0
   Leaves work after = (floor : ℕ) (marks : Marks) (at : ℕ) → performed floor work at (state marks) ≡ concluded at (done next) (state marks) (after floor (state marks))
 
   -- the floor's test stands before what is left
@@ -205,7 +205,7 @@ module _ (registers integers m : List ℕ) (entry : ℕ) (i : Instruction) (next
   named = operationIn entry (w .reg)
 
   -- what the effect leaves, and what the work leaves
-  of-work : (work : Work) (after : ℕ → State → Result State) → Sound work → ((floor : ℕ) (s : State) → directly floor (effectIn entry i) s ≡ after floor s)
+  pub of-work : (work : Work) (after : ℕ → State → Result State) → Sound work → ((floor : ℕ) (s : State) → directly floor (effectIn entry i) s ≡ after floor s)
       → Leaves registers integers m next work after → Does work registers integers m (effectIn entry i) (done next)
   of-work work after sound leaves performs =
       record { sound = sound; does = λ floor marks at. let s = state registers integers m next marks in performs floor marks at ∙ sym (ap (concluded at (done next) s) (leaves floor s)) }
@@ -362,7 +362,7 @@ module _ (x y : Spot) (next : ℕ) (work : Work) (e : x ≡ y) where
         → v ≡ u → work ≡ takeWork registers integers m number place there next
     made-taken v u h g same = made-take (h ∙ ap (λ (z : ℕ). workOf toOperate number place z next) same ∙ g)
 
-pub ruleset sorting = (needs, two-operands, does-empties, does-pass, does-shift, does-extract, does-store, does-load, does-compute, does-insert, does-shuffle, does-mask)
+pub ruleset ways = (needs, two-operands, does-empties, does-pass, does-shift, does-extract, does-store, does-load, does-compute, does-insert, does-shuffle, does-mask)
 
 pub ruleset putting = (needs, made-put)
 

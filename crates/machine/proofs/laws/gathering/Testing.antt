@@ -4,10 +4,11 @@ use Rattle.basis.proofs.Names.{sym, ap, _∙_, false≢true, arith, needs, ne-e
 use Rattle.words.proofs.Laws.{and-both}
 use Rattle.reorder.specs.Result.{Result, refused}
 use Rattle.codec.specs.Forms.{mmreg1·mmreg2/mem64, forms}
+use Rattle.codec.specs.Opcodes.{usedForm}
 use Rattle.codec.specs.Table.{formOf}
 use Rattle.codec.specs.declared.Kind.{Kind}
 use Rattle.codec.specs.declared.Kind.the-variants.{Ordinary, Emms, Silent, Loop}
-use Rattle.codec.proofs.Bytes.{found-has}
+use Rattle.codec.proofs.Bytes.{found-has, ordinarySuffix, used-kind, number-passes}
 use Rattle.codec.proofs.FormNumbers.{in-range}
 use Rattle.manual.specs.declared.Marks.{Marks}
 use Rattle.manual.specs.Kinds.{heeded}
@@ -66,8 +67,10 @@ module _ (n : ℕ) (marks : Marks) where
       other false b h g = refl
       other true b h g = absurd (false≢true (sym g ∙ h))
 
-  pub stopped-by : barredBy (heeded (formOf n .kind) marks) ≡ stoppingBy (barredBy marks) n
-  stopped-by = heeds (formOf n .kind) (isUnstopped n) (kind-unstopped (isUnstopped n) refl)
+  pub stopped-by : (immediate : ℕ) → barredBy (heeded (usedForm (formOf n) immediate .kind) marks) ≡ stoppingBy (barredBy marks) n
+  stopped-by immediate =
+      ap (λ (k : Kind). barredBy (heeded k marks)) (used-kind (formOf n) immediate (number-passes ordinarySuffix 0 n (omega arith) refl refl))
+      ∙ heeds (formOf n .kind) (isUnstopped n) (kind-unstopped (isUnstopped n) refl)
 
 -- where no mark is set, none stops a form
 pub none-stops : (bar n : ℕ) → bar ≡ 0 → stoppingBy bar n ≡ 0

@@ -4,13 +4,13 @@ use Rattle.basis.proofs.Names.{sym, ap, subst, _↔_, false≢true, List·Mem�
 use Rattle.lanes.specs.Operations.{Operation}
 use Rattle.words.proofs.Laws.{and-both}
 use Rattle.reorder.specs.Result.{Result, done, refused, andThen, mapResult}
-use Rattle.reorder.specs.Plan.{Plan}
+use Rattle.reorder.specs.Plan.{Plan, looks}
 use Rattle.reorder.specs.Footprint.{Footprint, footprintIn}
 use Rattle.codec.specs.Forms.{File, mmxFile, integerFile, Slot, reg, rm, rm/mem, mem, edi, fixed, opcode, zeroSlot, Form}
-use Rattle.codec.specs.Opcodes.{formFor, operationFor}
+use Rattle.codec.specs.Opcodes.{usedForm, formFor, operationFor}
 use Rattle.codec.specs.declared.Instruction.{Instruction}
 use Rattle.codec.specs.declared.Kind.{Kind}
-use Rattle.codec.proofs.Bytes.{opcode-passes}
+use Rattle.codec.proofs.Bytes.{opcode-passes, used-passes}
 use Rattle.manual.specs.Refusals.{belowFloor}
 use Rattle.manual.specs.State.{State}
 use Rattle.manual.specs.Places.{Place, integer, zeroMark, look, allWritable}
@@ -168,17 +168,22 @@ module _ (floor : ℕ) (s : State) (i : Instruction) where
       by true = h
       by false = tt
 
-  ranged-form : (form : Form) (o : Operation) → oneEach form ≡ true → RangedFootprint (footprintOf floor (effectBy form o i) s)
+  ranged-form : (form : Form) (o : Operation) → oneEach (usedForm form (i .immediate)) ≡ true → RangedFootprint (footprintOf floor (effectBy form o i) s)
   ranged-form form o e =
-      let (a, b) = and-both (atMost true (sources (form .operands))) _ e in
-      unmarked (heeded (form .kind) (s .marks)) (via (effectBy form o i)) _
+      let used = usedForm form (i .immediate) in
+      let (a, b) = and-both (atMost true (sources (used .operands))) _ e in
+      unmarked (heeded (used .kind) (s .marks)) (via (effectBy form o i)) _
       (above (via (effectBy form o i)) (placed (effectBy form o i) s)
-      (by (places s i (sources (form .operands))) (places s i (targets (form .operands))) (at-most s i true (sources (form .operands)) a) (at-most s i true (targets (form .operands)) b)))
+      (by (places s i (sources (used .operands))) (places s i (targets (used .operands))) (at-most s i true (sources (used .operands)) a) (at-most s i true (targets (used .operands)) b)))
     where
+      made : (f : Footprint Place Kind) → OneRange f → (o : Result (List ℕ)) → RangedFootprint (mapResult (λ values. f) o)
+      made f h (done values) = h
+      made f h (refused n) = tt
+
       by : (o′ p : Result (List Place)) → Each Range o′ → Each Range p
           → RangedFootprint (footprintIn look (via (effectBy form o i)) s (andThen o′ (λ source. mapResult (planOn (effectBy form o i) source) p)))
       by (done ps) (done qs) h g =
-          record { reads = subst Range (sym (bytes-via (addressRegistersOf (effectBy form o i)) ps)) h; writes = g }
+          made _ (record { reads = subst Range (sym (bytes-via (addressRegistersOf (effectBy form o i)) ps)) h; writes = g }) (planOn (effectBy form o i) ps qs .make (looks look s ps))
       by (done ps) (refused n) h g = tt
       by (refused n) p h g = tt
 
@@ -186,4 +191,4 @@ pub ranged : (floor : ℕ) (s : State) (i : Instruction) → RangedFootprint (fo
 unfolding footprint effectOf
 ranged floor s i =
     ranged-form floor s i (formFor (i .first) (i .second)) (operationFor (i .first) (i .second) (i .operand .reg))
-    (opcode-passes oneEach refl refl refl (i .first) (i .second))
+    (used-passes oneEach refl refl (formFor (i .first) (i .second)) (i .immediate) (opcode-passes oneEach refl refl refl (i .first) (i .second)))

@@ -1,17 +1,19 @@
 -- The forms by their numbers in the table, each with its way: those of a destination and a source whatever register file and size r/m has. Rules for
 -- the functions that sort them.
 use Rattle.basis.specs.Names.{_≡_, refl, _⊎_, Bool, true, false, cond, _||_, some, [], _∷_, ℕ, _/_, _%_, _^_, _≤_, _<_, eqb, leb}
-use Rattle.basis.proofs.Names.{sym, ap, subst, _∙_, inl, inr, false≢true, arith, needs, ne-eqb, le-leb, lt-leb, le-ltb, lt-ltb}
+use Rattle.basis.proofs.Names.{sym, ap, subst, _∙_, inl, inr, false≢true, arith, needs, ne-eqb, eqb-true, le-leb, lt-leb, le-ltb, lt-ltb}
 use Rattle.words.specs.Number.{bytes}
 use Rattle.lanes.specs.Operations.{described, MOVE}
-use Rattle.codec.specs.Forms.{written, updated, File, mmxFile, integerFile, rm/mem, mem, mmreg1, Form, pair, alone, alone/7, mem8/0/1/2/3, mmreg1·imm8/2/4/6, mmreg1·imm8/2/6, reg32←mmreg2+imm8, reg32←mmreg2, mmreg1·reg32/mem16+imm8, mmreg1←mmreg2/mem64+imm8, edi·mmreg1·mmreg2, memorySize}
+use Rattle.codec.specs.Forms.{written, updated, File, mmxFile, integerFile, rm/mem, mem, mmreg1, Form, pair, alone, alone/7, mem8/0/1/2/3, mmreg1·imm8/2/4/6, mmreg1·imm8/2/6, reg32←mmreg2+imm8, reg32←mmreg2, mmreg1·reg32/mem16+imm8, mmreg1←mmreg2/mem64+imm8, edi·mmreg1·mmreg2, mmreg1·mmreg2/mem64+suffix, memorySize}
+use Rattle.codec.specs.Contents.{maximum, siblings}
+use Rattle.codec.specs.Opcodes.{suffixedOf}
 use Rattle.codec.specs.Table.{formOf}
-use Rattle.codec.proofs.Bytes.{among}
+use Rattle.codec.proofs.Bytes.{found-each, among}
 use Rattle.manual.specs.Instructions.{keptBy}
 use Rattle.machine.specs.declared.ways.Way.{Way}
-use Rattle.machine.specs.declared.ways.Way.the-variants.{Empties, Passes, Shifts, Extracts, Stores, Loads, Computes, Inserts, Shuffles, Masks}
+use Rattle.machine.specs.declared.ways.Way.the-variants.{Empties, Passes, Shifts, Extracts, Stores, Loads, Computes, Suffixes, Inserts, Shuffles, Masks}
 use Rattle.machine.specs.inner.Spots.{fileIn}
-use Rattle.machine.specs.inner.Ways.{isUnstopped, isInteger, isStore, wayOf, hasOther}
+use Rattle.machine.specs.inner.Ways.{isUnstopped, isInteger, isStore, wayOf, suffixWay, hasOther}
 use Rattle.machine.specs.inner.Works.{owned, numbers, isListed, Listed}
 
 -- the register file and the size of the operand that may be in memory: by the number an integer register or an MMX register; one to eight bytes; and
@@ -61,6 +63,7 @@ pub data HasWay (n : ℕ) : Way → Form → Type 0 where
   inserts : n ≡ 4 → Other n integerFile 2 → HasWay n Inserts mmreg1·reg32/mem16+imm8
   shuffles : n ≡ 5 → Other n mmxFile 8 → HasWay n Shuffles mmreg1←mmreg2/mem64+imm8
   masks : n ≡ 8 → Other n mmxFile 8 → HasWay n Masks edi·mmreg1·mmreg2
+  suffixes : n ≡ 16 → Other n mmxFile 8 → HasWay n Suffixes mmreg1·mmreg2/mem64+suffix
   streams : Moves n → Other n mmxFile 8 → HasWay n Stores (pair n (written, mem 8) mmreg1)
   stores : (file : File) (size : ℕ) → Moves n → Other n file size → HasWay n Stores (pair n (written, rm/mem file size) mmreg1)
   loads : (file : File) (size : ℕ) → Moves n → Other n file size → HasWay n Loads (pair n (written, mmreg1) (rm/mem file size))
@@ -77,12 +80,13 @@ has-way n h =
     (λ g. masks refl (multimedia 8 8 (omega arith) refl (omega arith) (omega arith)))
     (λ g. passes-fence) (λ g. passes-prefetch)
     (λ g. streams refl (multimedia 15 8 (omega arith) refl (omega arith) (omega arith)))
-    (λ g. stores integerFile 4 refl (doubleword 16 (omega arith) refl))
-    (λ g. loads integerFile 4 refl (doubleword 17 (omega arith) refl))
-    (λ g. stores mmxFile 8 refl (multimedia 18 8 (omega arith) refl (omega arith) (omega arith)))
-    (λ g. loads mmxFile 8 refl (multimedia 19 8 (omega arith) refl (omega arith) (omega arith)))
-    (λ g. computes mmxFile 4 (multimedia 20 4 (omega arith) refl (omega arith) (omega arith)))
-    (λ g. computes mmxFile 8 (multimedia 21 8 (omega arith) refl (omega arith) (omega arith)))
+    (λ g. suffixes refl (multimedia 16 8 (omega arith) refl (omega arith) (omega arith)))
+    (λ g. stores integerFile 4 refl (doubleword 17 (omega arith) refl))
+    (λ g. loads integerFile 4 refl (doubleword 18 (omega arith) refl))
+    (λ g. stores mmxFile 8 refl (multimedia 19 8 (omega arith) refl (omega arith) (omega arith)))
+    (λ g. loads mmxFile 8 refl (multimedia 20 8 (omega arith) refl (omega arith) (omega arith)))
+    (λ g. computes mmxFile 4 (multimedia 21 4 (omega arith) refl (omega arith) (omega arith)))
+    (λ g. computes mmxFile 8 (multimedia 22 8 (omega arith) refl (omega arith) (omega arith)))
 
 -- what is read, by its number in the table
 module _ (entry : ℕ) (l : Listed entry) where
@@ -106,6 +110,7 @@ module _ (entry : ℕ) (l : Listed entry) where
       by y f (inserts e x) two = x
       by y f (shuffles e x) two = x
       by y f (masks e x) two = x
+      by y f (suffixes e x) two = x
       by y f (streams o x) two = x
       by y f (stores file size o x) two = x
       by y f (loads file size o x) two = x
@@ -159,20 +164,24 @@ module _ (n : ℕ) where
   unfolding wayOf
   way-streams e = simp e
 
-  pub way-stores : (n ≡ 16) ⊎ (n ≡ 18) → Stores ≡ wayOf n
+  pub way-suffixes : n ≡ 16 → Suffixes ≡ wayOf n
+  unfolding wayOf
+  way-suffixes e = simp e
+
+  pub way-stores : (n ≡ 17) ⊎ (n ≡ 19) → Stores ≡ wayOf n
   unfolding wayOf
   way-stores (inl e) = simp e
   way-stores (inr e) = simp e
 
-  pub way-loads : (n ≡ 17) ⊎ (n ≡ 19) → Loads ≡ wayOf n
+  pub way-loads : (n ≡ 18) ⊎ (n ≡ 20) → Loads ≡ wayOf n
   unfolding wayOf
   way-loads (inl e) = simp e
   way-loads (inr e) = simp e
 
-  pub way-computes : 15 ≤ n → (n ≡ 15 → ⊥) → ((n ≡ 16) ⊎ (n ≡ 18) → ⊥) → ((n ≡ 17) ⊎ (n ≡ 19) → ⊥) → Computes ≡ wayOf n
+  pub way-computes : 15 ≤ n → (n ≡ 15 → ⊥) → ((n ≡ 17) ⊎ (n ≡ 19) → ⊥) → ((n ≡ 18) ⊎ (n ≡ 20) → ⊥) → (n ≡ 16 → ⊥) → Computes ≡ wayOf n
   unfolding wayOf
-  way-computes h d s l =
-      simp (le-ltb n 15 h, ne-eqb n 15 d, ne-eqb n 16 (λ e. s (inl e)), ne-eqb n 18 (λ e. s (inr e)), ne-eqb n 17 (λ e. l (inl e)), ne-eqb n 19 (λ e. l (inr e)))
+  way-computes h d s l x =
+      simp (le-ltb n 15 h, ne-eqb n 15 d, ne-eqb n 17 (λ e. s (inl e)), ne-eqb n 19 (λ e. s (inr e)), ne-eqb n 18 (λ e. l (inl e)), ne-eqb n 20 (λ e. l (inr e)), ne-eqb n 16 x)
 
   pub stopped-before : n < 9 → false ≡ isUnstopped n
   stopped-before h = simp (lt-leb 9 n h)
@@ -183,24 +192,53 @@ module _ (n : ℕ) where
   pub integer-insert : n ≡ 4 → true ≡ isInteger n
   integer-insert e = simp e
 
-  pub integer-store : n ≡ 16 → true ≡ isInteger n
+  pub integer-store : n ≡ 17 → true ≡ isInteger n
   integer-store e = simp e
 
-  pub integer-load : (n ≡ 4 → ⊥) → (n ≡ 16 → ⊥) → eqb n 17 ≡ isInteger n
-  integer-load e f = simp (ne-eqb n 4 e, ne-eqb n 16 f)
+  pub integer-load : (n ≡ 4 → ⊥) → (n ≡ 17 → ⊥) → eqb n 18 ≡ isInteger n
+  integer-load e f = simp (ne-eqb n 4 e, ne-eqb n 17 f)
 
 -- from 15 on an operand may be in memory
 pub two-from : (n : ℕ) → 15 ≤ n → hasOther (wayOf n) ≡ true
 unfolding wayOf
-two-from n h = simp (le-ltb n 15 h) (by (isStore n) (eqb n 17 || eqb n 19))
+two-from n h = simp (le-ltb n 15 h) (by (isStore n) (eqb n 18 || eqb n 20) (eqb n 16))
   where
-    by : (s l : Bool) → hasOther (cond s Stores (cond l Loads Computes)) ≡ true
-    by true l = refl
-    by false true = refl
-    by false false = refl
+    by : (s l x : Bool) → hasOther (cond s Stores (cond l Loads (cond x Suffixes Computes))) ≡ true
+    by true l x = refl
+    by false true x = refl
+    by false false true = refl
+    by false false false = refl
+
+-- the way of a suffix
+module _ (suffix : ℕ) where
+  pub suffix-words : suffix ≡ 0x1c → Loads ≡ suffixWay suffix
+  unfolding suffixedOf wayOf
+  suffix-words e = simp e
+
+  pub suffix-singles : suffix ≡ 0x0c → Loads ≡ suffixWay suffix
+  unfolding suffixedOf wayOf
+  suffix-singles e = simp e
+
+  pub suffix-swaps : suffix ≡ 0xbb → Loads ≡ suffixWay suffix
+  unfolding suffixedOf wayOf
+  suffix-swaps e = simp e
+
+  pub suffix-computes : (suffix ≡ 0x1c → ⊥) → (suffix ≡ 0x0c → ⊥) → (suffix ≡ 0xbb → ⊥) → Computes ≡ suffixWay suffix
+  unfolding suffixedOf wayOf
+  suffix-computes a b c =
+      found-each (λ x. x) maximum (λ x. Computes ≡ wayOf (x .form .number)) (λ x. eqb suffix (x .suffix)) refl siblings (
+        λ h. absurd (a (eqb-true suffix 0x1c h)),
+        (
+          λ h. absurd (b (eqb-true suffix 0x0c h)),
+          (
+            λ h. absurd (c (eqb-true suffix 0xbb h)),
+            (λ h. refl, (λ h. refl, (λ h. refl, tt))),
+          ),
+        ),
+      )
 
 -- the answer of the code by which way it is
 pub two-by : (y z : Way) (t : Bool) → y ≡ z → t ≡ hasOther z → t ≡ hasOther y
 two-by y z t e h = h ∙ ap hasOther (sym e)
 
-pub ruleset way-rules = (needs, way-empties, way-shifts, way-extracts, way-inserts, way-shuffles, way-masks, way-passes, way-streams, way-stores, way-loads, way-computes, stopped-before, unstopped-from, integer-insert, integer-store, integer-load, two-by)
+pub ruleset way-rules = (needs, way-empties, way-shifts, way-extracts, way-inserts, way-shuffles, way-masks, way-passes, way-streams, way-suffixes, way-stores, way-loads, way-computes, suffix-words, suffix-singles, suffix-swaps, suffix-computes, stopped-before, unstopped-from, integer-insert, integer-store, integer-load, two-by)

@@ -8,4 +8,4 @@ at-address-spec =
     tie.close
     (tie.spec
     (λ c κs. search addressed) (λ c. search addressed) (λ c κs. search addressed) (λ c. search addressed) (λ c κs. search addressed)
-    (λ c. search addressed) (λ c κs. search addressed) (λ c. search addressed) (λ c κs. search addressed) (λ c. search addressed))
+    (λ c. search addressed))

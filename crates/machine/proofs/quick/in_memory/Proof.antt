@@ -8,4 +8,5 @@ in-memory-spec =
     tie.close
     (tie.spec
     (λ c κs. search placing) (λ c. search placing) (λ c. search placing) (λ c κs. search placing) (λ c κs. search placing) (λ c. search placing)
-    (λ c. search placing) (λ c. search placing) (λ c κs. search placing) (λ c. search placing))
+    (λ c. search placing) (λ c. search placing) (λ c κs. search placing) (λ c. search placing) (λ c. search placing) (λ c. search placing)
+    (λ c κs. search placing) (λ c. search placing) (λ c κs. search placing) (λ c. search placing))

@@ -10,5 +10,6 @@ moved-spec =
     (λ c. search registering) (λ c. search registering) (λ c. search registering) (λ c. search registering) (λ c. search registering)
     (λ c κs. search registering) (λ c. search registering) (λ c. search registering) (λ c. search registering) (λ c. search registering)
     (λ c κs. search registering) (λ c. search registering) (λ c. search registering) (λ c. search registering) (λ c. search registering)
-    (λ c κs. search registering) (λ c. search registering) (λ c κs. search registering) (λ c. search registering) (λ c κs. search registering)
-    (λ c. search registering))
+    (λ c κs. search registering) (λ c. search registering) (λ c κs. search registering) (λ c. search registering) (λ c. search registering)
+    (λ c. search registering) (λ c. search registering) (λ c. search registering) (λ c. search registering) (λ c κs. search registering)
+    (λ c. search registering) (λ c κs. search registering) (λ c. search registering))

@@ -8,4 +8,4 @@ way-of-spec =
     tie.close
     (tie.spec
     (λ c κs. search way-rules) (λ c. search way-rules) (λ c. search way-rules) (λ c. search way-rules) (λ c. search way-rules)
-    (λ c. search way-rules))
+    (λ c. search way-rules) (λ c. search way-rules))
