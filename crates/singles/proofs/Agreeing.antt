@@ -1,23 +1,23 @@
 -- The tables over halves and the tables over the numbers that these stand for say the same.
 use Rattle.basis.specs.Names.{_≡_, refl, ℕ, _+_, _-_, _*_, _/_, _^_, min, _<_, Bool, true, false, not, cond, eqb, ltb, ℤ, Float, fin, binary32, ofBits, toUnsigned, neg, lt}
-use Rattle.basis.proofs.Names.{sym, ap, ap₂, _∙_, arith, needs, lt-ltb, ltb-true, ltb-false, pow-pos, nan, inf, up, down, down-pos, HasValue, div-same}
+use Rattle.basis.proofs.Names.{ap, ap₂, _∙_, arith, needs, lt-ltb, ltb-true, ltb-false, pow-pos, nan, inf, up, down, down-pos, HasValue, div-same}
 use Rattle.lanes.specs.Lane.{lane}
-use Rattle.singles.specs.Ranges.{exponent, Range, zeroRange, normalRange, unsupportedRange, rangeOf, isNegative}
-use Rattle.singles.specs.Tables.{exceeds, greaterCell, greaterHalf, maximumCell, maximumHalf, units, wholePart, wordRow, wordCell, wordHalf}
+use Rattle.singles.specs.Ranges.{exponent, zeroRange, normalRange, unsupportedRange, rangeOf, isNegative}
+use Rattle.singles.specs.Tables.{greaterCell, greaterHalf, maximumCell, maximumHalf, units, wholePart, wordRow, wordCell, wordHalf}
 use Rattle.singles.specs.Siblings.{both, pf2iw, pfcmpgt, pfmax}
-use Rattle.singles.specs.inner.Numbers.{sort, classOf, plusZero, greater, maximum, wordOf, word}
+use Rattle.singles.specs.inner.Numbers.{sort, classOf, greater, maximum, wordOf, word}
 use Rattle.singles.specs.declared.classes.Class.{Class}
 use Rattle.singles.specs.declared.classes.Class.the-variants.{Zero, Normal, Unsupported}
 use Rattle.singles.specs.declared.tables.Half.{Half}
 use Rattle.singles.specs.declared.tables.Half.the-variants.{Made}
 use Rattle.singles.specs.declared.answers.Answer.{Answer}
 use Rattle.singles.proofs.Rounding.{cut, small}
-use Rattle.singles.proofs.Values.{Normally, has-value, exceeds-is, over-zero, under-zero}
+use Rattle.singles.proofs.Values.{IsNormal, has-value, exceeds-is, over-zero, under-zero}
 
 -- a half is one of three
 data View (n : ℕ) : Type 0 where
   zeroView : classOf n ≡ Zero → rangeOf n ≡ zeroRange → View n
-  normalView : classOf n ≡ Normal (ofBits binary32 n) → rangeOf n ≡ normalRange → Normally n → View n
+  normalView : classOf n ≡ Normal (ofBits binary32 n) → rangeOf n ≡ normalRange → IsNormal n → View n
   unsupportedView : classOf n ≡ Unsupported → rangeOf n ≡ unsupportedRange → View n
 
 view : (n : ℕ) → View n

@@ -62,20 +62,24 @@ across false true true s = refl
 across false true false s = refl
 across false false r s = refl
 
+abbrev low : ℕ → Range
+low register = rangeOf (lane 32 0 register)
+
+abbrev high : ℕ → Range
+high register = rangeOf (lane 32 1 register)
+
 fails-exactly : (x : Sibling) (a b : ℕ) → fails (leave x a b) ≡ refuses x a b
 unfolding leave pf2iw wordHalf pfcmpgt greaterHalf pfmax maximumHalf hasUnsupported
-fails-exactly PF2IW a b = both-fails _ _ ∙ ap₂ _||_ (word-undefined _ (rangeOf (lane 32 0 b))) (word-undefined _ (rangeOf (lane 32 1 b)))
+fails-exactly PF2IW a b = both-fails _ _ ∙ ap₂ _||_ (word-undefined _ (low b)) (word-undefined _ (high b))
 fails-exactly PI2FW a b = refl
 fails-exactly PSWAPD a b = refl
 fails-exactly PAVGUSB a b = refl
 fails-exactly PFCMPGT a b =
-    both-fails _ _
-    ∙ ap₂ _||_ (greater-undefined _ _ (rangeOf (lane 32 0 a)) (rangeOf (lane 32 0 b))) (greater-undefined _ _ (rangeOf (lane 32 1 a)) (rangeOf (lane 32 1 b)))
-    ∙ across (isUnsupported (rangeOf (lane 32 0 a))) _ _ _
+    both-fails _ _ ∙ ap₂ _||_ (greater-undefined _ _ (low a) (low b)) (greater-undefined _ _ (high a) (high b))
+    ∙ across (isUnsupported (low a)) (isUnsupported (low b)) _ _
 fails-exactly PFMAX a b =
-    both-fails _ _
-    ∙ ap₂ _||_ (maximum-undefined _ _ (rangeOf (lane 32 0 a)) (rangeOf (lane 32 0 b))) (maximum-undefined _ _ (rangeOf (lane 32 1 a)) (rangeOf (lane 32 1 b)))
-    ∙ across (isUnsupported (rangeOf (lane 32 0 a))) _ _ _
+    both-fails _ _ ∙ ap₂ _||_ (maximum-undefined _ _ (low a) (low b)) (maximum-undefined _ _ (high a) (high b))
+    ∙ across (isUnsupported (low a)) (isUnsupported (low b)) _ _
 
 failing : (r : Answer) → fails r ≡ true → r ≡ Fails
 failing (Leaves v) h = absurd (false≢true h)

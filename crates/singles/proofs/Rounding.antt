@@ -1,6 +1,6 @@
 -- Numbers to signed words and back: what a number between the ends of the signed words is without its fraction, and a word as a number. Rules for the
 -- functions of words.
-use Rattle.basis.specs.Names.{_≡_, refl, ℕ, suc, _+_, _-_, _*_, _/_, _%_, _^_, min, _≤_, _<_, Bool, true, false, not, cond, ltb, pos, negsuc, Float, fin, binary32, ofBits, toBits, ofInt, toUnsigned, neg, lt}
+use Rattle.basis.specs.Names.{_≡_, ℕ, suc, _+_, _-_, _*_, _/_, _%_, _^_, min, _≤_, _<_, Bool, true, false, not, ltb, pos, Float, fin, binary32, ofBits, toBits, ofInt, toUnsigned, neg, lt}
 use Rattle.basis.proofs.Names.{sym, ap, _∙_, subst, arith, needs, T, dite, decLe, false≢true, true≢false, lt-ltb, le-ltb, ltb-true, ltb-false, div-lt-iff-lt-mul, le-div-iff-mul-le, lt-of-not-le, min-eq-left, nan, inf, up, down, isNan, round, down-pos, HasValue, round-whole, whole-unique, neg-fits, round-fits}
 use Rattle.lanes.specs.Signed.{signed}
 use Rattle.lanes.proofs.Integers.{is-lt}
@@ -98,7 +98,11 @@ module _ (x : Float) where
     unfolding wordOf
     word-least over = rw (under, over)
 
-pub ruleset rounding = (needs, upper-above, upper-below, upper-fits, upper-word, word-greatest, lower-above, lower-below, lower-le, lower-fits, lower-word, word-least)
+pub ruleset upward = (upper-above, upper-below, upper-fits, upper-word, word-greatest)
+
+pub ruleset downward = (lower-above, lower-below, lower-le, lower-fits, lower-word, word-least)
+
+pub ruleset rounding = (needs, upward, downward)
 
 -- a number of a value is no NaN, and its negative has that value with the other sign
 pub no-nan : (x : Float) (s : Bool) (a c : ℕ) → HasValue x s a c → T (not (isNan x))
@@ -135,20 +139,18 @@ module _ (half : ℕ) where
   abbrev w : ℕ
   w = half % 0x1_0000
 
-  module _ (plus : w < 0x8000) where
-    pub plus-asked : T (not (isNan (ofInt binary32 (pos w))))
-    plus-asked = no-nan _ false w 1 (whole w (omega arith))
+  pub plus-no-nan : T (not (isNan (ofInt binary32 (pos w))))
+  plus-no-nan = no-nan _ false w 1 (whole w (omega arith))
 
-    pub plus-single : toBits binary32 (ofInt binary32 (pos w)) ≡ singleOf half
-    unfolding singleOf signed
-    plus-single = rw (lt-ltb _ _ plus)
+  pub minus-no-nan : T (not (isNan (neg (ofInt binary32 (pos (0x1_0000 - w))))))
+  minus-no-nan = no-nan _ true (0x1_0000 - w) 1 (negated _ false (0x1_0000 - w) 1 (whole (0x1_0000 - w) (omega arith)))
 
-  module _ (minus-sign : 0x8000 ≤ w) where
-    pub minus-asked : T (not (isNan (neg (ofInt binary32 (pos (0x1_0000 - w))))))
-    minus-asked = no-nan _ true (0x1_0000 - w) 1 (negated _ false (0x1_0000 - w) 1 (whole (0x1_0000 - w) (omega arith)))
+  pub plus-single : w < 0x8000 → toBits binary32 (ofInt binary32 (pos w)) ≡ singleOf half
+  unfolding singleOf signed
+  plus-single h = rw (lt-ltb _ _ h)
 
-    pub minus-single : toBits binary32 (neg (ofInt binary32 (pos (0x1_0000 - w)))) ≡ singleOf half
-    unfolding singleOf
-    minus-single = ap (toBits binary32) (minus (0x1_0000 - w) (omega arith) ∙ signed-minus w minus-sign (omega arith))
+  pub minus-single : 0x8000 ≤ w → toBits binary32 (neg (ofInt binary32 (pos (0x1_0000 - w)))) ≡ singleOf half
+  unfolding singleOf
+  minus-single h = ap (toBits binary32) (minus (0x1_0000 - w) (omega arith) ∙ signed-minus w h (omega arith))
 
-pub ruleset converting = (needs, plus-asked, plus-single, minus-asked, minus-single)
+pub ruleset converting = (needs, plus-no-nan, minus-no-nan, plus-single, minus-single)

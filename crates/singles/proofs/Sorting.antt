@@ -1,9 +1,9 @@
--- Halves as lanes, which of them are NaNs, and their classes. Rules for the functions of halves and classes.
+-- Halves as lanes, which of them are NaNs, and their classes. Rules for the functions of halves.
 use Rattle.basis.specs.Names.{_≡_, refl, ℕ, _/_, _%_, _^_, _≤_, _<_, Bool, true, not, Float, fin, binary32, ofBits}
-use Rattle.basis.proofs.Names.{sym, _∙_, subst, arith, needs, T, eq-eqb, ne-eqb, lt-ltb, le-ltb, nan, inf, div, isNan, nanBits, nanBits-above, nanBits-is}
+use Rattle.basis.proofs.Names.{sym, _∙_, subst, needs, T, ne-eqb, lt-ltb, le-ltb, nan, inf, div, isNan, nanBits, nanBits-above, nanBits-is}
 use Rattle.lanes.specs.Lane.{lane}
 use Rattle.lanes.proofs.Registers.{lane-first}
-use Rattle.singles.specs.Ranges.{exponent, magnitude}
+use Rattle.singles.specs.Ranges.{exponent}
 use Rattle.singles.specs.inner.Numbers.{sort}
 use Rattle.singles.specs.declared.classes.Class.the-variants.{Zero, Normal, Unsupported}
 
@@ -30,17 +30,16 @@ module _ (half : ℕ) where
   no-nan-below h = subst (λ (t : Bool). T (not t)) (sym (nanBits-above binary32 half ∙ le-ltb _ _ h)) tt
 
 module _ (half : ℕ) (number : Float) where
-  pub sorts-unsupported : 0x7F80_0000 ≤ magnitude half → Unsupported ≡ sort half number
+  pub sorts-unsupported : exponent half ≡ 0xFF → Unsupported ≡ sort half number
   unfolding sort
-  sorts-unsupported h = simp (eq-eqb (exponent half) 0xFF (omega arith))
+  sorts-unsupported h = simp h
 
-  module _ (supported : magnitude half < 0x7F80_0000) where
-    pub sorts-zero : magnitude half < 0x80_0000 → Zero ≡ sort half number
-    unfolding sort
-    sorts-zero h = simp (ne-eqb (exponent half) 0xFF (λ e. omega arith), eq-eqb (exponent half) 0x00 (omega arith))
+  pub sorts-zero : exponent half ≡ 0x00 → Zero ≡ sort half number
+  unfolding sort
+  sorts-zero h = simp h
 
-    pub sorts-normal : 0x80_0000 ≤ magnitude half → Normal number ≡ sort half number
-    unfolding sort
-    sorts-normal h = simp (ne-eqb (exponent half) 0xFF (λ e. omega arith), ne-eqb (exponent half) 0x00 (λ e. omega arith))
+  pub sorts-normal : (exponent half ≡ 0xFF → ⊥) → (exponent half ≡ 0x00 → ⊥) → Normal number ≡ sort half number
+  unfolding sort
+  sorts-normal h k = simp (ne-eqb _ _ h, ne-eqb _ _ k)
 
-pub ruleset sorting = (needs, low-lane, high-lane, nan-above, no-nan-below, sorts-unsupported, sorts-zero, sorts-normal)
+pub ruleset parting = (needs, low-lane, high-lane, nan-above, no-nan-below)

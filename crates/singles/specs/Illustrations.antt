@@ -1,5 +1,5 @@
--- Every cell of the tables at both signs, with numbers of our own, since the manuals have none: the two halves of each illustration are two lines of a
--- table, and the ends of a line stand in it.
+-- Every cell of the tables, at both signs and at the ends of what it is for. The numbers are our own, since the manuals have none; both halves of a
+-- register are examples.
 use Rattle.basis.specs.Names.{ℕ, Bool, true, false, _&&_, List, [], _∷_, eqb}
 use Rattle.singles.specs.Siblings.{Sibling, PF2IW, PI2FW, PSWAPD, PAVGUSB, PFCMPGT, PFMAX, leave}
 use Rattle.singles.specs.declared.answers.Answer.{Answer}
@@ -56,7 +56,7 @@ illustrations =
     ∷ shows PAVGUSB 0xFFFF010F0070079A 0xFF00FF100144F7A8 0xFF808010015A7FA1
     -- PFCMPGT: two zeros of any signs
     ∷ shows PFCMPGT 0x0000000080000000 0x8000000000000000 0
-    ∷ shows PFCMPGT 0x007FFFFF00000001 0x8000000180000001 0
+    ∷ shows PFCMPGT 0x8000000100000001 0x007FFFFF807FFFFF 0
     -- a zero against a number below it, and above it
     ∷ shows PFCMPGT 0x8000000000000000 0xBF8000003F800000 0xFFFFFFFF00000000
     ∷ shows PFCMPGT 0x007FFFFF80000001 0x0080000080800000 0x00000000FFFFFFFF
@@ -65,9 +65,10 @@ illustrations =
     ∷ shows PFCMPGT 0x8080000000800000 0x80000001007FFFFF 0x00000000FFFFFFFF
     -- numbers of two signs
     ∷ shows PFCMPGT 0x00800000FF7FFFFF 0xFF7FFFFF00800000 0xFFFFFFFF00000000
-    -- both negative, and both positive; equal ones
-    ∷ shows PFCMPGT 0xBF800000C7000100 0xC7000000C7000000 0xFFFFFFFF00000000
-    ∷ shows PFCMPGT 0x3F7FFFFF7F7FFFFF 0x3F80000046FFFE00 0x00000000FFFFFFFF
+    -- both negative, and both positive, one exponent or two; equal ones
+    ∷ shows PFCMPGT 0xC7000000C7000000 0xBF800000C7000100 0x00000000FFFFFFFF
+    ∷ shows PFCMPGT 0x3F7FFFFF46FFFFFF 0x3F80000046FFFE00 0x00000000FFFFFFFF
+    ∷ shows PFCMPGT 0x7F7FFFFFFF7FFFFF 0x46FFFFFFC6FFFFFF 0xFFFFFFFF00000000
     ∷ shows PFCMPGT 0x46FFFE00C6FFFE00 0x46FFFE00C6FFFE00 0
     -- an unsupported half in each place
     ∷ fails PFCMPGT 0x0000000000000000 0x000000007F800000
@@ -92,9 +93,10 @@ illustrations =
     -- numbers of two signs
     ∷ shows PFMAX 0x00800000FF7FFFFF 0xFF7FFFFF80800000 0x0080000080800000
     ∷ shows PFMAX 0xBF8000003F800000 0x3F800000BF800000 0x3F8000003F800000
-    -- both negative, and both positive; equal ones
-    ∷ shows PFMAX 0xBF800000C7000100 0xC7000000C7000000 0xBF800000C7000000
-    ∷ shows PFMAX 0x3F7FFFFF7F7FFFFF 0x3F80000046FFFE00 0x3F8000007F7FFFFF
+    -- both negative, and both positive, one exponent or two; equal ones
+    ∷ shows PFMAX 0xC7000000C7000000 0xBF800000C7000100 0xBF800000C7000000
+    ∷ shows PFMAX 0x3F7FFFFF46FFFFFF 0x3F80000046FFFE00 0x3F80000046FFFFFF
+    ∷ shows PFMAX 0x7F7FFFFFFF7FFFFF 0x46FFFFFFC6FFFFFF 0x7F7FFFFFC6FFFFFF
     ∷ shows PFMAX 0x46FFFE00C6FFFE00 0x46FFFE00C6FFFE00 0x46FFFE00C6FFFE00
     -- an unsupported half in each place
     ∷ fails PFMAX 0x0000000000000000 0x000000007F800000

@@ -1,5 +1,5 @@
--- The instructions on pairs of single-precision numbers, and those that go with them: what each leaves of its destination and its source, and where it
--- leaves nothing. Those of 000 and then those of 003, each in the manual's order.
+-- The instructions on pairs of single-precision numbers, and those that come with them: what each leaves of its destination and its source, and where
+-- it leaves nothing. Those of 000 stand before those of 003, each in the manual's order.
 use Rattle.basis.specs.Names.{ℕ, _+_, _*_, _^_, Bool, true, false, _||_}
 use Rattle.lanes.specs.Lane.{lane}
 use Rattle.lanes.specs.Operations.{PAVGB, operate}

@@ -76,5 +76,7 @@ pub fn from_words(b: u64) -> u64
 pub fn swapped(b: u64) -> u64
     ensures { λ r. ⌜ r ≡ pswapd b ⌝ }
 {
-    joined(high_half(b), low_half(b))
+    let low = low_half(b);
+    let high = high_half(b);
+    joined(high, low)
 }

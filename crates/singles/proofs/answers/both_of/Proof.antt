@@ -7,4 +7,5 @@ pub both-of-spec : {M : Type 1} → statement M
 both-of-spec =
     tie.close
     (tie.spec
-    (λ c. search joining) (λ c. search joining) (λ c κs. search joining) (λ c. search joining) (λ c. search joining) (λ c. search joining) (λ c. search joining) (λ c. search joining))
+    (λ c. search joining) (λ c. search joining) (λ c κs. search joining) (λ c. search joining) (λ c. search joining) (λ c. search joining)
+    (λ c. search joining) (λ c. search joining))

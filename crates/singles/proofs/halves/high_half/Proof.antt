@@ -1,5 +1,5 @@
 -- `halves::high_half` meets its contract: the high half is the upper lane.
-use Rattle.singles.proofs.Sorting.{sorting}
+use Rattle.singles.proofs.Sorting.{parting}
 use Rattle.singles.proofs.halves.high_half.Statement.{statement}
 use Rattle.singles.proofs.halves.high_half.Tie as tie
 
@@ -7,4 +7,4 @@ pub high-half-spec : {M : Type 1} → statement M
 high-half-spec =
     tie.close
     (tie.spec
-    (λ c. search sorting) (λ c. search sorting))
+    (λ c. search parting) (λ c. search parting))

@@ -7,6 +7,7 @@ pub greater-of-spec : {M : Type 1} → statement M
 greater-of-spec =
     tie.close
     (tie.spec
-    (λ c. search comparing) (λ c. search comparing) (λ c. search comparing) (λ c κs. search comparing) (λ c. search comparing) (λ c. search comparing)
-    (λ c. search comparing) (λ c κs. search comparing) (λ c. search comparing) (λ c κs. search comparing) (λ c. search comparing) (λ c. search comparing)
-    (λ c. search comparing) (λ c. search comparing) (λ c. search comparing) (λ c. search comparing) (λ c. search comparing) (λ c. search comparing) (λ c. search comparing))
+    (λ c. search comparing) (λ c. search comparing) (λ c. search comparing) (λ c κs. search comparing) (λ c. search comparing)
+    (λ c. search comparing) (λ c. search comparing) (λ c κs. search comparing) (λ c. search comparing) (λ c κs. search comparing)
+    (λ c. search comparing) (λ c. search comparing) (λ c. search comparing) (λ c. search comparing) (λ c. search comparing)
+    (λ c. search comparing) (λ c. search comparing) (λ c. search comparing) (λ c. search comparing))

@@ -7,6 +7,7 @@ pub maximum-of-spec : {M : Type 1} → statement M
 maximum-of-spec =
     tie.close
     (tie.spec
-    (λ c. search exceeding) (λ c. search exceeding) (λ c. search exceeding) (λ c κs. search exceeding) (λ c. search exceeding) (λ c. search exceeding)
-    (λ c. search exceeding) (λ c κs. search exceeding) (λ c. search exceeding) (λ c κs. search exceeding) (λ c. search exceeding) (λ c. search exceeding)
-    (λ c. search exceeding) (λ c. search exceeding) (λ c. search exceeding) (λ c. search exceeding) (λ c. search exceeding) (λ c. search exceeding) (λ c. search exceeding))
+    (λ c. search exceeding) (λ c. search exceeding) (λ c. search exceeding) (λ c κs. search exceeding) (λ c. search exceeding)
+    (λ c. search exceeding) (λ c. search exceeding) (λ c κs. search exceeding) (λ c. search exceeding) (λ c κs. search exceeding)
+    (λ c. search exceeding) (λ c. search exceeding) (λ c. search exceeding) (λ c. search exceeding) (λ c. search exceeding)
+    (λ c. search exceeding) (λ c. search exceeding) (λ c. search exceeding) (λ c. search exceeding))

@@ -7,4 +7,5 @@ pub word-half-spec : {M : Type 1} → statement M
 word-half-spec =
     tie.close
     (tie.spec
-    (λ c. search wording) (λ c. search wording) (λ c κs. search wording) (λ c. search wording) (λ c. search wording) (λ c. search wording) (λ c. search wording))
+    (λ c. search wording) (λ c. search wording) (λ c κs. search wording) (λ c. search wording) (λ c. search wording) (λ c. search wording)
+    (λ c. search wording))

@@ -7,5 +7,5 @@ pub single-of-spec : {M : Type 1} → statement M
 single-of-spec =
     tie.close
     (tie.spec
-    (λ c. search converting) (λ c. search converting) (λ c. search converting) (λ c. search converting) (λ c. search converting) (λ c. search converting)
-    (λ c. search converting) (λ c. search converting) (λ c. search converting))
+    (λ c. search converting) (λ c. search converting) (λ c. search converting) (λ c. search converting) (λ c. search converting)
+    (λ c. search converting) (λ c. search converting) (λ c. search converting) (λ c. search converting))

@@ -7,5 +7,5 @@ pub word-of-spec : {M : Type 1} → statement M
 word-of-spec =
     tie.close
     (tie.spec
-    (λ c κs. search rounding) (λ c. search rounding) (λ c. search rounding) (λ c. search rounding) (λ c κs. search rounding) (λ c. search rounding)
-    (λ c. search rounding) (λ c. search rounding) (λ c. search rounding))
+    (λ c κs. search rounding) (λ c. search rounding) (λ c. search rounding) (λ c. search rounding) (λ c κs. search rounding)
+    (λ c. search rounding) (λ c. search rounding) (λ c. search rounding) (λ c. search rounding))
