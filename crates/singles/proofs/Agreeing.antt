@@ -5,7 +5,7 @@ use Rattle.lanes.specs.Lane.{lane}
 use Rattle.singles.specs.Ranges.{exponent, zeroRange, normalRange, unsupportedRange, rangeOf, isNegative}
 use Rattle.singles.specs.Tables.{greaterCell, greaterHalf, maximumCell, maximumHalf, units, wholePart, wordRow, wordCell, wordHalf}
 use Rattle.singles.specs.Siblings.{both, pf2iw, pfcmpgt, pfmax}
-use Rattle.singles.specs.inner.Numbers.{sort, classOf, greater, maximum, wordOf, word}
+use Rattle.singles.specs.inner.Numbers.{sort, classOf, greater, maximum, rounded, word}
 use Rattle.singles.specs.declared.classes.Class.{Class}
 use Rattle.singles.specs.declared.classes.Class.the-variants.{Zero, Normal, Unsupported}
 use Rattle.singles.specs.declared.tables.Half.{Half}
@@ -93,8 +93,8 @@ module _ (m : ℕ) (e : ℤ) where
   abbrev d : ℕ
   d = down e
 
-  rows-of : (t : Bool) → wordOf (fin t m e) ≡ wordRow (ltb (n / d) 1) (ltb (n / d) 0x8000) t (n / d)
-  unfolding wordOf lt toUnsigned neg ofBits
+  rows-of : (t : Bool) → rounded (fin t m e) ≡ wordRow (ltb (n / d) 1) (ltb (n / d) 0x8000) t (n / d)
+  unfolding rounded lt toUnsigned neg ofBits
   rows-of false =
       let positive : 0 < 1 * d + n * 1 = omega (arith, down-pos e) in
       rw (lt-ltb 0 (1 * d + n * 1) positive, cut n d 0x8000 (down-pos e)) (upper-rows (n / d))
@@ -102,7 +102,7 @@ module _ (m : ℕ) (e : ℤ) where
       let negative : 0 < n * 1 + 0x8000 * d = omega (arith, down-pos e) in
       rw (cut n d 1 (down-pos e), lt-ltb 0 (n * 1 + 0x8000 * d) negative, cut n d 0x8000 (down-pos e)) (lower-rows (n / d))
 
-rows : (x : Float) (s : Bool) (a c : ℕ) → 0 < c → HasValue x s a c → wordOf x ≡ wordRow (ltb (a / c) 1) (ltb (a / c) 0x8000) s (a / c)
+rows : (x : Float) (s : Bool) (a c : ℕ) → 0 < c → HasValue x s a c → rounded x ≡ wordRow (ltb (a / c) 1) (ltb (a / c) 0x8000) s (a / c)
 rows nan s a c C p = absurd p
 rows (inf t) s a c C p = absurd p
 rows (fin t m e) s a c C p = rw (← div-same (m * up e) (down e) a c (down-pos e) C (p .1), ← p .0) (rows-of m e t)
@@ -122,22 +122,22 @@ pub class-is : (i a n : ℕ) (number : Float) (x : Class) → n ≡ lane 32 i a 
 unfolding classOf
 class-is i a n number x p q h = h ∙ ap₂ sort p q
 
-module _ (a b : ℕ) (r : Answer) (low high : Half) (is : r ≡ both low high) where
-  pub pfcmpgt-is : (x y u v : Class) → low ≡ greater x y → high ≡ greater u v → x ≡ classOf (lane 32 0 a) → y ≡ classOf (lane 32 0 b)
-      → u ≡ classOf (lane 32 1 a) → v ≡ classOf (lane 32 1 b) → r ≡ pfcmpgt a b
+module _ (r : Answer) (low high : Half) (is : r ≡ both low high) where
+  pub pf2iw-is : (b : ℕ) (x u : Class) → low ≡ word x → high ≡ word u → x ≡ classOf (lane 32 0 b) → u ≡ classOf (lane 32 1 b) → r ≡ pf2iw b
+  unfolding pf2iw
+  pf2iw-is b x u l h xs us = is ∙ ap₂ both (l ∙ ap word xs ∙ word-is _) (h ∙ ap word us ∙ word-is _)
+
+  pub pfcmpgt-is : (a b : ℕ) (x y u v : Class) → low ≡ greater x y → high ≡ greater u v
+      → x ≡ classOf (lane 32 0 a) → y ≡ classOf (lane 32 0 b) → u ≡ classOf (lane 32 1 a) → v ≡ classOf (lane 32 1 b) → r ≡ pfcmpgt a b
   unfolding pfcmpgt
-  pfcmpgt-is x y u v l h xs ys us vs =
+  pfcmpgt-is a b x y u v l h xs ys us vs =
       is ∙ ap₂ both (l ∙ ap₂ greater xs ys ∙ greater-is _ _) (h ∙ ap₂ greater us vs ∙ greater-is _ _)
 
-  pub pf2iw-is : (x u : Class) → low ≡ word x → high ≡ word u → x ≡ classOf (lane 32 0 a) → u ≡ classOf (lane 32 1 a) → r ≡ pf2iw a
-  unfolding pf2iw
-  pf2iw-is x u l h xs us = is ∙ ap₂ both (l ∙ ap word xs ∙ word-is _) (h ∙ ap word us ∙ word-is _)
-
-  pub pfmax-is : (n k i j : ℕ) (x y u v : Class) → low ≡ maximum n k x y → high ≡ maximum i j u v
+  pub pfmax-is : (a b n k i j : ℕ) (x y u v : Class) → low ≡ maximum n k x y → high ≡ maximum i j u v
       → n ≡ lane 32 0 a → k ≡ lane 32 0 b → i ≡ lane 32 1 a → j ≡ lane 32 1 b
       → x ≡ classOf (lane 32 0 a) → y ≡ classOf (lane 32 0 b) → u ≡ classOf (lane 32 1 a) → v ≡ classOf (lane 32 1 b) → r ≡ pfmax a b
   unfolding pfmax
-  pfmax-is n k i j x y u v l h ns ks is′ js xs ys us vs =
+  pfmax-is a b n k i j x y u v l h ns ks is′ js xs ys us vs =
       is ∙ ap₂ both (l ∙ rw (ns, ks, xs, ys) (maximum-is _ _)) (h ∙ rw (is′, js, us, vs) (maximum-is _ _))
 
-pub ruleset agreeing = (needs, class-is, pfcmpgt-is, pfmax-is, pf2iw-is)
+pub ruleset agreeing = (needs, class-is, pf2iw-is, pfcmpgt-is, pfmax-is)

@@ -2,7 +2,7 @@
 use Rattle.basis.specs.Names.{_≡_, refl, ℕ, Bool, true, false, cond, Float, lt}
 use Rattle.basis.proofs.Names.{needs}
 use Rattle.singles.specs.Siblings.{join, both}
-use Rattle.singles.specs.inner.Numbers.{plusZero, greater, maximum, wordOf, word}
+use Rattle.singles.specs.inner.Numbers.{plusZero, greater, maximum, rounded, word}
 use Rattle.singles.specs.declared.classes.Class.{Class}
 use Rattle.singles.specs.declared.classes.Class.the-variants.{Zero, Normal, Unsupported}
 use Rattle.singles.specs.declared.tables.Half.{Half}
@@ -83,7 +83,7 @@ pub word-zero : {x : Class} → x ≡ Zero → Made 0 ≡ word x
 unfolding word
 word-zero p = rw p
 
-pub word-normal : {x : Class} {u : Float} (n : ℕ) → x ≡ Normal u → n ≡ wordOf u → Made n ≡ word x
+pub word-normal : {x : Class} {u : Float} (n : ℕ) → x ≡ Normal u → n ≡ rounded u → Made n ≡ word x
 unfolding word
 word-normal n p h = rw (p, h)
 

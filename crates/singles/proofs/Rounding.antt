@@ -5,7 +5,7 @@ use Rattle.basis.proofs.Names.{sym, ap, _∙_, subst, arith, needs, T, dite, de
 use Rattle.lanes.specs.Signed.{signed}
 use Rattle.lanes.proofs.Integers.{is-lt}
 use Rattle.singles.specs.Tables.{singleOf}
-use Rattle.singles.specs.inner.Numbers.{minusOne, upperEnd, lowerEnd, wordOf}
+use Rattle.singles.specs.inner.Numbers.{minusOne, upperEnd, lowerEnd, rounded}
 
 -- a fraction is below a whole number where its whole part is
 pub cut : (a d k : ℕ) → 0 < d → ltb (a * 1) (k * d) ≡ ltb (a / d) k
@@ -68,12 +68,12 @@ module _ (x : Float) where
       pub upper-fits : (r : ℕ) → r ≡ toUnsigned 64 x → r < 2 ^ 32
       upper-fits r is = omega (arith, upper x over under .short)
 
-      pub upper-word : (r : ℕ) → r ≡ toUnsigned 64 x → r ≡ wordOf x
-      unfolding wordOf
+      pub upper-word : (r : ℕ) → r ≡ toUnsigned 64 x → r ≡ rounded x
+      unfolding rounded
       upper-word r is = rw (over, under) is
 
-    pub word-greatest : lt x upperEnd ≡ false → 0x7FFF ≡ wordOf x
-    unfolding wordOf
+    pub word-greatest : lt x upperEnd ≡ false → 0x7FFF ≡ rounded x
+    unfolding rounded
     word-greatest under = rw (over, under)
 
   module _ (under : lt minusOne x ≡ false) where
@@ -90,12 +90,12 @@ module _ (x : Float) where
       pub lower-fits : (r : ℕ) → r ≡ toUnsigned 64 (neg x) → 2 ^ 32 - r < 2 ^ 32
       lower-fits r is = omega (arith, lower x under over .1)
 
-      pub lower-word : (r : ℕ) → r ≡ toUnsigned 64 (neg x) → 2 ^ 32 - r ≡ wordOf x
-      unfolding wordOf
+      pub lower-word : (r : ℕ) → r ≡ toUnsigned 64 (neg x) → 2 ^ 32 - r ≡ rounded x
+      unfolding rounded
       lower-word r is = rw (under, over, is)
 
-    pub word-least : lt lowerEnd x ≡ false → 0xFFFF_8000 ≡ wordOf x
-    unfolding wordOf
+    pub word-least : lt lowerEnd x ≡ false → 0xFFFF_8000 ≡ rounded x
+    unfolding rounded
     word-least over = rw (under, over)
 
 pub ruleset upward = (upper-above, upper-below, upper-fits, upper-word, word-greatest)
@@ -105,7 +105,7 @@ pub ruleset downward = (lower-above, lower-below, lower-le, lower-fits, lower-wo
 pub ruleset rounding = (needs, upward, downward)
 
 -- a number of a value is no NaN, and its negative has that value with the other sign
-pub no-nan : (x : Float) (s : Bool) (a c : ℕ) → HasValue x s a c → T (not (isNan x))
+no-nan : (x : Float) (s : Bool) (a c : ℕ) → HasValue x s a c → T (not (isNan x))
 unfolding isNan
 no-nan nan s a c p = absurd p
 no-nan (inf t) s a c p = tt

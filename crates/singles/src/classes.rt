@@ -8,13 +8,13 @@ pub enum Class {
     Unsupported,
 }
 
-// The lowest half with the sign bit.
+// What the sign bit weighs.
 pub(crate) const SIGN: u32 = 0x8000_0000;
 
-// Without their signs, the halves whose exponent is FF begin with infinity, and those above it are the NaNs.
+// Infinity without its sign: the first of the halves whose exponent is FF. Those above it are the NaNs.
 pub(crate) const INFINITY: u32 = 0x7F80_0000;
 
-// And the halves below this one are those whose exponent is 00.
+// Below this one, without their signs, are the halves whose exponent is 00.
 const LEAST_NORMAL: u32 = 0x80_0000;
 
 // A half is sorted by its exponent; a normal one carries the number that it stands for.

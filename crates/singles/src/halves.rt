@@ -6,7 +6,7 @@ use crate::classes::INFINITY;
 use crate::classes::SIGN;
 
 // How many values a half has.
-const HALF_RANGE: u64 = 0x1_0000_0000;
+pub(crate) const HALF_RANGE: u64 = 0x1_0000_0000;
 
 pub(crate) fn low_half(register: u64) -> u32
     ensures { λ r. ⌜ r ≡ lane 32 0 register ⌝ }

@@ -16,12 +16,12 @@ use halves::low_half;
 pub use tables::Half;
 use tables::greater_of;
 use tables::maximum_of;
-use tables::word_half;
+use tables::word_of;
 use words::single_of;
 ghost use Rattle.basis.specs.Names.{_≡_};
 ghost use Rattle.singles.specs.Siblings.{pf2iw, pi2fw, pswapd, pfcmpgt, pfmax};
 
-// PFMAX.
+// PFMAX, of a destination and a source.
 pub fn maximum(a: u64, b: u64) -> Answer
     ensures { λ r. ⌜ r ≡ pfmax a b ⌝ }
 {
@@ -41,7 +41,7 @@ pub fn maximum(a: u64, b: u64) -> Answer
     both_of(low, high)
 }
 
-// PFCMPGT.
+// PFCMPGT, of a destination and a source.
 pub fn greater(a: u64, b: u64) -> Answer
     ensures { λ r. ⌜ r ≡ pfcmpgt a b ⌝ }
 {
@@ -55,24 +55,24 @@ pub fn greater(a: u64, b: u64) -> Answer
     both_of(low, high)
 }
 
-// PF2IW.
+// PF2IW, of a source.
 pub fn to_words(b: u64) -> Answer
     ensures { λ r. ⌜ r ≡ pf2iw b ⌝ }
 {
     let x = Singles::of(b);
-    let low = word_half(class_of(low_half(b), x.low));
-    let high = word_half(class_of(high_half(b), x.high));
+    let low = word_of(class_of(low_half(b), x.low));
+    let high = word_of(class_of(high_half(b), x.high));
     both_of(low, high)
 }
 
-// PI2FW.
+// PI2FW, of a source.
 pub fn from_words(b: u64) -> u64
     ensures { λ r. ⌜ r ≡ pi2fw b ⌝ }
 {
     joined(single_of(low_half(b)), single_of(high_half(b)))
 }
 
-// PSWAPD.
+// PSWAPD, of a source.
 pub fn swapped(b: u64) -> u64
     ensures { λ r. ⌜ r ≡ pswapd b ⌝ }
 {

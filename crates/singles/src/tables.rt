@@ -3,7 +3,7 @@ ghost use Rattle.basis.specs.Names.{_≡_, cond};
 ghost use Rattle.singles.specs.declared.tables.Half.the-variants.{Made};
 ghost use Rattle.singles.specs.inner.Numbers.{greater, maximum, word};
 use crate::classes::Class;
-use crate::words::word_of;
+use crate::words::rounded;
 
 // What a table gives for a half.
 pub enum Half {
@@ -67,12 +67,12 @@ pub(crate) fn maximum_of(a: u32, b: u32, x: Class, y: Class) -> Half
 }
 
 // 000, Table 3.
-pub(crate) fn word_half(x: Class) -> Half
+pub(crate) fn word_of(x: Class) -> Half
     ensures { λ r. ⌜ r ≡ word x ⌝ }
 {
     match x {
         Class::Zero => Half::Made(ZEROS),
-        Class::Normal(u) => Half::Made(word_of(u)),
+        Class::Normal(u) => Half::Made(rounded(u)),
         Class::Unsupported => Half::Undefined,
     }
 }

@@ -1,9 +1,10 @@
 // Single-precision numbers to signed words, and signed words to single-precision numbers.
 ghost use Rattle.basis.specs.Names.{_≡_};
 ghost use Rattle.singles.specs.Tables.{singleOf};
-ghost use Rattle.singles.specs.inner.Numbers.{wordOf};
+ghost use Rattle.singles.specs.inner.Numbers.{rounded};
+use crate::halves::HALF_RANGE;
 
-// From here on upward, and from here on downward, a number is past the signed words.
+// From the first on upward, and from the second on downward, a number is past the signed words.
 const UPPER_END: f32 = 32768.0;
 
 const LOWER_END: f32 = -32768.0;
@@ -13,19 +14,17 @@ const GREATEST: u32 = 0x7FFF;
 
 const LEAST: u32 = 0xFFFF_8000;
 
-// A number above this one is 0 or positive without its fraction.
+// Above this one, a number without its fraction is 0 or positive.
 const MINUS_ONE: f32 = -1.0;
 
-// How many values a doubleword and a word have, and the least word that is negative.
-const DOUBLEWORD_RANGE: u64 = 0x1_0000_0000;
-
+// How many values a word has, and the least word that is negative.
 const WORD_RANGE: u32 = 0x1_0000;
 
 const NEGATIVE: u32 = 0x8000;
 
-// A number without its fraction, within the signed words, sign-extended.
-pub(crate) fn word_of(number: f32) -> u32
-    ensures { λ r. ⌜ r ≡ wordOf number ⌝ }
+// A number rounded to zero, or past the signed words the nearest of them; sign-extended.
+pub(crate) fn rounded(number: f32) -> u32
+    ensures { λ r. ⌜ r ≡ rounded number ⌝ }
 {
     if number > MINUS_ONE {
         if number < UPPER_END {
@@ -34,7 +33,7 @@ pub(crate) fn word_of(number: f32) -> u32
         return GREATEST;
     }
     if number > LOWER_END {
-        return (DOUBLEWORD_RANGE - std::num::truncating_f32_to_u64(-number)) as u32;
+        return (HALF_RANGE - std::num::truncating_f32_to_u64(-number)) as u32;
     }
     LEAST
 }

@@ -46,12 +46,12 @@ maximum a b (Normal x) (Normal y) = Made (cond (lt y x) a b)
 maximum a b (Normal x) Unsupported = Undefined
 maximum a b Unsupported y = Undefined
 
--- 000, Table 3
-unfoldable pub wordOf : Float → ℕ
-wordOf x =
+-- 000, Table 3: the rows of a normal number, and all rows
+unfoldable pub rounded : Float → ℕ
+rounded x =
     cond (lt minusOne x) (cond (lt x upperEnd) (toUnsigned 64 x) 0x7FFF) (cond (lt lowerEnd x) (2 ^ 32 - toUnsigned 64 (neg x)) 0xFFFF_8000)
 
 unfoldable pub word : Class → Half
 word Zero = Made 0
-word (Normal x) = Made (wordOf x)
+word (Normal x) = Made (rounded x)
 word Unsupported = Undefined
