@@ -2,9 +2,10 @@
 import pagefile
 from edges import EDGES
 from emulator import CODE, Emulator, instruction_at
-from opcodes import EMMS, MODRMS, MOVD_STORE, PEXTRW, PMOVMSKB, PREFETCH, SECOND_BYTES, SECOND_BYTES_004, SHIFTS, WITH_IMMEDIATE, shift
+from opcodes import (EMMS, MODRMS, MOVD_STORE, PEXTRW, PMOVMSKB, PREFETCH, SECOND_BYTES, SECOND_BYTES_004, SHIFTS, SIBLING, SUFFIXES, WITH_IMMEDIATE,
+                     shift)
 from pagefile import Page
-from rules import LONGEST_CODE, operand_refusal
+from rules import LONGEST_CODE, memory_refusal, step
 
 WILD = [1, 8, 0x7FFFFFFF, 0x80000000, 0x40000000, 0xFFFF8000, 0xFFFFFFF8, 0xFFFFFFFC, 0xFFFFFFFF]
 SIZES = [8, 9, 15, 16, 17, 31, 64, 100, 256, 300]
@@ -60,8 +61,8 @@ def some_instruction(dice, integers, length, seconds):
     if second in (PEXTRW, PMOVMSKB) and dice.roll(4):
         modrm = 0xC0 | ESI << 3 | modrm & 7
     target = dice.roll(2 ** 32 if second == PREFETCH else max(1, length - 7))
-    immediate = dice.some_bytes(second in WITH_IMMEDIATE)
-    return bytes([0x0F, second, modrm]) + operand(dice, modrm, integers, target) + immediate
+    last = bytes([dice.choice(list(SUFFIXES.values()))]) if second == SIBLING else dice.some_bytes(second in WITH_IMMEDIATE)
+    return bytes([0x0F, second, modrm]) + operand(dice, modrm, integers, target) + last
 
 
 class Block:
@@ -71,13 +72,13 @@ class Block:
         self.page, self.emulator, self.count = page, Emulator(page), 0
 
     def add(self, code):
-        """Adds an instruction and says so, or leaves it out where its operand would be refused."""
+        """Adds an instruction and says so, or leaves it out where its operands would be refused."""
         instruction = instruction_at(code)
-        if operand_refusal(self.emulator, instruction):
+        if memory_refusal(self.emulator, instruction):
             return False
         at = len(self.page.code)
         self.emulator.uc.mem_write(CODE + at, code)
-        self.emulator.step(at, instruction)
+        step(self.emulator, at, instruction)
         self.page.code += code
         self.count += 1
         return True

@@ -14,10 +14,14 @@ HEADINGS = set('''
     PSADBW PSHUFW SFENCE'''.lower().split())
 assert len(HEADINGS) == 47 + 19
 
+# Req 10's six, coded 0F 0F. The suffix, their last byte, is no operand to capstone.
+SIBLINGS = set('PI2FW PF2IW PFMAX PFCMPGT PSWAPD PAVGUSB'.lower().split())
+
 # Req 07's four, by capstone's names, and the first bytes that they are bought with; of ADD's forms the one of a register.
 LOOPS = {'mov': range(0xB8, 0xC0), 'add': (0x83,), 'dec': range(0x48, 0x50), 'jne': (0x75,)}
 
 INTEGERS = 'eax ecx edx ebx esp ebp esi edi'.split()
+MMX = [f'mm{k}' for k in range(8)]
 INTEGER_NUMBERS = [getattr(registers, 'UC_X86_REG_' + name.upper()) for name in INTEGERS]
 
 # The lent memory is at 0, the code and a place for LEA far above it. Unicorn reads eight bytes for an operand of four, so there is
@@ -33,12 +37,12 @@ disassembler.detail = True
 
 
 def instruction_at(code):
-    """The instruction that these bytes start with, or None where they start with none of the manuals' and of the loops'."""
+    """The instruction that these bytes start with, or None where they start with none of the manuals', the loops' and the siblings'."""
     found = next(disassembler.disasm(bytes(code[:LONGEST_INSTRUCTION]), 0, 1), None)
     if found is None:
         return None
     if code[0] == 0x0F:
-        return found if found.mnemonic in HEADINGS else None
+        return found if found.mnemonic in HEADINGS or found.mnemonic in SIBLINGS else None
     return found if code[0] in LOOPS.get(found.mnemonic, ()) and memory_operand(found) is None else None
 
 
@@ -56,23 +60,28 @@ def ends(at, instruction):
 
 
 def immediate_size(instruction):
-    return sum(operand.type == CS_OP_IMM for operand in instruction.operands)
+    """How many bytes stand behind the operand bytes: an immediate, or a suffix, or none."""
+    return sum(operand.type == CS_OP_IMM for operand in instruction.operands) + (instruction.mnemonic in SIBLINGS)
 
 
 class Emulator:
     def __init__(self, page):
         self.length = len(page.memory)
         self.uc = Uc(UC_ARCH_X86, UC_MODE_32)
+        self.uc.ctl_set_cpu_model(registers.UC_CPU_X86_ATHLON)  # which has the siblings
         self.uc.mem_map(0, ROOM)
         self.uc.mem_map(CODE - BESIDE, 0x3000)
         self.uc.mem_map(LEA, 0x1000)
         self.uc.mem_write(0, page.memory + FILL * (ROOM - self.length))
         self.uc.mem_write(CODE, page.code)
         for k in range(8):
-            self.uc.reg_write(registers.UC_X86_REG_FP0 + k, (page.mmx[k], 0xFFFF))  # MMk is the low part of the register FPk
+            self.put(k, page.mmx[k])
             self.uc.reg_write(INTEGER_NUMBERS[k], page.integers[k])
         self.uc.reg_write(registers.UC_X86_REG_FPTAG, 0 if page.marks & VALID else 0xFFFF)
         self.uc.reg_write(registers.UC_X86_REG_EFLAGS, ALWAYS_SET | (ZERO_FLAG if page.marks & ZERO else 0))
+
+    def put(self, k, number):
+        self.uc.reg_write(registers.UC_X86_REG_FP0 + k, (number, 0xFFFF))  # MMk is the low part of the register FPk
 
     def mmx(self):
         return tuple(self.uc.reg_read(registers.UC_X86_REG_FP0 + k)[0] for k in range(8))
@@ -82,6 +91,19 @@ class Emulator:
 
     def memory(self):
         return bytes(self.uc.mem_read(0, self.length))
+
+    def place(self, instruction, operand):
+        """Where an operand of eight bytes is: the name of its register, or its address."""
+        return self.address(instruction) if operand.type == CS_OP_MEM else instruction.reg_name(operand.reg)
+
+    def number_at(self, place):
+        return self.mmx()[MMX.index(place)] if place in MMX else int.from_bytes(self.uc.mem_read(place, 8), 'little')
+
+    def put_at(self, place, number):
+        if place in MMX:
+            self.put(MMX.index(place), number)
+        else:
+            self.uc.mem_write(place, number.to_bytes(8, 'little'))
 
     def is_valid(self):
         tags = {self.uc.reg_read(registers.UC_X86_REG_FPTAG) >> 2 * k & 3 for k in range(8)}

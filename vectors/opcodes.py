@@ -37,6 +37,10 @@ OTHERS = (MASKMOVQ, MOVNTQ, PEXTRW, PINSRW, PMOVMSKB, PREFETCH, PSHUFW, SFENCE) 
 PREFETCHES = ('PREFETCHNTA', 'PREFETCHT0', 'PREFETCHT1', 'PREFETCHT2')
 OF_SFENCE = bytes([0x0F, SFENCE, 0xF8])
 
+# The siblings: their second byte, and the suffix of each, which stands behind the operand bytes.
+SIBLING = 0x0F
+SUFFIXES = {'PI2FW': 0x0C, 'PF2IW': 0x1C, 'PFCMPGT': 0xA0, 'PFMAX': 0xA4, 'PSWAPD': 0xBB, 'PAVGUSB': 0xBF}
+
 # The first bytes of loops. MOVE and DECREMENT name a register in their low bits.
 MOVE, ADD, DECREMENT, JUMP = 0xB8, 0x83, 0x48, 0x75
 FIRST_BYTES = [*range(MOVE, MOVE + 8), ADD, *range(DECREMENT, DECREMENT + 8), JUMP]
@@ -45,20 +49,22 @@ WITH_OPERAND = [second for second, _, _ in PACKED_004] + list(MOVES)
 SECOND_BYTES_004 = WITH_OPERAND + [0x71, 0x72, 0x73, EMMS]
 SECOND_BYTES_000 = [second for second, _, _ in PACKED_000] + list(OTHERS)
 SECOND_BYTES = SECOND_BYTES_004 + SECOND_BYTES_000
-assert len(SECOND_BYTES_004) == 52 and len(set(SECOND_BYTES)) == 68
+WITH_SIBLINGS = SECOND_BYTES + [SIBLING]
+assert len(SECOND_BYTES_004) == 52 and len(set(SECOND_BYTES)) == 68 and len(set(WITH_SIBLINGS)) == 69
 
 
 def first_forms(second):
-    """A second byte with each ModRM byte that it has, as capstone knows them; any bytes follow."""
-    read = {modrm: instruction_at(bytes([0x0F, second, modrm]) + bytes(12)) for modrm in range(256)}
+    """A second byte with each ModRM byte that it has, as capstone knows them; any bytes follow, or any with a suffix."""
+    following = bytes([SUFFIXES['PFMAX'] if second == SIBLING else 0]) * 12
+    read = {modrm: instruction_at(bytes([0x0F, second, modrm]) + following) for modrm in range(256)}
     return {modrm: found for modrm, found in read.items() if found}
 
 
-# The ModRM bytes of each second byte, and the second bytes with an immediate byte at the end.
-FORMS = {second: first_forms(second) for second in SECOND_BYTES if second != EMMS}
+# The ModRM bytes of each second byte, and the second bytes with an immediate byte, or a suffix, at the end.
+FORMS = {second: first_forms(second) for second in WITH_SIBLINGS if second != EMMS}
 MODRMS = {second: list(forms) for second, forms in FORMS.items()}
 WITH_IMMEDIATE = {second for second, forms in FORMS.items() if any(map(immediate_size, forms.values()))}
-assert WITH_IMMEDIATE == {0x71, 0x72, 0x73, PEXTRW, PINSRW, PSHUFW}
+assert WITH_IMMEDIATE == {0x71, 0x72, 0x73, PEXTRW, PINSRW, PSHUFW, SIBLING}
 
 
 def registers(second, reg, rm):
@@ -74,6 +80,19 @@ def at_address(second, reg, address):
 def shift(name, rm, count):
     second, digit = SHIFTS[name]
     return bytes([0x0F, second, 0xC0 | digit << 3 | rm, count])
+
+
+def sibling(name, *operand):
+    """A sibling with these operand bytes."""
+    return bytes([0x0F, SIBLING, *operand, SUFFIXES[name]])
+
+
+def sibling_registers(name, reg, rm):
+    return sibling(name, *registers(SIBLING, reg, rm)[2:])
+
+
+def sibling_at(name, reg, address):
+    return sibling(name, *at_address(SIBLING, reg, address)[2:])
 
 
 def move(register, number):
@@ -97,6 +116,8 @@ for _second, _name, _ in PACKED:
     assert instruction_at(registers(_second, 0, 1)).mnemonic == _name.lower()
 for _name in SHIFTS:
     assert instruction_at(shift(_name, 0, 1)).mnemonic == _name.lower()
+for _name in SUFFIXES:
+    assert instruction_at(sibling_registers(_name, 0, 1)).mnemonic == instruction_at(sibling_at(_name, 0, 0)).mnemonic == _name.lower()
 for _digit, _name in enumerate(PREFETCHES):
     assert instruction_at(at_address(PREFETCH, _digit, 0)).mnemonic == _name.lower()
 for _register in range(8):

@@ -10,9 +10,15 @@ SILENT = ('prefetchnta', 'prefetcht0', 'prefetcht1', 'prefetcht2', 'sfence')
 EDI = INTEGERS.index('edi')
 STACK = ('esp', 'ebp')  # the base registers of an operand whose miss is 14
 
+# The operands that are read as pairs of single-precision numbers: PF2IW's source, and both of PFMAX's and PFCMPGT's. A half is sorted by its exponent
+# alone (003's Table 1).
+PAIRS = {'pf2iw': slice(1, 2), 'pfmax': slice(0, 2), 'pfcmpgt': slice(0, 2)}
+HALF, EXPONENT = 32, 0x7F800000
+
 # With one of these behind it, what can be completed to an instruction is one: EMMS; a register form, a listed digit of 71 to 73,
-# or any SIB byte, displacement and immediate; a memory form; SFENCE; the register form of 83.
-COMPLETIONS = (b'\x77', b'\xD0' * 12, bytes(12), b'\xF8', b'\xC0\x00')
+# or any SIB byte, displacement and immediate; a memory form; SFENCE; the register form of 83; PI2FW's suffix, with any operand bytes.
+COMPLETIONS = (b'\x77', b'\xD0' * 12, bytes(12), b'\xF8', b'\xC0\x00', b'\x0C' * 12)
+OF_SIBLINGS = b'\x0F\x0F'  # with any operand bytes: what is not listed of theirs is a suffix
 
 
 def is_start(code):
@@ -29,7 +35,7 @@ def reading_refusal(rest):
     if is_start(rest):
         return 3
     opcode = rest[:2] if rest[0] == 0x0F else rest[:1]
-    return 6 if is_start(opcode) else 5
+    return 6 if is_start(opcode) and opcode != OF_SIBLINGS else 5
 
 
 def mark_refusal(marks, instruction):
@@ -53,6 +59,45 @@ def operand_refusal(emulator, instruction):
     return 14 if base in STACK else 10
 
 
+def pairs(emulator, instruction):
+    """Where the pairs are that an instruction reads."""
+    return [emulator.place(instruction, operand) for operand in instruction.operands[PAIRS.get(instruction.mnemonic, slice(0))]]
+
+
+def halves(number):
+    return number % 2 ** HALF, number >> HALF
+
+
+def half_refusal(emulator, instruction):
+    """22."""
+    numbers = map(emulator.number_at, pairs(emulator, instruction))
+    return 22 if any(half & EXPONENT == EXPONENT for number in numbers for half in halves(number)) else None
+
+
+def memory_refusal(emulator, instruction):
+    """10 or 14, and then 22."""
+    return operand_refusal(emulator, instruction) or half_refusal(emulator, instruction)
+
+
+def zeroed(number):
+    """A pair with +0 for each half with the exponent 00."""
+    return sum(half << HALF * k for k, half in enumerate(halves(number)) if half & EXPONENT)
+
+
+def step(emulator, at, instruction):
+    """Runs an instruction that nothing refuses, and hands back the next position. A half with the exponent 00 is zero, whatever its sign and fraction
+    are, and PFMAX never leaves it but as +0 (003's Tables 1, 10 and 11); Unicorn has a -0, and numbers below the normal ones. So it is shown +0 in
+    the place of such a half, and the source is put back as it stood."""
+    places = pairs(emulator, instruction)
+    before = [emulator.number_at(place) for place in places]
+    for place, number in zip(places, before):
+        emulator.put_at(place, zeroed(number))
+    end = emulator.step(at, instruction)
+    if places and places[-1] != instruction.reg_name(instruction.operands[0].reg):
+        emulator.put_at(places[-1], before[-1])
+    return end
+
+
 def run(page, watch=None):
     """The run's answer, its count and its position, and the emulator as the run leaves it. `watch` is shown each completed step: the instruction, and
     how far from its start the next one is."""
@@ -66,10 +111,10 @@ def run(page, watch=None):
         if instruction is None:
             refusal = reading_refusal(rest)
         else:
-            refusal = mark_refusal(page.marks, instruction) or operand_refusal(emulator, instruction)
+            refusal = mark_refusal(page.marks, instruction) or memory_refusal(emulator, instruction)
         if refusal:
             return f'refused {refusal}', count, at, emulator
-        end = emulator.step(at, instruction)
+        end = step(emulator, at, instruction)
         if not 0 <= end <= len(page.code):
             return 'refused 19', count, at, emulator
         if watch:
