@@ -4,6 +4,7 @@ use crate::DEC;
 use crate::ESCAPE;
 use crate::FILL;
 use crate::ROOM;
+use crate::siblings::SIBLING;
 use codec::Instruction;
 use codec::Operand;
 use codec::Reading;
@@ -29,6 +30,11 @@ const PSHUFW: u8 = 0x70;
 const OF_SFENCE: u8 = 0xae;
 
 const FENCE_DIGIT: u8 = 7;
+
+// A suffix, and one that is not listed.
+const PFMAX: u8 = 0xa4;
+
+const PFMUL: u8 = 0xb4;
 
 // A line of a name and a number.
 pub(crate) fn print(name: &[u8], n: u64) {
@@ -112,6 +118,26 @@ fn print_prefixes() {
     io::write_all(STDOUT_FILENO, b"\n");
 }
 
+// A suffix that is listed.
+fn is_suffix(suffix: u8) -> bool {
+    match codec::read(&[ESCAPE, SIBLING, 0xc1, suffix], 0) {
+        Reading::Read(_, _) => true,
+        Reading::Refused(_) => false,
+    }
+}
+
+// The suffixes among all 256 bytes, in hex.
+fn print_suffixes() {
+    io::write_all(STDOUT_FILENO, b"suffixes");
+    for suffix in 0u8..=255 {
+        if is_suffix(suffix) {
+            io::write_all(STDOUT_FILENO, b" ");
+            io::print_hex(STDOUT_FILENO, suffix as u64, DIGITS);
+        }
+    }
+    io::write_all(STDOUT_FILENO, b"\n");
+}
+
 fn print_shifts() {
     print_reading(b"0F 71 C0 01 is", &[ESCAPE, 0x71, 0xc0, 0x01]);
     print_reading(b"0F 71 00 is", &[ESCAPE, 0x71, 0x00]);
@@ -170,6 +196,25 @@ fn print_escaped() {
     print_reading(b"0F 83 is", &[ESCAPE, ADD]);
 }
 
+// Siblings without a suffix, and with one that is not listed, behind each sort of operand bytes; and the second bytes beside theirs.
+fn print_siblings() {
+    print_reading(b"0F 0F is", &[ESCAPE, SIBLING]);
+    print_reading(b"0F 0F C0 is", &[ESCAPE, SIBLING, 0xc0]);
+    print_reading(b"0F 0F C0 B4 is", &[ESCAPE, SIBLING, 0xc0, PFMUL]);
+    print_reading(b"0F 0F C0 A4 is", &[ESCAPE, SIBLING, 0xc0, PFMAX]);
+    print_reading(b"0F 0F 04 is", &[ESCAPE, SIBLING, 0x04]);
+    print_reading(b"0F 0F 04 A4 is", &[ESCAPE, SIBLING, 0x04, PFMAX]);
+    print_reading(b"0F 0D is", &[ESCAPE, 0x0d]);
+    print_reading(b"0F 0E is", &[ESCAPE, 0x0e]);
+}
+
+// A displacement that is a suffix, before one that is listed or not, or before none; and the other way round.
+fn print_displacements() {
+    print_reading(b"0F 0F 40 A4 is", &[ESCAPE, SIBLING, 0x40, PFMAX]);
+    print_reading(b"0F 0F 40 A4 B4 is", &[ESCAPE, SIBLING, 0x40, PFMAX, PFMUL]);
+    print_reading(b"0F 0F 40 B4 A4 is", &[ESCAPE, SIBLING, 0x40, PFMUL, PFMAX]);
+}
+
 fn print_lengths() {
     print_reading(b"no byte is", &[]);
     print_reading(b"4097 bytes is", &[ESCAPE; LONGEST_CODE + 1]);
@@ -201,6 +246,29 @@ fn print_written_fences() {
         &mut buffer,
     );
     print_writing(b"SFENCE with digit 5 is", OF_SFENCE, 5, 0, 0, &mut buffer);
+}
+
+fn print_written_siblings() {
+    let mut buffer = [FILL; ROOM];
+    print_writing(b"PFMAX is", SIBLING, 0, 7, 0xa4, &mut buffer);
+    print_writing(b"0F 0F with B4 is", SIBLING, 0, 7, 0xb4, &mut buffer);
+    print_writing(b"0F 0F with 1A4 is", SIBLING, 0, 7, 0x1a4, &mut buffer);
+    print_writing(
+        b"PFMAX with register 8 is",
+        SIBLING,
+        0,
+        8,
+        0xa4,
+        &mut buffer,
+    );
+    print_writing(
+        b"PFMAX in 3 bytes is",
+        SIBLING,
+        0,
+        7,
+        0xa4,
+        &mut buffer[0..3],
+    );
 }
 
 fn print_written_loops() {
@@ -254,6 +322,7 @@ fn print_short_loops() {
 // All of them.
 pub(crate) fn print_edges() {
     print_prefixes();
+    print_suffixes();
     print_shifts();
     print_forms();
     print_prefetches();
@@ -262,10 +331,13 @@ pub(crate) fn print_edges() {
     print_loops();
     print_additions();
     print_escaped();
+    print_siblings();
+    print_displacements();
     print_lengths();
     print_writings();
     print_immediates();
     print_written_fences();
+    print_written_siblings();
     print_written_loops();
     print_written_decrements();
     print_short_loops();

@@ -1,5 +1,7 @@
-// Every encoding of the table, and of loops, read and written back: their number, the differences and the sum of the lengths. Then the edges of both.
+// Every encoding of the table, of loops and of siblings, read and written back: their number, the differences and the sum of the lengths. Then the edges
+// of reading and writing.
 mod edges;
+mod siblings;
 
 use codec::Instruction;
 use codec::Reading;
@@ -27,24 +29,29 @@ pub(crate) const ADD: u8 = 0x83;
 const OF_REGISTERS: u8 = 8;
 
 // The ModRM bytes from here on have mod 11.
-const REGISTERS: u8 = 0xc0;
+pub(crate) const REGISTERS: u8 = 0xc0;
 
 // Where the SIB byte stands, and where the immediate of ADD does.
 const SIB_AT: usize = 3;
 
 const ADDED_AT: usize = 2;
 
-// What was tried so far.
-struct Tally {
+// The refusal of an opcode or a suffix that is not listed.
+const NOT_LISTED: u8 = 5;
+
+// What was tried so far: what is read, how often it is not written back, its bytes, and what is not listed.
+pub(crate) struct Tally {
     encodings: u64,
     differences: u64,
     bytes: u64,
+    unlisted: u64,
 }
 
-const NOTHING: Tally = Tally {
+pub(crate) const NOTHING: Tally = Tally {
     encodings: 0,
     differences: 0,
     bytes: 0,
+    unlisted: 0,
 };
 
 // Whether a buffer starts with the first n bytes of a code and is as it was behind them.
@@ -78,8 +85,21 @@ fn writes_back(code: &[u8; ROOM], instruction: Instruction, n: usize) -> bool {
     }
 }
 
+// One code more that is refused.
+fn refused(tally: Tally, refusal: u8) -> Tally {
+    if refusal != NOT_LISTED {
+        return tally;
+    }
+    Tally {
+        encodings: tally.encodings,
+        differences: tally.differences,
+        bytes: tally.bytes,
+        unlisted: wrapping_add_u64(tally.unlisted, 1),
+    }
+}
+
 // Reads a code and writes it back, if it is an encoding.
-fn try_code(tally: Tally, code: &[u8; ROOM]) -> Tally {
+pub(crate) fn try_code(tally: Tally, code: &[u8; ROOM]) -> Tally {
     match codec::read(code, 0) {
         Reading::Read(instruction, n) => {
             let mut differences = tally.differences;
@@ -90,9 +110,10 @@ fn try_code(tally: Tally, code: &[u8; ROOM]) -> Tally {
                 encodings: wrapping_add_u64(tally.encodings, 1),
                 differences: differences,
                 bytes: wrapping_add_u64(tally.bytes, n as u64),
+                unlisted: tally.unlisted,
             }
         }
-        Reading::Refused(_) => tally,
+        Reading::Refused(refusal) => refused(tally, refusal),
     }
 }
 
@@ -205,5 +226,8 @@ fn print_tally(name: &[u8], tally: Tally) {
 fn main() {
     print_tally(b"encodings", try_table());
     print_tally(b"encodings of loops", try_loops());
+    let siblings = siblings::try_siblings();
+    print_tally(b"encodings of siblings", siblings);
+    edges::print(b"suffixes not listed", siblings.unlisted);
     edges::print_edges();
 }
