@@ -3,17 +3,18 @@ import struct
 
 import rules
 from dice import Dice
-from opcodes import ADD, DECREMENT, JUMP, MOVE
+from opcodes import ADD, DECREMENT, JUMP, MOVE, SIBLING, SUFFIXES
 from pagefile import CODE, INTEGERS, LONGEST_FILE, MARKS, MEMORY, MMX, field
 from rules import LONGEST_CODE, LONGEST_MEMORY
 
 ROOM, SHORT, RARITY, MARK_SIDES, INSTRUCTIONS = LONGEST_FILE + 1, 1024, 32, 33, 12
 TO_DECREMENT, FURTHER, DISTANCES, SORTS = 0xFD, 3, 4, 4
+HALVES, BESIDE = 16, 4
 SECOND_BYTES = bytes.fromhex('''
     60 61 62 63 67 6B 64 65 66 68 69 6A 6E 7E 6F 7F 71 72 73 74 75 76 77 D1 D2 D3 E1 E2 F1 F2 F3
     D5 E5 F5 D8 D9 DC DD E8 E9 EC ED DB DF EB EF F8 F9 FA FC FD FE
     F7 E7 E0 E3 C5 C4 EE DE EA DA D7 E4 18 F6 70 AE''')
-NAMES = ['done'] + [f'refused {number}' for number in range(1, 20)] + ['spent', 'none of these']
+NAMES = ['done'] + [f'refused {number}' for number in range(1, 23)] + ['spent', 'none of these']
 
 
 def random_field(dice, tag, count):
@@ -51,16 +52,34 @@ def loop_instruction(dice):
     return bytes([DECREMENT + register, JUMP, distance(dice)])
 
 
+def operand(dice):
+    modrm = dice.roll(256)
+    following = (0, 1, 4, 0)[modrm >> 6] + (modrm < 0xC0 and modrm & 7 == 4)
+    return bytes([modrm]) + small(dice, following)
+
+
 def listed(dice):
     first = dice.roll(256) if dice.one_in(RARITY) else 0x0F
     second = dice.roll(256) if dice.one_in(RARITY) else dice.choice(SECOND_BYTES)
-    modrm = dice.roll(256)
-    following = (0, 1, 4, 0)[modrm >> 6] + (modrm < 0xC0 and modrm & 7 == 4)
-    return bytes([first, second, modrm]) + small(dice, following)
+    return bytes([first, second]) + operand(dice)
+
+
+def sibling(dice):
+    following = operand(dice)
+    suffix = dice.roll(256) if dice.one_in(RARITY) else dice.choice(list(SUFFIXES.values()))
+    return bytes([0x0F, SIBLING]) + following + bytes([suffix])
 
 
 def instruction(dice):
-    return loop_instruction(dice) if dice.one_in(2) else listed(dice)
+    return loop_instruction(dice) if dice.one_in(2) else sibling(dice) if dice.one_in(BESIDE) else listed(dice)
+
+
+def half(dice):
+    return b'\xFF' * 4 if dice.one_in(RARITY) else dice.some_bytes(4)
+
+
+def some_halves(dice):
+    return field(MMX, b''.join(half(dice) for _ in range(HALVES)))
 
 
 def plain(dice):
@@ -77,7 +96,7 @@ def likely(dice):
     memory = some_length(dice, LONGEST_MEMORY)
     file = field(CODE, b''.join(instruction(dice) for _ in range(dice.roll(INSTRUCTIONS))))
     file += random_field(dice, MEMORY, memory)
-    file += or_none(dice, random_field, MMX, 64)
+    file += or_none(dice, some_halves)
     file += field(INTEGERS, b''.join(small(dice, 4) for _ in range(8)))
     return file + or_none(dice, marks)
 

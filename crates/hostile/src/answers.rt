@@ -4,13 +4,13 @@ ghost use Rattle.basis.specs.Names.{_<_, _≤_};
 // The answers: a refusal is its own number.
 pub(crate) const DONE: usize = 0;
 
-const LAST_REFUSAL: usize = 19;
+const LAST_REFUSAL: usize = 22;
 
-pub(crate) const SPENT: usize = 20;
+pub(crate) const SPENT: usize = 23;
 
-pub(crate) const NONE: usize = 21;
+pub(crate) const NONE: usize = 24;
 
-pub(crate) const ANSWERS: usize = 22;
+pub(crate) const ANSWERS: usize = 25;
 
 // Where the number of a refusal stands.
 const NUMBER_AT: usize = 8;
@@ -50,7 +50,7 @@ fn digit_at(text: &[u8], at: usize) -> usize
 
 // A refusal's number as an answer.
 fn listed(number: usize) -> usize
-    ensures { λ r. ⌜ r < 22 ⌝ }
+    ensures { λ r. ⌜ r < 25 ⌝ }
 {
     if number == DONE {
         return NONE;
@@ -63,7 +63,7 @@ fn listed(number: usize) -> usize
 
 // The answer of a text that starts with `refused`: its number has one digit or two.
 fn refusal_of(text: &[u8]) -> usize
-    ensures { λ r. ⌜ r < 22 ⌝ }
+    ensures { λ r. ⌜ r < 25 ⌝ }
 {
     let first = digit_at(text, NUMBER_AT);
     let second = digit_at(text, NUMBER_AT + 1);
@@ -75,7 +75,7 @@ fn refusal_of(text: &[u8]) -> usize
 
 // The answer of a text.
 pub(crate) fn answer_of(text: &[u8]) -> usize
-    ensures { λ r. ⌜ r < 22 ⌝ }
+    ensures { λ r. ⌜ r < 25 ⌝ }
 {
     if starts_with(text, b"done ") {
         return DONE;

@@ -1,4 +1,4 @@
-// Likely code: instructions of the table, with operands that may lie in the memory, and as often those of loops.
+// Likely code: instructions of the table and siblings, with operands that may lie in the memory, and as often those of loops.
 ghost use Rattle.basis.specs.Names.{_≤_, length};
 use crate::dice::any_byte;
 use crate::dice::is_half;
@@ -82,6 +82,15 @@ const SECOND_BYTES: [u8; 68] = [
     0x70,
     0xae,
 ];
+
+// The second byte of siblings, their suffixes, and one of how many instructions that are not of loops is a sibling.
+const SIBLING: u8 = 0x0f;
+
+const SUFFIXES: u64 = 6;
+
+const SUFFIX_BYTES: [u8; 6] = [0x0c, 0x1c, 0xa0, 0xa4, 0xbb, 0xbf];
+
+const BESIDE: u64 = 4;
 
 // A ModRM byte is this times its mode and more, and its rm is what is left over of this.
 const MODE: u8 = 64;
@@ -206,6 +215,26 @@ fn put_listed(file: &mut [u8], at: usize, dice: &mut u64) -> usize
     put_operand(file, modrm, dice)
 }
 
+// Mostly one of the six.
+fn suffix_byte(dice: &mut u64) -> u8 {
+    if is_rare(dice) {
+        return any_byte(dice);
+    }
+    let index = roll(dice, SUFFIXES) as usize;
+    SUFFIX_BYTES[index]
+}
+
+// A sibling.
+fn put_sibling(file: &mut [u8], at: usize, dice: &mut u64) -> usize
+    requires { ⌜ at ≤ length (now file) ⌝ }
+    ensures { λ r. ⌜ (at ≤ r) × (r ≤ length (now (file .entry))) ⌝ }
+{
+    let second = put(file, at, ESCAPE);
+    let modrm = put(file, second, SIBLING);
+    let suffix = put_operand(file, modrm, dice);
+    put(file, suffix, suffix_byte(dice))
+}
+
 // A likely instruction.
 fn put_instruction(file: &mut [u8], at: usize, dice: &mut u64) -> usize
     requires { ⌜ at ≤ length (now file) ⌝ }
@@ -213,6 +242,9 @@ fn put_instruction(file: &mut [u8], at: usize, dice: &mut u64) -> usize
 {
     if is_half(dice) {
         return put_of_loops(file, at, dice);
+    }
+    if roll(dice, BESIDE) == 0 {
+        return put_sibling(file, at, dice);
     }
     put_listed(file, at, dice)
 }

@@ -42,6 +42,11 @@ const MMX_BYTES: usize = QUADWORD * REGISTERS;
 
 const INTEGER_BYTES: usize = DOUBLEWORD * REGISTERS;
 
+// The halves of the MMX registers, and a byte of one that is no number.
+const HALVES: usize = 2 * REGISTERS;
+
+const ONES: u8 = 0xff;
+
 // How many values a byte of a length has.
 const BASE: usize = 256;
 
@@ -82,6 +87,43 @@ fn put_field_or_none(file: &mut [u8], at: usize, dice: &mut u64, tag: u8, count:
         return at;
     }
     put_field(file, at, dice, tag, count)
+}
+
+// Four bytes of ones.
+fn put_ones(file: &mut [u8], at: usize) -> usize
+    requires { ⌜ at ≤ length (now file) ⌝ }
+    ensures { λ r. ⌜ (at ≤ r) × (r ≤ length (now (file .entry))) ⌝ }
+{
+    let second = put(file, at, ONES);
+    let third = put(file, second, ONES);
+    let fourth = put(file, third, ONES);
+    put(file, fourth, ONES)
+}
+
+// Half an MMX register: random, or now and then no number.
+fn put_half(file: &mut [u8], at: usize, dice: &mut u64) -> usize
+    requires { ⌜ at ≤ length (now file) ⌝ }
+    ensures { λ r. ⌜ (at ≤ r) × (r ≤ length (now (file .entry))) ⌝ }
+{
+    if is_rare(dice) {
+        return put_ones(file, at);
+    }
+    put_random(file, at, dice, DOUBLEWORD)
+}
+
+// The eight MMX registers by their halves, or no field.
+fn put_halves(file: &mut [u8], at: usize, dice: &mut u64) -> usize
+    requires { ⌜ at ≤ length (now file) ⌝ }
+    ensures { λ r. ⌜ (at ≤ r) × (r ≤ length (now (file .entry))) ⌝ }
+{
+    if is_half(dice) {
+        return at;
+    }
+    let mut place = put_heading(file, at, MMX_REGISTERS, MMX_BYTES);
+    for _ in 0..HALVES {
+        place = put_half(file, place, dice);
+    }
+    place
 }
 
 // Marks, or no field.
@@ -160,7 +202,7 @@ fn likely(file: &mut [u8], dice: &mut u64) -> usize
     let memory = some_length(dice, LONGEST_MEMORY);
     let mut end = put_likely_code(file, dice);
     end = put_field(file, end, dice, MEMORY, memory);
-    end = put_field_or_none(file, end, dice, MMX_REGISTERS, MMX_BYTES);
+    end = put_halves(file, end, dice);
     end = put_integers(file, end, dice);
     put_marks(file, end, dice)
 }

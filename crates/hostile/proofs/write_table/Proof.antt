@@ -5,10 +5,10 @@ use Rattle.hostile.proofs.write_table.Statement.{statement}
 use Rattle.hostile.proofs.write_table.Tie as tie
 
 abbrev Inv-loop : tie.InvT-loop
-Inv-loop plain headed likely answer₀ answer = answer ≤ 22
+Inv-loop plain headed likely answer₀ answer = answer ≤ 25
 
 abbrev μ-loop : tie.MeasureT-loop
-μ-loop plain headed likely answer₀ answer = 22 - answer
+μ-loop plain headed likely answer₀ answer = 25 - answer
 
 pub write-table-spec : {M : Type 1} → statement M
 write-table-spec =
