@@ -152,9 +152,9 @@ def table_of(name, destinations, sources, which=None):
 
 def rows(edges):
     """Destinations and sources: each edge in their low and in their high halves. With every destination and every source each edge meets each, in low
-    halves and in high ones, beside others."""
+    halves and in high ones, beside others, if 5 does not divide their number."""
     count = len(edges)
-    return ([joined(edges[i], edges[(i + 5) % count]) for i in range(count)], [joined(edges[j], edges[(3 * j + 2) % count]) for j in range(count)])
+    return ([joined(edges[i], edges[(i + 5) % count]) for i in range(count)], [joined(edges[j], edges[(5 * j + 2) % count]) for j in range(count)])
 
 
 def near(half):
@@ -214,8 +214,7 @@ def edges(dice):
         yield f'{name}-edges-{numbers[name]}', table_of(name, destinations, sources), 'done'
         numbers[name] += 1
     for name in COMPARED:
-        destinations, sources = rows(near(0x3F800000) + near(0x00800001) + near(0x7F7FFFFE))
-        yield f'{name}-neighbours', table_of(name, destinations[:9], sources), 'done'
+        yield f'{name}-neighbours', table_of(name, *rows(near(0x3F800000) + near(0x00800001))), 'done'
     for name in PAIRED:
         some = [any_pair(dice) for _ in range(80)], [any_pair(dice) for _ in range(80)]
         yield f'{name}-any', table_of(name, *some, [(k, k) for k in range(80)] + [(k, 79 - k) for k in range(80)]), 'done'
@@ -273,6 +272,15 @@ def of_zeros():
         yield f'{name}-of-itself', page_of(*(sibling_registers(name, k, k) for k in range(8))), 'done 8 at 32'
 
 
+def named(code):
+    return code.replace(' ', '-') or 'none'
+
+
+def before(code):
+    """What comes before a suffix."""
+    return bytes([0x0F, SIBLING]) + bytes.fromhex(code)
+
+
 def suffixes():
     """All 256: six are listed. Then each kind of operand bytes with one that is not, and with none."""
     for suffix in range(256):
@@ -289,15 +297,6 @@ def suffixes():
     yield 'suffix-first', page_of(bytes([0x0F, SIBLING, SUFFIXES['PSWAPD'], 0xC1])), 'refused 3 0 at 0'
 
 
-def named(code):
-    return code.replace(' ', '-') or 'none'
-
-
-def before(code):
-    """What comes before a suffix."""
-    return bytes([0x0F, SIBLING]) + bytes.fromhex(code)
-
-
 def plain_memory(length):
     """Bytes that are no half's last with the exponent FF, wherever an operand is."""
     return bytes((37 * k + 11) % 0x7F for k in range(length))
@@ -306,7 +305,7 @@ def plain_memory(length):
 def displacements():
     """Displacements that are suffixes, with each suffix behind them: of a byte, of four, and as an SIB byte."""
     each = list(SUFFIXES)
-    memory = plain_memory(0x90)
+    memory = plain_memory(0xC8)
 
     def kept(codes, **integers):
         """Each leaves its register in the memory behind."""
@@ -317,7 +316,7 @@ def displacements():
 
     pairs = list(product(SUFFIXES.values(), each))
     yield 'displacement-8', kept([sibling(name, 0x40 | k % 8 << 3, byte) for k, (byte, name) in enumerate(pairs)], eax=0x60), 'done'
-    yield 'displacement-32', kept([sibling_at(name, k % 8, byte % 0x80) for k, (byte, name) in enumerate(pairs)]), 'done'
+    yield 'displacement-32', kept([sibling_at(name, k % 8, byte) for k, (byte, name) in enumerate(pairs)]), 'done'
     codes = [sibling(name, 0x44 | k % 8 << 3, byte, 1) for k, (byte, name) in enumerate(pairs)]
     yield 'displacement-as-SIB', kept(codes, eax=0x20, ecx=0x11, ebx=0x07, esp=0x30, edi=0x0A), 'done'
     yield 'displacement-unlisted', kept([sibling(name, 0x40 | k % 8 << 3, 0xB4 - k) for k, name in enumerate(each)], eax=0x60), 'done'
@@ -327,7 +326,7 @@ def displacements():
 
 
 def orders():
-    """Which refusal comes first. MM1 and what is at 0 are unsupported; 24 is past the memory, and so are ESP and EBP."""
+    """Which refusal comes first. MM1 and what is at 0 are unsupported; an operand at 17, at ESP or at EBP is not wholly in the memory."""
     memory = packed([joined(*UNSUPPORTED[:2]), MMX[0], MMX[2]])
     mmx = (MMX[0], joined(*UNSUPPORTED[2:])) + MMX[2:]
     bad, outside = bytes([0xB4]), {'esp': 17, 'ebp': 2 ** 31}
