@@ -4,7 +4,7 @@ use Rattle.basis.proofs.Names.{sym, ap, ap₂, _∙_, false≢true, arith, add-
 use Rattle.words.specs.Number.{number}
 use Rattle.words.proofs.Laws.{and-both}
 use Rattle.codec.specs.Refusals.{codeEnds, notListed, notAllowed}
-use Rattle.codec.specs.Forms.{Form, absent, isAbsent, hasOperand, allows, immediateSize, accepts}
+use Rattle.codec.specs.Forms.{Form, absent, mmreg1·mmreg2/mem64+suffix, isAbsent, isAmong, hasOperand, allows, immediateSize, accepts}
 use Rattle.codec.specs.Contents.{loops}
 use Rattle.codec.specs.Opcodes.{isOf, formOfFirst, escape}
 use Rattle.codec.specs.Table.{formOf, entryOfFirst, formIn}
@@ -18,7 +18,7 @@ use Rattle.codec.specs.declared.Found.{Found}
 use Rattle.codec.specs.Answers.{Decoded, good, refused}
 use Rattle.codec.proofs.Sizes.{byte-there}
 use Rattle.codec.proofs.Bytes.{found-each}
-use Rattle.codec.proofs.FormNumbers.{form-there}
+use Rattle.codec.proofs.FormNumbers.{form-there, accepted-other, accepted-suffix}
 use Rattle.codec.proofs.Entries.{first-form-is}
 use Rattle.codec.proofs.Given.{Given, Refusal, Gives, form-gives, first-gives}
 use Rattle.codec.proofs.Readers.{Holds, every, reads-yes, reads-no, drop-here, field-here, field-none}
@@ -46,6 +46,17 @@ one-operand first =
 
 pub first-adds : (first n : ℕ) (o : Bool) → n ≡ formOfFirst first .number → (n ≡ 0 → ⊥) → o ≡ hasOperand (formOf n) → o ≡ true → n ≡ 11
 first-adds first n o g there has e = g ∙ one-operand first (λ z. there (g ∙ z)) (ap (λ (k : ℕ). hasOperand (formOf k)) (sym g) ∙ sym has ∙ e)
+
+-- and none of them a suffix
+pub first-plain : (n : ℕ) → n ≤ 13 → n ≡ 16 → ⊥
+first-plain n h e = omega arith
+
+pub add-plain : (n : ℕ) → n ≡ 11 → n ≡ 16 → ⊥
+add-plain n h e = omega arith
+
+-- nor has a form without a ModRM byte one
+pub bare-plain : (n : ℕ) (o : Bool) → o ≡ hasOperand (formOf n) → o ≡ false → n ≡ 16 → ⊥
+bare-plain n o has none e = false≢true (sym (sym has ∙ none) ∙ ap (λ (k : ℕ). hasOperand (formOf k)) e)
 
 -- what a form's number asks for
 module _ (n first second at : ℕ) (s : List ℕ) (there : n ≡ 0 → ⊥) where
@@ -295,6 +306,35 @@ module _ (code : List ℕ) (at : ℕ) where
       ∙ sym
       (simp (z .four n m, drop-here code at p0, drop-here code (at + 1) p1, e2, drop-here code (at + 2) p2, e3, drop-here code (at + 3) p3, mul-zero, add-zero))
 
+  -- by the number n of a form
+  module _ (n first second entry : ℕ) (x : Found) (w : Operand) where
+    abbrev ends : Type 0
+    ends = x ≡ found entry (reads (immediateReader (formOf n) first second w) at (drop at code))
+
+    -- an immediate that is no suffix
+    pub number-on : (k v : ℕ) → (n ≡ 16 → ⊥) → k ≡ immediateSize (formOf n) → k ≤ length code - at → v ≡ number (take k (drop at code))
+        → x ≡ found entry (good (instructionOf first second w v) (at + k)) → ends
+    number-on k v plain e q y h = immediate-on (formOf n) first second entry x w k e v q y true (accepted-other n v plain) refl h
+
+    -- a suffix
+    module _ (is : n ≡ 16) where
+      one-byte : 1 ≡ immediateSize (formOf n)
+      one-byte = ap (λ (k : ℕ). immediateSize (formOf k)) (sym is)
+
+      pub suffix-none : length code ≤ at → x ≡ refusedAs codeEnds → ends
+      suffix-none q h = immediate-none (formOf n) first second entry x w 1 one-byte (omega arith) h
+
+      module _ (v : ℕ) (here : at < length code) (y : v ≡ getD code at 0 + 256 * (0 + 256 * (0 + 256 * 0))) (t : Bool)
+          (g : t ≡ isAmong v (mmreg1·mmreg2/mem64+suffix .suffixes)) where
+        accepted : t ≡ accepts (formOf n) v
+        accepted = accepted-suffix n v t is g
+
+        pub suffix-on : t ≡ true → x ≡ found entry (good (instructionOf first second w v) (at + 1)) → ends
+        suffix-on e h = immediate-on (formOf n) first second entry x w 1 one-byte v (omega arith) (number-1 1 v refl y (omega arith)) t accepted e h
+
+        pub suffix-other : t ≡ false → x ≡ refusedAs notListed → ends
+        suffix-other e h = immediate-other (formOf n) first second entry x w 1 one-byte v (omega arith) (number-1 1 v refl y (omega arith)) t accepted e h
+
 -- the ModRM byte of ADD, which allows registers alone
 module _ (code : List ℕ) (at n first second entry : ℕ) (x : Found) (adds : n ≡ 11) (t : Bool)
     (g : t ≡ allows (formOf n) (upper (getD code at 0)) (middle (getD code at 0)) (lower (getD code at 0))) (q : at < length code) where
@@ -316,6 +356,9 @@ module _ (code : List ℕ) (at n first second entry : ℕ) (x : Found) (adds : n
 pub ruleset reading = (
   needs,
   byte-there,
+  first-plain,
+  add-plain,
+  bare-plain,
   first-none,
   first-on,
   first-other,
@@ -336,8 +379,10 @@ pub ruleset reading = (
   displacement-none,
   displacement-on,
   immediate-none,
-  immediate-on,
-  immediate-other,
+  number-on,
+  suffix-none,
+  suffix-on,
+  suffix-other,
   number-1,
   number-4,
 )

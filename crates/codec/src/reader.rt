@@ -5,6 +5,7 @@ use crate::Operand;
 use crate::fields;
 use crate::forms::ABSENT;
 use crate::forms::FORM;
+use crate::forms::SUFFIXED;
 use crate::opcodes;
 use crate::prefixes;
 use crate::prefixes::ESCAPE;
@@ -82,9 +83,9 @@ fn joined(a: u8, b: u8, c: u8, d: u8) -> u32
     a as u32 + fields::BYTE * (b as u32 + fields::BYTE * (c as u32 + fields::BYTE * (d as u32)))
 }
 
-// The immediate, if the form has one, and the whole record.
-fn immediate_at(code: &[u8], at: usize, opcode: Opcode, operand: Operand) -> Found
-    requires { ⌜ at ≤ length (now code) ⌝ }
+// The immediate, if the form has one, and the whole record, where the immediate is no suffix.
+fn number_after(code: &[u8], at: usize, opcode: Opcode, operand: Operand) -> Found
+    requires { ⌜ (at ≤ length (now code)) × (opcode .form ≡ 16 → ⊥) ⌝ }
     ensures { λ r. ⌜ r ≡ foundAfter opcode (λ form first second. immediateReader form first second operand) (now (code .entry)) at ⌝ }
 {
     let k = fields::immediate_size(opcode.form);
@@ -92,7 +93,29 @@ fn immediate_at(code: &[u8], at: usize, opcode: Opcode, operand: Operand) -> Fou
         return refused(CODE_ENDS);
     }
     let immediate = number_at(code, at, k);
-    if fields::accepted(opcode.form, immediate) {
+    Found {
+        refusal: 0,
+        entry: opcode.entry,
+        instruction: Instruction {
+            first: opcode.first,
+            second: opcode.second,
+            operand: operand,
+            immediate: immediate,
+        },
+        next: at + k,
+    }
+}
+
+// The suffix, which must be listed, and the whole record.
+fn suffix_after(code: &[u8], at: usize, opcode: Opcode, operand: Operand) -> Found
+    requires { ⌜ opcode .form ≡ 16 ⌝ }
+    ensures { λ r. ⌜ r ≡ foundAfter opcode (λ form first second. immediateReader form first second operand) (now (code .entry)) at ⌝ }
+{
+    if code.len() <= at {
+        return refused(CODE_ENDS);
+    }
+    let suffix = joined(code[at], 0, 0, 0);
+    if fields::is_suffix(suffix) {
         Found {
             refusal: 0,
             entry: opcode.entry,
@@ -100,9 +123,9 @@ fn immediate_at(code: &[u8], at: usize, opcode: Opcode, operand: Operand) -> Fou
                 first: opcode.first,
                 second: opcode.second,
                 operand: operand,
-                immediate: immediate,
+                immediate: suffix,
             },
-            next: at + k,
+            next: at + 1,
         }
     } else {
         refused(NOT_LISTED)
@@ -123,7 +146,11 @@ fn displacement_at(code: &[u8], at: usize, opcode: Opcode, modrm: u8, sib: u8) -
         return refused(CODE_ENDS);
     }
     let displacement = number_at(code, at, k);
-    immediate_at(code, at + k, opcode, operand_of(modrm, sib, displacement))
+    let operand = operand_of(modrm, sib, displacement);
+    if opcode.form == SUFFIXED {
+        return suffix_after(code, at + k, opcode, operand);
+    }
+    number_after(code, at + k, opcode, operand)
 }
 
 // The operand of a ModRM byte, an SIB byte (0 where there is none) and a displacement.
@@ -147,7 +174,10 @@ fn sib_at(code: &[u8], at: usize, opcode: Opcode, modrm: u8) -> Found
     ensures { λ r. ⌜ r ≡ foundAfter opcode (λ form first second. sibReader form first second modrm) (now (code .entry)) at ⌝ }
 {
     if REGISTERS <= modrm {
-        return immediate_at(code, at, opcode, operand_of(modrm, 0, 0));
+        if opcode.form == SUFFIXED {
+            return suffix_after(code, at, opcode, operand_of(modrm, 0, 0));
+        }
+        return number_after(code, at, opcode, operand_of(modrm, 0, 0));
     }
     if fields::sib_follows(modrm / fields::UPPER, modrm % fields::VALUES) {
         if code.len() <= at {
@@ -194,7 +224,7 @@ fn register_at(code: &[u8], at: usize, opcode: Opcode) -> Found
         modrm / fields::MIDDLE % fields::VALUES,
         modrm % fields::VALUES,
     ) {
-        return immediate_at(code, at + 1, opcode, operand_of(modrm, 0, 0));
+        return number_after(code, at + 1, opcode, operand_of(modrm, 0, 0));
     }
     refused(NOT_ALLOWED)
 }
@@ -217,7 +247,7 @@ pub(crate) fn first_at(code: &[u8], at: usize, first: u8) -> Found
     if fields::has_operand(form) {
         register_at(code, at, opcode)
     } else {
-        immediate_at(code, at, opcode, NO_OPERAND)
+        number_after(code, at, opcode, NO_OPERAND)
     }
 }
 
@@ -243,6 +273,6 @@ pub(crate) fn second_at(table: &[u32; 256], code: &[u8], at: usize) -> Found
     if fields::has_operand(form) {
         modrm_at(code, at + 1, opcode)
     } else {
-        immediate_at(code, at + 1, opcode, NO_OPERAND)
+        number_after(code, at + 1, opcode, NO_OPERAND)
     }
 }

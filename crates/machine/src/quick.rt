@@ -26,6 +26,7 @@ use codec::forms::TWO_OPERANDS;
 use codec::modes::REGISTER;
 use codec::prefixes::ESCAPE;
 use lanes::MOVE;
+use singles::Answer;
 use works::DOUBLEWORD;
 use works::EMPTY;
 use works::OPERATE;
@@ -108,8 +109,12 @@ fn suffixed(old: u64, register: usize, value: u64, code: &[u8], at: usize) -> Wo
     }
     let suffix = suffix_of(code[at]);
     if is_suffix(suffix) {
-        let work = work_of(OPERATE, 0, register, value, at + 1);
-        return works::suffixed(suffix, old, work);
+        return match works::answer_of(suffix, old, value) {
+            Answer::Leaves(left) => {
+                work_of(OPERATE, works::operation_of(suffix), register, left, at + 1)
+            }
+            Answer::Fails => none(),
+        };
     }
     none()
 }

@@ -1,5 +1,5 @@
 -- The examples hold: the definitions compute them.
-use Rattle.basis.specs.Names.{_≡_, refl, true, false, [], _∷_, flatten, map}
+use Rattle.basis.specs.Names.{_≡_, refl, true, false, [], _∷_, flatten, map, toBits, ofInt}
 use Rattle.basis.proofs.Names.{arith, T}
 use Rattle.lanes.specs.Lane.{lane, topBit, build, register}
 use Rattle.lanes.specs.Signed.{signed, wrap, clamp, clampSigned, clampUnsigned}
@@ -8,7 +8,10 @@ use Rattle.lanes.specs.Operations.{operate, operateThree}
 use Rattle.reorder.specs.Run.{finished}
 use Rattle.reorder.specs.Block.{rearranged}
 use Rattle.codec.specs.Forms.{allows}
-use Rattle.codec.specs.Opcodes.{formAt, operationAt, formOfFirst}
+use Rattle.singles.specs.Ranges.{rangeOf}
+use Rattle.singles.specs.Tables.{exceeds, greaterCell, greaterHalf, maximumCell, maximumHalf, wholePart, wordCell, wordHalf, singleOf}
+use Rattle.singles.specs.Siblings.{both, pf2iw, pi2fw, pswapd, pfcmpgt, pfmax, leave}
+use Rattle.codec.specs.Opcodes.{formAt, operationAt, suffixedOf, formOfFirst}
 use Rattle.codec.specs.Operands.{hasSib, displacementSize}
 use Rattle.codec.specs.Reads.{immediateReader, displacementReader, sibReader, modrmReader, formReader, refusalOf, firstReader, secondReader, instructionReader, readAt}
 use Rattle.codec.specs.Fits.{all}
@@ -23,11 +26,12 @@ use Rattle.manual.proofs.Meeting.{apart}
 use Rattle.manual.proofs.Plates.{start, plates, extensionPlates}
 use Rattle.manual.proofs.Edges.{edges, extensionEdges, stackEdges, floorEdges}
 use Rattle.manual.proofs.LoopEdges.{loopEdges}
+use Rattle.manual.proofs.SiblingEdges.{siblingPlates, siblingEdges}
 use Rattle.manual.proofs.FootprintTable.{here, barred, counted, footprints, whereBarred, whereCounted, overFloors, inRuns}
 use Rattle.manual.proofs.Example as example
 
 pub record Computed : Type 0 where
-  -- document 01's plates and its edges, those of manual 000, and the edges of Req 04, 08 and 07
+  -- document 01's plates and its edges, those of manual 000, the edges of Req 04, 08 and 07, and plates and edges of Req 10
   pub plates : T (all plates)
   pub edges : T (all edges)
   pub extension-plates : T (all extensionPlates)
@@ -35,6 +39,8 @@ pub record Computed : Type 0 where
   pub stack-edges : T (all stackEdges)
   pub floor-edges : T (all floorEdges)
   pub loop-edges : T (all loopEdges)
+  pub sibling-plates : T (all siblingPlates)
+  pub sibling-edges : T (all siblingEdges)
   -- the customer's example: PADDB MM0, MM1
   pub customer : runOf 0 (0x0f ∷ 0xfc ∷ 0xc1 ∷ []) 4096 (start 0xff 2 false) ≡ finished 3 1 (start 1 2 true)
   -- the table of footprints, of single steps, with no mark, with all control marks and with the zero mark, over floors, and in runs
@@ -52,7 +58,7 @@ pub record Computed : Type 0 where
   pub forbidden : runOf 0 (rearranged read example.block example.forbidden) 4096 example.start ≡ finished 17 5 example.spoilt
 
 pub computed : Computed
-unfolding lane topBit build register signed wrap clamp clampSigned clampUnsigned packed pairwise sum sumSigned sumUnsigned greater productHigh productSum pack unpack shift left right rightSigned blend mean extract insert maximumSigned maximumUnsigned minimumSigned minimumUnsigned topBits productHighUnsigned distance total distances shuffle operate operateThree allows formAt operationAt formOfFirst hasSib displacementSize immediateReader displacementReader sibReader modrmReader formReader refusalOf firstReader secondReader instructionReader readAt flatten displacementOf baseOf indexOf addressOf address rmOf effectOf execute footprint jumped onwardBy instructionAt stepAt read runOf footprintAt
+unfolding lane topBit build register signed wrap clamp clampSigned clampUnsigned packed pairwise sum sumSigned sumUnsigned greater productHigh productSum pack unpack shift left right rightSigned blend mean extract insert maximumSigned maximumUnsigned minimumSigned minimumUnsigned topBits productHighUnsigned distance total distances shuffle operate operateThree rangeOf exceeds greaterCell greaterHalf maximumCell maximumHalf wholePart wordCell wordHalf singleOf toBits ofInt both pf2iw pi2fw pswapd pfcmpgt pfmax leave allows formAt operationAt suffixedOf formOfFirst hasSib displacementSize immediateReader displacementReader sibReader modrmReader formReader refusalOf firstReader secondReader instructionReader readAt flatten displacementOf baseOf indexOf addressOf address rmOf effectOf execute footprint jumped onwardBy instructionAt stepAt read runOf footprintAt
 computed =
     record {
       plates = tt;
@@ -62,6 +68,8 @@ computed =
       stack-edges = tt;
       floor-edges = tt;
       loop-edges = tt;
+      sibling-plates = tt;
+      sibling-edges = tt;
       customer = refl;
       footprints = refl;
       where-barred = refl;

@@ -12,10 +12,10 @@ use Rattle.manual.specs.Locations.{bytesFrom}
 use Rattle.manual.proofs.Marking.{controlled, clear}
 use Rattle.manual.proofs.Loops.{touching}
 
--- 8 in EAX, 2 in ECX, 20 in EDI, 32 bytes of memory, and these marks
+-- an infinity in MM7, 8 in EAX, 2 in ECX, 20 in EDI, 32 bytes of memory, and these marks
 abbrev under : Marks → State
 under marks =
-    record { mmx = replicate 8 0; integers = 8 ∷ 2 ∷ 0 ∷ 0 ∷ 0 ∷ 0 ∷ 0 ∷ 20 ∷ []; marks = marks; memory = replicate 32 0 }
+    record { mmx = replicate 7 0 ++ 0x7f800000 ∷ []; integers = 8 ∷ 2 ∷ 0 ∷ 0 ∷ 0 ∷ 0 ∷ 0 ∷ 20 ∷ []; marks = marks; memory = replicate 32 0 }
 
 -- no mark is set
 abbrev pub here : State
@@ -65,6 +65,22 @@ footprints =
     -- MOVQ MM1, [EAX + 4], and [EAX + 4], MM1
     ∷ uses (0x0f ∷ 0x6f ∷ 0x48 ∷ 4 ∷ []) (integer 0 ∷ bytesFrom 12 8) (mmx 1 ∷ [])
     ∷ uses (0x0f ∷ 0x7f ∷ 0x48 ∷ 4 ∷ []) (integer 0 ∷ mmx 1 ∷ []) (bytesFrom 12 8)
+    -- PFMAX, PFCMPGT and PAVGUSB MM1, MM2, and PFMAX MM1, [EAX + 4]
+    ∷ uses (0x0f ∷ 0x0f ∷ 0xca ∷ 0xa4 ∷ []) (mmx 1 ∷ mmx 2 ∷ []) (mmx 1 ∷ [])
+    ∷ uses (0x0f ∷ 0x0f ∷ 0xca ∷ 0xa0 ∷ []) (mmx 1 ∷ mmx 2 ∷ []) (mmx 1 ∷ [])
+    ∷ uses (0x0f ∷ 0x0f ∷ 0xca ∷ 0xbf ∷ []) (mmx 1 ∷ mmx 2 ∷ []) (mmx 1 ∷ [])
+    ∷ uses (0x0f ∷ 0x0f ∷ 0x48 ∷ 4 ∷ 0xa4 ∷ []) (integer 0 ∷ mmx 1 ∷ bytesFrom 12 8) (mmx 1 ∷ [])
+    -- PF2IW, PI2FW and PSWAPD MM1, MM2, and PF2IW MM1, [EAX + 4]: their destination is not read
+    ∷ uses (0x0f ∷ 0x0f ∷ 0xca ∷ 0x1c ∷ []) (mmx 2 ∷ []) (mmx 1 ∷ [])
+    ∷ uses (0x0f ∷ 0x0f ∷ 0xca ∷ 0x0c ∷ []) (mmx 2 ∷ []) (mmx 1 ∷ [])
+    ∷ uses (0x0f ∷ 0x0f ∷ 0xca ∷ 0xbb ∷ []) (mmx 2 ∷ []) (mmx 1 ∷ [])
+    ∷ uses (0x0f ∷ 0x0f ∷ 0x48 ∷ 4 ∷ 0x1c ∷ []) (integer 0 ∷ bytesFrom 12 8) (mmx 1 ∷ [])
+    -- PFMAX MM1, MM7, of which a half is unsupported, and PSWAPD MM1, MM7; PFMAX MM1, [EAX + 25]; an unlisted suffix, and none
+    ∷ (0x0f ∷ 0x0f ∷ 0xcf ∷ 0xa4 ∷ [], refused 22)
+    ∷ uses (0x0f ∷ 0x0f ∷ 0xcf ∷ 0xbb ∷ []) (mmx 7 ∷ []) (mmx 1 ∷ [])
+    ∷ (0x0f ∷ 0x0f ∷ 0x48 ∷ 25 ∷ 0xa4 ∷ [], refused 10)
+    ∷ (0x0f ∷ 0x0f ∷ 0xcf ∷ 0xa5 ∷ [], refused 5)
+    ∷ (0x0f ∷ 0x0f ∷ 0xcf ∷ [], refused 3)
     -- PSRLW MM2, 3
     ∷ uses (0x0f ∷ 0x71 ∷ 0xd2 ∷ 3 ∷ []) (mmx 2 ∷ []) (mmx 2 ∷ [])
     -- EMMS

@@ -29,6 +29,7 @@ pub mod Meeting
 pub mod Plates
 pub mod Edges
 pub mod LoopEdges
+pub mod SiblingEdges
 pub mod FootprintTable
 pub mod Example
 pub mod Computed

@@ -1,6 +1,6 @@
 -- The works of 3DNow's instructions, by their suffixes. Rules for the functions that make them.
 use Rattle.basis.specs.Names.{_≡_, refl, ℕ, eqb}
-use Rattle.basis.proofs.Names.{sym, ap, _∙_, needs, ne-eqb, eqb-true}
+use Rattle.basis.proofs.Names.{sym, ap, ap₂, _∙_, needs, ne-eqb, eqb-true}
 use Rattle.lanes.specs.Operations.{described, MOVE, PAVGB}
 use Rattle.singles.specs.Siblings.{Sibling, PF2IW, PI2FW, PSWAPD, PAVGUSB, PFCMPGT, PFMAX, pf2iw, pi2fw, pswapd, pfcmpgt, pfmax, leave}
 use Rattle.singles.specs.declared.answers.Answer.{Answer}
@@ -11,13 +11,13 @@ use Rattle.codec.proofs.Bytes.{found-each}
 use Rattle.manual.specs.Refusals.{halfUnsupported}
 use Rattle.works.specs.declared.Work.{Work}
 use Rattle.works.specs.Works.{toOperate, workOf, refusedWork}
-use Rattle.works.specs.Siblings.{answeredWork, siblingWork, suffixedWork}
+use Rattle.works.specs.Siblings.{valueLeft, operationLeft, answeredWork, suffixedWork}
 
-module _ (answer : Answer) (place next : ℕ) (r : Work) where
-  pub answered-leaves : (value : ℕ) → answer ≡ Leaves value → r ≡ workOf toOperate (described MOVE .number) place value next → r ≡ answeredWork answer place next
+module _ (number : ℕ) (answer : Answer) (place next : ℕ) (r : Work) where
+  pub answered-leaves : (value : ℕ) → answer ≡ Leaves value → r ≡ workOf toOperate number place value next → r ≡ answeredWork number answer place next
   answered-leaves value e made = rw e made
 
-  pub answered-fails : answer ≡ Fails → r ≡ refusedWork halfUnsupported → r ≡ answeredWork answer place next
+  pub answered-fails : answer ≡ Fails → r ≡ refusedWork halfUnsupported → r ≡ answeredWork number answer place next
   answered-fails e made = rw e made
 
 -- a suffix names its instruction
@@ -60,47 +60,54 @@ module _ (suffix : ℕ) where
         ),
       )
 
-  module _ (old source place next : ℕ) (r : Work) where
-    abbrev Made : Type 0
-    Made = r ≡ siblingWork (suffixedOf suffix .sibling) old source place next
+  -- what it leaves
+  module _ (old source : ℕ) (r : Answer) where
+    abbrev Leaving : Type 0
+    Leaving = r ≡ valueLeft (suffixedOf suffix .sibling) old source
 
-    made-by : (x : Sibling) → Names x → r ≡ siblingWork x old source place next → Made
-    made-by x e made = made ∙ ap (λ (y : Sibling). siblingWork y old source place next) (sym e)
+    left-by : (x : Sibling) → Names x → r ≡ valueLeft x old source → Leaving
+    left-by x e h = h ∙ ap (λ (y : Sibling). valueLeft y old source) (sym e)
 
-    pub made-words : (a : Answer) → suffix ≡ 0x1c → a ≡ pf2iw source → r ≡ answeredWork a place next → Made
+    pub left-words : suffix ≡ 0x1c → r ≡ pf2iw source → Leaving
     unfolding leave
-    made-words a e h made = made-by PF2IW (names-words e) (rw h at made)
+    left-words e h = left-by PF2IW (names-words e) h
 
-    pub made-greater : (a : Answer) → suffix ≡ 0xa0 → a ≡ pfcmpgt old source → r ≡ answeredWork a place next → Made
+    pub left-greater : suffix ≡ 0xa0 → r ≡ pfcmpgt old source → Leaving
     unfolding leave
-    made-greater a e h made = made-by PFCMPGT (names-greater e) (rw h at made)
+    left-greater e h = left-by PFCMPGT (names-greater e) h
 
-    pub made-maximum : (a : Answer) → (suffix ≡ 0x1c → ⊥) → (suffix ≡ 0xa0 → ⊥) → (suffix ≡ 0xbf → ⊥) × ((suffix ≡ 0x0c → ⊥) × (suffix ≡ 0xbb → ⊥))
-        → a ≡ pfmax old source → r ≡ answeredWork a place next → Made
+    pub left-singles : (v : ℕ) → suffix ≡ 0x0c → v ≡ pi2fw source → r ≡ Leaves v → Leaving
     unfolding leave
-    made-maximum a word greater (mean, (single, swap)) h made = made-by PFMAX (names-maximum word single swap mean greater) (rw h at made)
+    left-singles v e g h = left-by PI2FW (names-singles e) (h ∙ ap Leaves g)
+
+    pub left-swap : (v : ℕ) → suffix ≡ 0xbb → v ≡ pswapd source → r ≡ Leaves v → Leaving
+    unfolding leave
+    left-swap v e g h = left-by PSWAPD (names-swap e) (h ∙ ap Leaves g)
+
+    pub left-mean : suffix ≡ 0xbf → r ≡ Leaves source → Leaving
+    left-mean e h = left-by PAVGUSB (names-mean e) h
+
+    pub left-maximum : (suffix ≡ 0x1c → ⊥) → (suffix ≡ 0xa0 → ⊥) → (suffix ≡ 0x0c → ⊥) → (suffix ≡ 0xbb → ⊥) → (suffix ≡ 0xbf → ⊥) → r ≡ pfmax old source → Leaving
+    unfolding leave
+    left-maximum word greater single swap mean h = left-by PFMAX (names-maximum word single swap mean greater) h
+
+  pub operation-mean : suffix ≡ 0xbf → described PAVGB .number ≡ operationLeft (suffixedOf suffix .sibling)
+  operation-mean e = ap operationLeft (sym (names-mean e))
+
+  -- all others move
+  pub operation-move : (suffix ≡ 0xbf → ⊥) → described MOVE .number ≡ operationLeft (suffixedOf suffix .sibling)
+  unfolding suffixedOf
+  operation-move none =
+      found-each (λ x. x) maximum (λ x. described MOVE .number ≡ operationLeft (x .sibling)) (λ x. eqb suffix (x .suffix)) refl siblings
+      (λ h. refl, (λ h. refl, (λ h. refl, (λ h. absurd (none (eqb-true suffix 0xbf h)), (λ h. refl, (λ h. refl, tt))))))
 
 -- from the operand's number, unless that is refused
 module _ (suffix old : ℕ) (work r : Work) where
-  pub suffixed-refused : (work .what ≡ toOperate → ⊥) → work ≡ suffixedWork suffix old work
-  suffixed-refused e = simp (ne-eqb (work .what) toOperate e)
+  pub suffixed-refused : (work .what ≡ toOperate → ⊥) → r ≡ work → r ≡ suffixedWork suffix old work
+  suffixed-refused e h = h ∙ (simp (ne-eqb (work .what) toOperate e))
 
-  module _ (taken : work .what ≡ toOperate) where
-    suffixed-by : r ≡ siblingWork (suffixedOf suffix .sibling) old (work .value) (work .place) (work .next) → r ≡ suffixedWork suffix old work
-    suffixed-by made = simp taken made
+  pub suffixed-made : (number : ℕ) (answer : Answer) → work .what ≡ toOperate → number ≡ operationLeft (suffixedOf suffix .sibling)
+      → answer ≡ valueLeft (suffixedOf suffix .sibling) old (work .value) → r ≡ answeredWork number answer (work .place) (work .next) → r ≡ suffixedWork suffix old work
+  suffixed-made number answer e n a made = simp e (made ∙ ap₂ (λ (k : ℕ) (x : Answer). answeredWork k x (work .place) (work .next)) n a)
 
-    pub suffixed-mean : suffix ≡ 0xbf → r ≡ workOf toOperate (described PAVGB .number) (work .place) (work .value) (work .next) → r ≡ suffixedWork suffix old work
-    suffixed-mean e made = suffixed-by (made-by suffix old (work .value) (work .place) (work .next) r PAVGUSB (names-mean suffix e) made)
-
-    pub suffixed-single : (v : ℕ) → suffix ≡ 0x0c → v ≡ pi2fw (work .value) → r ≡ workOf toOperate (described MOVE .number) (work .place) v (work .next) → r ≡ suffixedWork suffix old work
-    unfolding leave
-    suffixed-single v e h made = suffixed-by (made-by suffix old (work .value) (work .place) (work .next) r PI2FW (names-singles suffix e) (rw h at made))
-
-    pub suffixed-swap : (v : ℕ) → suffix ≡ 0xbb → v ≡ pswapd (work .value) → r ≡ workOf toOperate (described MOVE .number) (work .place) v (work .next) → r ≡ suffixedWork suffix old work
-    unfolding leave
-    suffixed-swap v e h made = suffixed-by (made-by suffix old (work .value) (work .place) (work .next) r PSWAPD (names-swap suffix e) (rw h at made))
-
-    pub suffixed-singles : r ≡ siblingWork (suffixedOf suffix .sibling) old (work .value) (work .place) (work .next) → r ≡ suffixedWork suffix old work
-    suffixed-singles made = suffixed-by made
-
-pub ruleset answering = (needs, answered-leaves, answered-fails, made-words, made-greater, made-maximum, suffixed-refused, suffixed-mean, suffixed-single, suffixed-swap, suffixed-singles)
+pub ruleset answering = (needs, answered-leaves, answered-fails, left-words, left-greater, left-singles, left-swap, left-mean, left-maximum, operation-mean, operation-move, suffixed-refused, suffixed-made)

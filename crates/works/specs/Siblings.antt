@@ -9,19 +9,31 @@ use Rattle.manual.specs.Refusals.{halfUnsupported}
 use Rattle.works.specs.declared.Work.{Work}
 use Rattle.works.specs.Works.{toOperate, workOf, refusedWork}
 
--- what is left moves to the register; where nothing is, 22
-abbrev pub answeredWork : Answer → ℕ → ℕ → Work
-answeredWork (Leaves value) place next = workOf toOperate (described MOVE .number) place value next
-answeredWork Fails place next = refusedWork halfUnsupported
+-- what it leaves of what its register held and of the operand's number; but of PAVGUSB, which is PAVGB, that number itself
+abbrev pub valueLeft : Sibling → ℕ → ℕ → Answer
+valueLeft PF2IW old source = leave PF2IW old source
+valueLeft PI2FW old source = leave PI2FW old source
+valueLeft PSWAPD old source = leave PSWAPD old source
+valueLeft PAVGUSB old source = Leaves source
+valueLeft PFCMPGT old source = leave PFCMPGT old source
+valueLeft PFMAX old source = leave PFMAX old source
 
--- with what the register held, and the operand's number; PAVGUSB is PAVGB
+-- and the number of the operation that then remains
+abbrev pub operationLeft : Sibling → ℕ
+operationLeft PF2IW = described MOVE .number
+operationLeft PI2FW = described MOVE .number
+operationLeft PSWAPD = described MOVE .number
+operationLeft PAVGUSB = described PAVGB .number
+operationLeft PFCMPGT = described MOVE .number
+operationLeft PFMAX = described MOVE .number
+
+-- the work of both: where nothing is left, 22
+abbrev pub answeredWork : ℕ → Answer → ℕ → ℕ → Work
+answeredWork number (Leaves value) place next = workOf toOperate number place value next
+answeredWork number Fails place next = refusedWork halfUnsupported
+
 abbrev pub siblingWork : Sibling → ℕ → ℕ → ℕ → ℕ → Work
-siblingWork PF2IW old source place next = answeredWork (leave PF2IW old source) place next
-siblingWork PI2FW old source place next = answeredWork (leave PI2FW old source) place next
-siblingWork PSWAPD old source place next = answeredWork (leave PSWAPD old source) place next
-siblingWork PAVGUSB old source place next = workOf toOperate (described PAVGB .number) place source next
-siblingWork PFCMPGT old source place next = answeredWork (leave PFCMPGT old source) place next
-siblingWork PFMAX old source place next = answeredWork (leave PFMAX old source) place next
+siblingWork x old source place next = answeredWork (operationLeft x) (valueLeft x old source) place next
 
 -- by the suffix, from a work that has the operand's number, unless that is refused
 abbrev pub suffixedWork : ℕ → ℕ → Work → Work

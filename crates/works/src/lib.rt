@@ -17,6 +17,8 @@ pub use jumps::target_of;
 pub use misses::miss_of;
 pub use performing::Moved;
 pub use performing::perform;
+pub use siblings::answer_of;
+pub use siblings::operation_of;
 pub use siblings::suffixed;
 pub use signs::extended;
 ghost use Rattle.basis.specs.Names.{_≡_};

@@ -1,4 +1,4 @@
-// What remains of one of 3DNow's instructions, by its suffix: what it leaves moves to its register, or it is refused.
+// What remains of one of 3DNow's instructions, by its suffix: an operation on its register, or it is refused.
 use crate::OPERATE;
 use crate::Work;
 use crate::refusals::HALF_UNSUPPORTED;
@@ -14,29 +14,47 @@ use lanes::PAVGB;
 use singles::Answer;
 ghost use Rattle.basis.specs.Names.{_≡_};
 ghost use Rattle.codec.specs.Opcodes.{suffixedOf};
-ghost use Rattle.works.specs.Siblings.{answeredWork, siblingWork, suffixedWork};
+ghost use Rattle.works.specs.Siblings.{valueLeft, operationLeft, answeredWork, suffixedWork};
 
-fn answered(answer: Answer, place: usize, next: usize) -> Work
-    ensures { λ r. ⌜ r ≡ answeredWork answer place next ⌝ }
-{
-    match answer {
-        Answer::Leaves(value) => work_of(OPERATE, MOVE, place, value, next),
-        Answer::Fails => refused(HALF_UNSUPPORTED),
-    }
-}
-
-// Those that read pairs of single-precision numbers.
-fn of_singles(suffix: u32, old: u64, source: u64, place: usize, next: usize) -> Work
-    requires { ⌜ (suffix ≡ 0xbf → ⊥) × ((suffix ≡ 0x0c → ⊥) × (suffix ≡ 0xbb → ⊥)) ⌝ }
-    ensures { λ r. ⌜ r ≡ siblingWork (suffixedOf suffix .sibling) old source place next ⌝ }
+// What a suffix leaves of what its register held and of the operand's number; PAVGUSB's is the number itself, for PAVGB.
+pub fn answer_of(suffix: u32, old: u64, source: u64) -> Answer
+    ensures { λ r. ⌜ r ≡ valueLeft (suffixedOf suffix .sibling) old source ⌝ }
 {
     if suffix == PF2IW {
-        return answered(singles::to_words(source), place, next);
+        return singles::to_words(source);
     }
     if suffix == PFCMPGT {
-        return answered(singles::greater(old, source), place, next);
+        return singles::greater(old, source);
     }
-    answered(singles::maximum(old, source), place, next)
+    if suffix == PI2FW {
+        return Answer::Leaves(singles::from_words(source));
+    }
+    if suffix == PSWAPD {
+        return Answer::Leaves(singles::swapped(source));
+    }
+    if suffix == PAVGUSB {
+        return Answer::Leaves(source);
+    }
+    singles::maximum(old, source)
+}
+
+// The operation that then remains: what is left moves to the register, but for PAVGUSB.
+pub fn operation_of(suffix: u32) -> u8
+    ensures { λ r. ⌜ r ≡ operationLeft (suffixedOf suffix .sibling) ⌝ }
+{
+    if suffix == PAVGUSB {
+        return PAVGB;
+    }
+    MOVE
+}
+
+fn answered(number: u8, answer: Answer, place: usize, next: usize) -> Work
+    ensures { λ r. ⌜ r ≡ answeredWork number answer place next ⌝ }
+{
+    match answer {
+        Answer::Leaves(value) => work_of(OPERATE, number, place, value, next),
+        Answer::Fails => refused(HALF_UNSUPPORTED),
+    }
 }
 
 // The work of a suffix, with what its register held, from one that has the operand's number, unless that is refused.
@@ -47,17 +65,10 @@ pub fn suffixed(suffix: u32, old: u64, work: Work) -> Work
     if what != OPERATE {
         return work;
     }
-    let place = work.place;
-    let source = work.value;
-    let next = work.next;
-    if suffix == PAVGUSB {
-        return work_of(OPERATE, PAVGB, place, source, next);
-    }
-    if suffix == PI2FW {
-        return work_of(OPERATE, MOVE, place, singles::from_words(source), next);
-    }
-    if suffix == PSWAPD {
-        return work_of(OPERATE, MOVE, place, singles::swapped(source), next);
-    }
-    of_singles(suffix, old, source, place, next)
+    answered(
+        operation_of(suffix),
+        answer_of(suffix, old, work.value),
+        work.place,
+        work.next,
+    )
 }

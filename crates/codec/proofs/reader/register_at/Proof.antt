@@ -12,5 +12,5 @@ register-at-spec =
     (λ c.
     let tested = c .before .before .before in
     register-on _ _ _ _ _ _ _ (tested .before .before .before .before .pre) _ (tested .allowed .ensures) (tested .before .before .if1 .left) _ (c .before .before .if2 .taken)
-    (c .before .operand-of .ensures) (c .immediate-at .ensures))
+    (c .before .operand-of .ensures) (c .number-after .ensures))
     (λ c κs. search reading) (λ c. search reading))

@@ -8,4 +8,5 @@ sib-at-spec =
     tie.close
     (tie.spec
     (λ c κs. search reading) (λ c κs. search reading) (λ c. search reading) (λ c κs. search reading) (λ c κs. search reading) (λ c. search reading)
-    (λ c. search reading) (λ c. search reading) (λ c κs. search reading) (λ c κs. search reading) (λ c. search reading) (λ c. search reading))
+    (λ c κs. search reading) (λ c κs. search reading) (λ c. search reading) (λ c. search reading) (λ c. search reading) (λ c κs. search reading)
+    (λ c κs. search reading) (λ c. search reading) (λ c. search reading))

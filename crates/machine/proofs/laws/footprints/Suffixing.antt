@@ -29,7 +29,7 @@ use Rattle.manual.proofs.Floors.{placed-zero}
 use Rattle.manual.proofs.Shapes.{both, bothOr, move, moveOr}
 use Rattle.works.specs.declared.Work.{Work}
 use Rattle.works.specs.Works.{toOperate, toRefuse, workOf, refusedWork}
-use Rattle.works.specs.Siblings.{answeredWork, siblingWork, suffixedWork}
+use Rattle.works.specs.Siblings.{valueLeft, operationLeft, answeredWork, siblingWork, suffixedWork}
 use Rattle.machine.specs.declared.Footprint.{Footprint}
 use Rattle.machine.specs.declared.Machine.{Machine}
 use Rattle.machine.specs.declared.Places.{Places}
@@ -125,17 +125,12 @@ module _ (s : State) where
 abbrev Ended : Work → Type 0
 Ended work = (work .what ≡ toRefuse) ⊎ (work .what ≡ toOperate)
 
-answer-ends : (answer : Answer) (place next : ℕ) → Ended (answeredWork answer place next)
-answer-ends (Leaves value) place next = inr refl
-answer-ends Fails place next = inl refl
+answer-ends : (number : ℕ) (answer : Answer) (place next : ℕ) → Ended (answeredWork number answer place next)
+answer-ends number (Leaves value) place next = inr refl
+answer-ends number Fails place next = inl refl
 
 sibling-ends : (x : Sibling) (old source place next : ℕ) → Ended (siblingWork x old source place next)
-sibling-ends PF2IW old source place next = answer-ends (leave PF2IW old source) place next
-sibling-ends PI2FW old source place next = answer-ends (leave PI2FW old source) place next
-sibling-ends PSWAPD old source place next = answer-ends (leave PSWAPD old source) place next
-sibling-ends PAVGUSB old source place next = inr refl
-sibling-ends PFCMPGT old source place next = answer-ends (leave PFCMPGT old source) place next
-sibling-ends PFMAX old source place next = answer-ends (leave PFMAX old source) place next
+sibling-ends x old source place next = answer-ends (operationLeft x) (valueLeft x old source) place next
 
 suffix-ends : (suffix old : ℕ) (registers integers m : List ℕ) (number place : ℕ) (spot : Spot) (next : ℕ)
     → Ended (suffixedWork suffix old (takeWork registers integers m number place spot next))

@@ -1,8 +1,8 @@
 -- The works that the code makes are sound, by what is to be done.
 use Rattle.basis.specs.Names.{_≡_, refl, Bool, true, false, cond, List, ℕ, _<_, length, getD}
 use Rattle.basis.proofs.Names.{arith}
-use Rattle.lanes.specs.Operations.{operateThree, described, MOVE, MASKMOVQ, PAVGB}
-use Rattle.singles.specs.Siblings.{Sibling, PF2IW, PI2FW, PSWAPD, PAVGUSB, PFCMPGT, PFMAX, leave}
+use Rattle.lanes.specs.Operations.{operateThree, described, MOVE, MASKMOVQ}
+use Rattle.singles.specs.Siblings.{Sibling}
 use Rattle.singles.specs.declared.answers.Answer.{Answer}
 use Rattle.singles.specs.declared.answers.Answer.the-variants.{Leaves, Fails}
 use Rattle.words.specs.Buffer.{loaded}
@@ -15,7 +15,7 @@ use Rattle.machine.specs.declared.operands.Spot.the-variants.{Mmx, Integ
 use Rattle.machine.specs.inner.Spots.{Named}
 use Rattle.machine.specs.inner.Picks.{pickedOf, pickedWork, maskWork}
 use Rattle.works.specs.Works.{toOperate, toStore, toInteger, toEmpty, toPass, toSet, toCount, workOf, refusedWork}
-use Rattle.works.specs.Siblings.{answeredWork, siblingWork, suffixedWork}
+use Rattle.works.specs.Siblings.{valueLeft, operationLeft, answeredWork, siblingWork, suffixedWork}
 use Rattle.machine.specs.inner.Works.{putWork, takeWork, Sound}
 
 pub sound-operation : (number place value next : ℕ) → place < 8 → Sound (workOf toOperate number place value next)
@@ -73,17 +73,12 @@ sound-picked form old immediate registers integers memory number place (Bytes a 
     sound-operation (described MOVE .number) place (pickedOf form old (loaded memory a size) immediate) next p
 sound-picked form old immediate registers integers memory number place (Refused n) next p h = sound-refusal n h
 
-sound-answer : (answer : Answer) (place next : ℕ) → place < 8 → Sound (answeredWork answer place next)
-sound-answer (Leaves value) place next p = sound-operation (described MOVE .number) place value next p
-sound-answer Fails place next p = sound-refusal halfUnsupported (λ e. omega arith)
+sound-answer : (number : ℕ) (answer : Answer) (place next : ℕ) → place < 8 → Sound (answeredWork number answer place next)
+sound-answer number (Leaves value) place next p = sound-operation number place value next p
+sound-answer number Fails place next p = sound-refusal halfUnsupported (λ e. omega arith)
 
 sound-sibling : (x : Sibling) (old source place next : ℕ) → place < 8 → Sound (siblingWork x old source place next)
-sound-sibling PF2IW old source place next p = sound-answer (leave PF2IW old source) place next p
-sound-sibling PI2FW old source place next p = sound-answer (leave PI2FW old source) place next p
-sound-sibling PSWAPD old source place next p = sound-answer (leave PSWAPD old source) place next p
-sound-sibling PAVGUSB old source place next p = sound-operation (described PAVGB .number) place source next p
-sound-sibling PFCMPGT old source place next p = sound-answer (leave PFCMPGT old source) place next p
-sound-sibling PFMAX old source place next p = sound-answer (leave PFMAX old source) place next p
+sound-sibling x old source place next p = sound-answer (operationLeft x) (valueLeft x old source) place next p
 
 pub sound-suffixed : (suffix old : ℕ) (registers integers memory : List ℕ) (number place : ℕ) (x : Spot) (next : ℕ) → place < 8 → Named x
     → Sound (suffixedWork suffix old (takeWork registers integers memory number place x next))

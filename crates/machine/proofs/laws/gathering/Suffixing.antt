@@ -1,7 +1,7 @@
 -- The work that the code makes of an instruction with a suffix does what its effect does.
 use Rattle.basis.specs.Names.{_≡_, refl, Bool, true, false, List, map, ℕ, _/_, _%_, _^_, eqb, length, getD}
 use Rattle.basis.proofs.Names.{sym, ap, subst, _∙_, arith, needs, le-leb}
-use Rattle.lanes.specs.Operations.{Operation, operate}
+use Rattle.lanes.specs.Operations.{Operation, operate, described, MOVE}
 use Rattle.singles.specs.Siblings.{Sibling, PF2IW, PI2FW, PSWAPD, PAVGUSB, PFCMPGT, PFMAX, leave}
 use Rattle.singles.specs.declared.answers.Answer.{Answer}
 use Rattle.singles.specs.declared.answers.Answer.the-variants.{Leaves, Fails}
@@ -81,7 +81,8 @@ module _ (registers integers m : List ℕ) (next : ℕ) where
   abbrev Makes : Work → (ℕ → State → Result State) → Type 0
   Makes work after = (floor : ℕ) (marks : Marks) (at : ℕ) → performed floor work at (state marks) ≡ concluded at (done next) (state marks) (after floor (state marks))
 
-  answer-makes : (answer : Answer) (place : ℕ) → Makes (answeredWork answer place next) (λ floor s. andThen (supported answer) (λ left. putAt s floor (mmxRegister place) left))
+  answer-makes : (answer : Answer) (place : ℕ)
+      → Makes (answeredWork (described MOVE .number) answer place next) (λ floor s. andThen (supported answer) (λ left. putAt s floor (mmxRegister place) left))
   unfolding performed operate
   answer-makes (Leaves value) place floor marks at = refl
   answer-makes Fails place floor marks at = refl

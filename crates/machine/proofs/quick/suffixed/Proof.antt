@@ -7,5 +7,6 @@ pub suffixed-spec : {M : Type 1} → statement M
 suffixed-spec =
     tie.close
     (tie.spec
-    (λ c κs. search making) (λ c. search making) (λ c. search making) (λ c κs. search making) (λ c κs. search making) (λ c. search making)
-    (λ c κs. search making) (λ c κs. search making) (λ c. search making) (λ c κs. search making) (λ c. search making))
+    (λ c κs. search making) (λ c. search making) (λ c. search making) (λ c κs. search making) (λ c κs. search making) (λ c κs. search making)
+    (λ c. search making) (λ c κs. search making) (λ c. search making) (λ c κs. search making) (λ c. search making) (λ c κs. search making)
+    (λ c. search making) (λ c. search making) (λ c κs. search making) (λ c. search making))
