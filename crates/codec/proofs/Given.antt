@@ -47,7 +47,7 @@ module _ (form : Form) (first second : ℕ) where
   unfolding displacementReader
   displacement-gives modrm sib = (omega arith, λ d. immediate-gives (operandOf modrm sib d) (registers-of modrm sib d))
 
-  modrm-gives : Gives first second (modrmReader form first second)
+  pub modrm-gives : Gives first second (modrmReader form first second)
   unfolding modrmReader sibReader
   modrm-gives = (
     omega arith,

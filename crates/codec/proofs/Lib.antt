@@ -9,6 +9,7 @@ pub mod Readers
 pub mod Given
 pub mod Entries
 pub mod Steps
+pub mod Judging
 pub mod OurTable
 pub mod Facts
 pub mod Checks

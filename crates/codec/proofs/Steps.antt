@@ -4,7 +4,7 @@ use Rattle.basis.proofs.Names.{sym, ap, ap₂, _∙_, false≢true, arith, add-
 use Rattle.words.specs.Number.{number}
 use Rattle.words.proofs.Laws.{and-both}
 use Rattle.codec.specs.Refusals.{codeEnds, notListed, notAllowed}
-use Rattle.codec.specs.Forms.{Form, absent, mmreg1·mmreg2/mem64+suffix, isAbsent, isAmong, hasOperand, allows, immediateSize, accepts}
+use Rattle.codec.specs.Forms.{Form, absent, isAbsent, hasOperand, allows, immediateSize, accepts}
 use Rattle.codec.specs.Contents.{loops}
 use Rattle.codec.specs.Opcodes.{isOf, formOfFirst, escape}
 use Rattle.codec.specs.Table.{formOf, entryOfFirst, formIn}
@@ -18,7 +18,7 @@ use Rattle.codec.specs.declared.Found.{Found}
 use Rattle.codec.specs.Answers.{Decoded, good, refused}
 use Rattle.codec.proofs.Sizes.{byte-there}
 use Rattle.codec.proofs.Bytes.{found-each}
-use Rattle.codec.proofs.FormNumbers.{form-there, accepted-other, accepted-suffix}
+use Rattle.codec.proofs.FormNumbers.{form-there, accepted-other}
 use Rattle.codec.proofs.Entries.{first-form-is}
 use Rattle.codec.proofs.Given.{Given, Refusal, Gives, form-gives, first-gives}
 use Rattle.codec.proofs.Readers.{Holds, every, reads-yes, reads-no, drop-here, field-here, field-none}
@@ -316,25 +316,6 @@ module _ (code : List ℕ) (at : ℕ) where
         → x ≡ found entry (good (instructionOf first second w v) (at + k)) → ends
     number-on k v plain e q y h = immediate-on (formOf n) first second entry x w k e v q y true (accepted-other n v plain) refl h
 
-    -- a suffix
-    module _ (is : n ≡ 16) where
-      one-byte : 1 ≡ immediateSize (formOf n)
-      one-byte = ap (λ (k : ℕ). immediateSize (formOf k)) (sym is)
-
-      pub suffix-none : length code ≤ at → x ≡ refusedAs codeEnds → ends
-      suffix-none q h = immediate-none (formOf n) first second entry x w 1 one-byte (omega arith) h
-
-      module _ (v : ℕ) (here : at < length code) (y : v ≡ getD code at 0 + 256 * (0 + 256 * (0 + 256 * 0))) (t : Bool)
-          (g : t ≡ isAmong v (mmreg1·mmreg2/mem64+suffix .suffixes)) where
-        accepted : t ≡ accepts (formOf n) v
-        accepted = accepted-suffix n v t is g
-
-        pub suffix-on : t ≡ true → x ≡ found entry (good (instructionOf first second w v) (at + 1)) → ends
-        suffix-on e h = immediate-on (formOf n) first second entry x w 1 one-byte v (omega arith) (number-1 1 v refl y (omega arith)) t accepted e h
-
-        pub suffix-other : t ≡ false → x ≡ refusedAs notListed → ends
-        suffix-other e h = immediate-other (formOf n) first second entry x w 1 one-byte v (omega arith) (number-1 1 v refl y (omega arith)) t accepted e h
-
 -- the ModRM byte of ADD, which allows registers alone
 module _ (code : List ℕ) (at n first second entry : ℕ) (x : Found) (adds : n ≡ 11) (t : Bool)
     (g : t ≡ allows (formOf n) (upper (getD code at 0)) (middle (getD code at 0)) (lower (getD code at 0))) (q : at < length code) where
@@ -380,9 +361,6 @@ pub ruleset reading = (
   displacement-on,
   immediate-none,
   number-on,
-  suffix-none,
-  suffix-on,
-  suffix-other,
   number-1,
   number-4,
 )

@@ -5,6 +5,7 @@ use crate::Operand;
 use crate::fields;
 use crate::forms::ABSENT;
 use crate::forms::FORM;
+use crate::forms::SHUFFLE;
 use crate::forms::SUFFIXED;
 use crate::opcodes;
 use crate::prefixes;
@@ -21,7 +22,7 @@ ghost use Rattle.codec.specs.inner.Fields.{Sized};
 ghost use Rattle.codec.specs.Reader.{reads};
 ghost use Rattle.codec.specs.Reads.{immediateReader, displacementReader, sibReader, modrmReader, firstReader, secondReader};
 ghost use Rattle.codec.specs.Finding.{refusedAs, found, foundIn};
-ghost use Rattle.codec.specs.inner.Entries.{foundAfter};
+ghost use Rattle.codec.specs.inner.Entries.{foundAfter, readAs, judgedFound};
 
 // A ModRM byte from here on has mod 11.
 const REGISTERS: u8 = 0xc0;
@@ -106,35 +107,9 @@ fn number_after(code: &[u8], at: usize, opcode: Opcode, operand: Operand) -> Fou
     }
 }
 
-// The suffix, which must be listed, and the whole record.
-fn suffix_after(code: &[u8], at: usize, opcode: Opcode, operand: Operand) -> Found
-    requires { ⌜ opcode .form ≡ 16 ⌝ }
-    ensures { λ r. ⌜ r ≡ foundAfter opcode (λ form first second. immediateReader form first second operand) (now (code .entry)) at ⌝ }
-{
-    if code.len() <= at {
-        return refused(CODE_ENDS);
-    }
-    let suffix = joined(code[at], 0, 0, 0);
-    if fields::is_suffix(suffix) {
-        Found {
-            refusal: 0,
-            entry: opcode.entry,
-            instruction: Instruction {
-                first: opcode.first,
-                second: opcode.second,
-                operand: operand,
-                immediate: suffix,
-            },
-            next: at + 1,
-        }
-    } else {
-        refused(NOT_LISTED)
-    }
-}
-
 // The displacement, if the ModRM and SIB bytes ask for one, and what follows it.
 fn displacement_at(code: &[u8], at: usize, opcode: Opcode, modrm: u8, sib: u8) -> Found
-    requires { ⌜ at ≤ length (now code) ⌝ }
+    requires { ⌜ (at ≤ length (now code)) × (opcode .form ≡ 16 → ⊥) ⌝ }
     ensures { λ r. ⌜ r ≡ foundAfter opcode (λ form first second. displacementReader form first second modrm sib) (now (code .entry)) at ⌝ }
 {
     let k = fields::displacement_size(
@@ -146,11 +121,7 @@ fn displacement_at(code: &[u8], at: usize, opcode: Opcode, modrm: u8, sib: u8) -
         return refused(CODE_ENDS);
     }
     let displacement = number_at(code, at, k);
-    let operand = operand_of(modrm, sib, displacement);
-    if opcode.form == SUFFIXED {
-        return suffix_after(code, at + k, opcode, operand);
-    }
-    number_after(code, at + k, opcode, operand)
+    number_after(code, at + k, opcode, operand_of(modrm, sib, displacement))
 }
 
 // The operand of a ModRM byte, an SIB byte (0 where there is none) and a displacement.
@@ -170,13 +141,10 @@ fn operand_of(modrm: u8, sib: u8, displacement: u32) -> Operand
 
 // The SIB byte, if the ModRM byte asks for one, and what follows it.
 fn sib_at(code: &[u8], at: usize, opcode: Opcode, modrm: u8) -> Found
-    requires { ⌜ at ≤ length (now code) ⌝ }
+    requires { ⌜ (at ≤ length (now code)) × (opcode .form ≡ 16 → ⊥) ⌝ }
     ensures { λ r. ⌜ r ≡ foundAfter opcode (λ form first second. sibReader form first second modrm) (now (code .entry)) at ⌝ }
 {
     if REGISTERS <= modrm {
-        if opcode.form == SUFFIXED {
-            return suffix_after(code, at, opcode, operand_of(modrm, 0, 0));
-        }
         return number_after(code, at, opcode, operand_of(modrm, 0, 0));
     }
     if fields::sib_follows(modrm / fields::UPPER, modrm % fields::VALUES) {
@@ -191,6 +159,7 @@ fn sib_at(code: &[u8], at: usize, opcode: Opcode, modrm: u8) -> Found
 
 // The ModRM byte, and what follows it.
 fn modrm_at(code: &[u8], at: usize, opcode: Opcode) -> Found
+    requires { ⌜ (opcode .form ≡ 16 → ⊥) ⌝ }
     ensures { λ r. ⌜ r ≡ foundAfter opcode modrmReader (now (code .entry)) at ⌝ }
 {
     if code.len() <= at {
@@ -207,6 +176,48 @@ fn modrm_at(code: &[u8], at: usize, opcode: Opcode) -> Found
     } else {
         refused(NOT_ALLOWED)
     }
+}
+
+// An opcode as its operands are read: one with a suffix as PSHUFW's, whose immediate stands in the suffix's place.
+fn read_as(opcode: Opcode) -> Opcode
+    ensures { λ r. ⌜ r ≡ readAs opcode ⌝ }
+{
+    if opcode.form == SUFFIXED {
+        return Opcode {
+            first: opcode.first,
+            second: opcode.second,
+            entry: opcode.entry,
+            form: SHUFFLE,
+        };
+    }
+    opcode
+}
+
+// What was read with a suffix, which must be listed.
+fn judged(found: Found) -> Found
+    ensures { λ r. ⌜ r ≡ judgedFound found ⌝ }
+{
+    let refusal = found.refusal;
+    if refusal != 0 {
+        return found;
+    }
+    let instruction = found.instruction;
+    if fields::is_suffix(instruction.immediate) {
+        return found;
+    }
+    refused(NOT_LISTED)
+}
+
+// The operands, the immediate, and then the suffix, if it is one. (What hands back a record without being copied into its caller would keep it in
+// memory for every instruction: so the suffix is looked at last.)
+fn operands_at(code: &[u8], at: usize, opcode: Opcode) -> Found
+    ensures { λ r. ⌜ r ≡ foundAfter opcode modrmReader (now (code .entry)) at ⌝ }
+{
+    let found = modrm_at(code, at, read_as(opcode));
+    if opcode.form == SUFFIXED {
+        return judged(found);
+    }
+    found
 }
 
 // The ModRM byte of ADD, which names a register, and the immediate. (`modrm_at` has one caller and is copied into it; with a second it would not be.)
@@ -271,7 +282,7 @@ pub(crate) fn second_at(table: &[u32; 256], code: &[u8], at: usize) -> Found
         return refused(NOT_LISTED);
     }
     if fields::has_operand(form) {
-        modrm_at(code, at + 1, opcode)
+        operands_at(code, at + 1, opcode)
     } else {
         number_after(code, at + 1, opcode, NO_OPERAND)
     }

@@ -7,5 +7,5 @@ pub displacement-at-spec : {M : Type 1} → statement M
 displacement-at-spec =
     tie.close
     (tie.spec
-    (λ c κs. search reading) (λ c. search reading) (λ c κs. search reading) (λ c. search reading) (λ c κs. search reading) (λ c κs. search reading)
-    (λ c. search reading) (λ c κs. search reading) (λ c. search reading) (λ c. search reading) (λ c κs. search reading) (λ c. search reading))
+    (λ c κs. search reading) (λ c. search reading) (λ c κs. search reading) (λ c. search reading) (λ c κs. search reading) (λ c. search reading)
+    (λ c κs. search reading) (λ c κs. search reading) (λ c. search reading))

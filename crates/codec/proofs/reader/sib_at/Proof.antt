@@ -8,5 +8,4 @@ sib-at-spec =
     tie.close
     (tie.spec
     (λ c κs. search reading) (λ c κs. search reading) (λ c. search reading) (λ c κs. search reading) (λ c κs. search reading) (λ c. search reading)
-    (λ c κs. search reading) (λ c κs. search reading) (λ c. search reading) (λ c. search reading) (λ c. search reading) (λ c κs. search reading)
-    (λ c κs. search reading) (λ c. search reading) (λ c. search reading))
+    (λ c. search reading) (λ c. search reading) (λ c κs. search reading) (λ c κs. search reading) (λ c. search reading) (λ c. search reading))
