@@ -26,7 +26,6 @@ use codec::forms::TWO_OPERANDS;
 use codec::modes::REGISTER;
 use codec::prefixes::ESCAPE;
 use lanes::MOVE;
-use singles::Answer;
 use works::DOUBLEWORD;
 use works::EMPTY;
 use works::OPERATE;
@@ -109,12 +108,7 @@ fn suffixed(old: u64, register: usize, value: u64, code: &[u8], at: usize) -> Wo
     }
     let suffix = suffix_of(code[at]);
     if is_suffix(suffix) {
-        return match works::answer_of(suffix, old, value) {
-            Answer::Leaves(left) => {
-                work_of(OPERATE, works::operation_of(suffix), register, left, at + 1)
-            }
-            Answer::Fails => none(),
-        };
+        return works::of_suffix(suffix, old, value, register, at + 1);
     }
     none()
 }

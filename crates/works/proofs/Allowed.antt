@@ -25,10 +25,8 @@ use Rattle.works.proofs.misses.miss_of.Reads as miss-of-reads
 use Rattle.works.proofs.misses.miss_of.Kinds as miss-of-kinds
 use Rattle.works.proofs.performing.perform.Reads as perform-reads
 use Rattle.works.proofs.performing.perform.Kinds as perform-kinds
-use Rattle.works.proofs.siblings.answer_of.Reads as answer-of-reads
-use Rattle.works.proofs.siblings.answer_of.Kinds as answer-of-kinds
-use Rattle.works.proofs.siblings.operation_of.Reads as operation-of-reads
-use Rattle.works.proofs.siblings.operation_of.Kinds as operation-of-kinds
+use Rattle.works.proofs.siblings.of_suffix.Reads as of-suffix-reads
+use Rattle.works.proofs.siblings.of_suffix.Kinds as of-suffix-kinds
 use Rattle.works.proofs.siblings.suffixed.Reads as suffixed-reads
 use Rattle.works.proofs.siblings.suffixed.Kinds as suffixed-kinds
 use Rattle.works.proofs.signs.extended.Reads as extended-reads
@@ -83,15 +81,10 @@ perform-one κs a r₁ r₂ s₁ s₂ p q =
     let same = p ∙ sym q in
     (ap (λ (x : Left). x .moved) same, (ap (λ (x : Left). x .mmx) same, (ap (λ (x : Left). x .integers) same, ap (λ (x : Left). x .memory) same)))
 
-pub answer-of-one : (κs : Lfts 0) (a : Dens κs answer-of-kinds.ps) (r₁ r₂ : resT answer-of-kinds.r κs .Denot)
-    (s₁ s₂ : AtExit (endedOf 0 answer-of-kinds.ps answer-of-kinds.r) κs)
-    → answer-of-reads.Post κs a r₁ s₁ → answer-of-reads.Post κs a r₂ s₂ → r₁ ≡ r₂
-answer-of-one κs a r₁ r₂ s₁ s₂ p q = p ∙ sym q
-
-pub operation-of-one : (κs : Lfts 0) (a : Dens κs operation-of-kinds.ps) (r₁ r₂ : resT operation-of-kinds.r κs .Denot)
-    (s₁ s₂ : AtExit (endedOf 0 operation-of-kinds.ps operation-of-kinds.r) κs)
-    → operation-of-reads.Post κs a r₁ s₁ → operation-of-reads.Post κs a r₂ s₂ → r₁ ≡ r₂
-operation-of-one κs a r₁ r₂ s₁ s₂ p q = p ∙ sym q
+pub of-suffix-one : (κs : Lfts 0) (a : Dens κs of-suffix-kinds.ps) (r₁ r₂ : resT of-suffix-kinds.r κs .Denot)
+    (s₁ s₂ : AtExit (endedOf 0 of-suffix-kinds.ps of-suffix-kinds.r) κs)
+    → of-suffix-reads.Post κs a r₁ s₁ → of-suffix-reads.Post κs a r₂ s₂ → r₁ ≡ r₂
+of-suffix-one κs a r₁ r₂ s₁ s₂ p q = p ∙ sym q
 
 pub suffixed-one : (κs : Lfts 0) (a : Dens κs suffixed-kinds.ps) (r₁ r₂ : resT suffixed-kinds.r κs .Denot)
     (s₁ s₂ : AtExit (endedOf 0 suffixed-kinds.ps suffixed-kinds.r) κs)

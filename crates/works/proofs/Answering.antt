@@ -11,7 +11,7 @@ use Rattle.codec.proofs.Bytes.{found-each}
 use Rattle.manual.specs.Refusals.{halfUnsupported}
 use Rattle.works.specs.declared.Work.{Work}
 use Rattle.works.specs.Works.{toOperate, workOf, refusedWork}
-use Rattle.works.specs.Siblings.{valueLeft, operationLeft, answeredWork, suffixedWork}
+use Rattle.works.specs.Siblings.{valueLeft, operationLeft, answeredWork, siblingWork, suffixedWork}
 
 module _ (number : ℕ) (answer : Answer) (place next : ℕ) (r : Work) where
   pub answered-leaves : (value : ℕ) → answer ≡ Leaves value → r ≡ workOf toOperate number place value next → r ≡ answeredWork number answer place next
@@ -101,13 +101,17 @@ module _ (suffix : ℕ) where
       found-each (λ x. x) maximum (λ x. described MOVE .number ≡ operationLeft (x .sibling)) (λ x. eqb suffix (x .suffix)) refl siblings
       (λ h. refl, (λ h. refl, (λ h. refl, (λ h. absurd (none (eqb-true suffix 0xbf h)), (λ h. refl, (λ h. refl, tt))))))
 
--- from the operand's number, unless that is refused
+-- with the operand's number
+pub of-suffix-made : (suffix old source place next number : ℕ) (answer : Answer) (r : Work) → number ≡ operationLeft (suffixedOf suffix .sibling)
+    → answer ≡ valueLeft (suffixedOf suffix .sibling) old source → r ≡ answeredWork number answer place next → r ≡ siblingWork (suffixedOf suffix .sibling) old source place next
+of-suffix-made suffix old source place next number answer r n a made = made ∙ ap₂ (λ (k : ℕ) (x : Answer). answeredWork k x place next) n a
+
+-- from a work that has it, unless that is refused
 module _ (suffix old : ℕ) (work r : Work) where
   pub suffixed-refused : (work .what ≡ toOperate → ⊥) → r ≡ work → r ≡ suffixedWork suffix old work
   suffixed-refused e h = h ∙ (simp (ne-eqb (work .what) toOperate e))
 
-  pub suffixed-made : (number : ℕ) (answer : Answer) → work .what ≡ toOperate → number ≡ operationLeft (suffixedOf suffix .sibling)
-      → answer ≡ valueLeft (suffixedOf suffix .sibling) old (work .value) → r ≡ answeredWork number answer (work .place) (work .next) → r ≡ suffixedWork suffix old work
-  suffixed-made number answer e n a made = simp e (made ∙ ap₂ (λ (k : ℕ) (x : Answer). answeredWork k x (work .place) (work .next)) n a)
+  pub suffixed-made : work .what ≡ toOperate → r ≡ siblingWork (suffixedOf suffix .sibling) old (work .value) (work .place) (work .next) → r ≡ suffixedWork suffix old work
+  suffixed-made e made = simp e made
 
-pub ruleset answering = (needs, answered-leaves, answered-fails, left-words, left-greater, left-singles, left-swap, left-mean, left-maximum, operation-mean, operation-move, suffixed-refused, suffixed-made)
+pub ruleset answering = (needs, answered-leaves, answered-fails, left-words, left-greater, left-singles, left-swap, left-mean, left-maximum, operation-mean, operation-move, of-suffix-made, suffixed-refused, suffixed-made)

@@ -14,10 +14,10 @@ use lanes::PAVGB;
 use singles::Answer;
 ghost use Rattle.basis.specs.Names.{_≡_};
 ghost use Rattle.codec.specs.Opcodes.{suffixedOf};
-ghost use Rattle.works.specs.Siblings.{valueLeft, operationLeft, answeredWork, suffixedWork};
+ghost use Rattle.works.specs.Siblings.{valueLeft, operationLeft, answeredWork, siblingWork, suffixedWork};
 
 // What a suffix leaves of what its register held and of the operand's number; PAVGUSB's is the number itself, for PAVGB.
-pub fn answer_of(suffix: u32, old: u64, source: u64) -> Answer
+fn answer_of(suffix: u32, old: u64, source: u64) -> Answer
     ensures { λ r. ⌜ r ≡ valueLeft (suffixedOf suffix .sibling) old source ⌝ }
 {
     if suffix == PF2IW {
@@ -39,7 +39,7 @@ pub fn answer_of(suffix: u32, old: u64, source: u64) -> Answer
 }
 
 // The operation that then remains: what is left moves to the register, but for PAVGUSB.
-pub fn operation_of(suffix: u32) -> u8
+fn operation_of(suffix: u32) -> u8
     ensures { λ r. ⌜ r ≡ operationLeft (suffixedOf suffix .sibling) ⌝ }
 {
     if suffix == PAVGUSB {
@@ -57,7 +57,19 @@ fn answered(number: u8, answer: Answer, place: usize, next: usize) -> Work
     }
 }
 
-// The work of a suffix, with what its register held, from one that has the operand's number, unless that is refused.
+// The work of a suffix, with what its register held and the operand's number.
+pub fn of_suffix(suffix: u32, old: u64, source: u64, place: usize, next: usize) -> Work
+    ensures { λ r. ⌜ r ≡ siblingWork (suffixedOf suffix .sibling) old source place next ⌝ }
+{
+    answered(
+        operation_of(suffix),
+        answer_of(suffix, old, source),
+        place,
+        next,
+    )
+}
+
+// The same, from a work that has the operand's number, unless that is refused.
 pub fn suffixed(suffix: u32, old: u64, work: Work) -> Work
     ensures { λ r. ⌜ r ≡ suffixedWork suffix old work ⌝ }
 {
@@ -65,10 +77,5 @@ pub fn suffixed(suffix: u32, old: u64, work: Work) -> Work
     if what != OPERATE {
         return work;
     }
-    answered(
-        operation_of(suffix),
-        answer_of(suffix, old, work.value),
-        work.place,
-        work.next,
-    )
+    of_suffix(suffix, old, work.value, work.place, work.next)
 }

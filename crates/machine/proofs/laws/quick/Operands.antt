@@ -1,8 +1,6 @@
 -- The works with two operands: an MMX register and memory by the form, and what such a work does. Rules for the functions that make them.
 use Rattle.basis.specs.Names.{_≡_, refl, _⊎_, Bool, true, false, _||_, List, ℕ, _+_, _/_, _%_, _^_, _≤_, _<_, eqb, leb, length, getD}
-use Rattle.basis.proofs.Names.{sym, ap, ap₂, subst, _∙_, inl, inr, false≢true, or-true, arith, needs, eq-eqb, ne-eqb, eqb-true, eqb-false}
-use Rattle.singles.specs.declared.answers.Answer.{Answer}
-use Rattle.singles.specs.declared.answers.Answer.the-variants.{Leaves}
+use Rattle.basis.proofs.Names.{sym, ap, subst, _∙_, inl, inr, false≢true, or-true, arith, needs, eq-eqb, ne-eqb, eqb-true, eqb-false}
 use Rattle.words.specs.Buffer.{loaded}
 use Rattle.reorder.specs.Result.{done}
 use Rattle.codec.specs.Forms.{mmreg1·mmreg2/mem64+suffix, isAmong, memorySize}
@@ -19,7 +17,7 @@ use Rattle.machine.specs.inner.Quick.{Within, SuffixAt, SuffixInMemory, 
 use Rattle.machine.specs.inner.Spots.{otherOf, spotOf}
 use Rattle.machine.specs.inner.Ways.{isStore, wayOf}
 use Rattle.works.specs.Works.{toOperate, toStore, toEmpty, toRefuse, workOf, refusedWork}
-use Rattle.works.specs.Siblings.{valueLeft, operationLeft, answeredWork, suffixedWork}
+use Rattle.works.specs.Siblings.{siblingWork, suffixedWork}
 use Rattle.machine.specs.inner.Works.{effectIn, numbers, isListed, Listed, Does}
 use Rattle.machine.proofs.laws.gathering.Sorting.{does-store, does-load, does-compute}
 use Rattle.machine.proofs.laws.ways.Numbering.{way-streams, way-stores, way-loads, way-computes}
@@ -43,18 +41,15 @@ answered-alone A work n at e w = record { holds = λ h. (e, w) }
 
 -- a suffix, where there is one
 module _ (A : Type 0) (work : Work) (old place : ℕ) (code : List ℕ) (at : ℕ) where
-  pub answered-suffix : (value suffix : ℕ) (t : Bool) (answer : Answer) (left number : ℕ) → at < length code → suffix ≡ getD code at 0 → t ≡ isAmong suffix (mmreg1·mmreg2/mem64+suffix .suffixes) → t ≡ true
-      → answer ≡ valueLeft (suffixedOf suffix .sibling) old value → answer ≡ Leaves left → number ≡ operationLeft (suffixedOf suffix .sibling)
-      → work ≡ workOf toOperate number place left (at + 1) → Unless A (SuffixAt work old place value code at)
-  answered-suffix value suffix t answer left number room e test listed answered leaves operation made =
+  pub answered-suffix : (value suffix : ℕ) (t : Bool) → at < length code → suffix ≡ getD code at 0 → t ≡ isAmong suffix (mmreg1·mmreg2/mem64+suffix .suffixes) → t ≡ true
+      → work ≡ siblingWork (suffixedOf suffix .sibling) old value place (at + 1) → Unless A (SuffixAt work old place value code at)
+  answered-suffix value suffix t room e test listed made =
       record {
         holds = λ h.
             record {
               room = room;
               listed = ap (λ (k : ℕ). isAmong k (mmreg1·mmreg2/mem64+suffix .suffixes)) (sym e) ∙ sym test ∙ listed;
-              is =
-                  made ∙ ap₂ (λ (k : ℕ) (x : Answer). answeredWork k x place (at + 1)) operation (sym leaves ∙ answered)
-                  ∙ ap (λ (k : ℕ). suffixedWork k old (workOf toOperate 0 place value (at + 1))) e;
+              is = made ∙ ap (λ (k : ℕ). suffixedWork k old (workOf toOperate 0 place value (at + 1))) e;
             };
       }
 

@@ -7,6 +7,5 @@ pub suffixed-spec : {M : Type 1} → statement M
 suffixed-spec =
     tie.close
     (tie.spec
-    (λ c κs. search making) (λ c. search making) (λ c. search making) (λ c κs. search making) (λ c κs. search making) (λ c κs. search making)
-    (λ c. search making) (λ c κs. search making) (λ c. search making) (λ c κs. search making) (λ c. search making) (λ c κs. search making)
-    (λ c. search making) (λ c. search making) (λ c κs. search making) (λ c. search making))
+    (λ c κs. search making) (λ c. search making) (λ c. search making) (λ c κs. search making) (λ c κs. search making) (λ c. search making)
+    (λ c κs. search making) (λ c. search making) (λ c κs. search making) (λ c. search making))

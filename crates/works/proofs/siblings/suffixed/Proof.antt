@@ -7,4 +7,4 @@ pub suffixed-spec : {M : Type 1} → statement M
 suffixed-spec =
     tie.close
     (tie.spec
-    (λ c. search answering) (λ c κs. search answering) (λ c κs. search answering) (λ c κs. search answering) (λ c. search answering))
+    (λ c. search answering) (λ c κs. search answering) (λ c. search answering))
