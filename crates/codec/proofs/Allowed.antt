@@ -11,6 +11,8 @@ use Rattle.codec.specs.declared.Reading.{Reading}
 use Rattle.codec.specs.declared.Reading.the-variants as reading
 use Rattle.codec.specs.declared.Writing.{Writing}
 use Rattle.codec.specs.declared.Writing.the-variants as writing
+use Rattle.codec.proofs.fields.is_suffix.Reads as is-suffix-reads
+use Rattle.codec.proofs.fields.is_suffix.Kinds as is-suffix-kinds
 use Rattle.codec.proofs.table.Reads as table-reads
 use Rattle.codec.proofs.table.Kinds as table-kinds
 use Rattle.codec.proofs.read_from.Reads as read-from-reads
@@ -31,6 +33,11 @@ written-one (writing.Wrote m) (writing.Wrote n) a b e = (cc, cc)
 written-one (writing.Wrote m) (writing.Refused n) a b e = (cc, cc)
 written-one (writing.Refused m) (writing.Wrote n) a b e = (cc, cc)
 written-one (writing.Refused m) (writing.Refused n) a b e = (cc, cc)
+
+pub is-suffix-one : (κs : Lfts 0) (a : Dens κs is-suffix-kinds.ps) (r₁ r₂ : resT is-suffix-kinds.r κs .Denot)
+    (s₁ s₂ : AtExit (endedOf 0 is-suffix-kinds.ps is-suffix-kinds.r) κs)
+    → is-suffix-reads.Post κs a r₁ s₁ → is-suffix-reads.Post κs a r₂ s₂ → r₁ ≡ r₂
+is-suffix-one κs a r₁ r₂ s₁ s₂ p q = p ∙ sym q
 
 pub table-one : (κs : Lfts 0) (a : Dens κs table-kinds.ps) (r₁ r₂ : resT table-kinds.r κs .Denot)
     (s₁ s₂ : AtExit (endedOf 0 table-kinds.ps table-kinds.r) κs)

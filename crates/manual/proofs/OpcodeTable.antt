@@ -123,8 +123,8 @@ extension =
     -- SFENCE
     ∷ (0xae, λ w immediate. bare Silent) ∷ []
 
--- 3DNow, by the suffix after 0F 0F and the operands: manual 000's Table 1, of which Req 10 names PF2IW, PI2FW and PSWAPD, then manual 003's Table 2,
--- of which it names PAVGUSB, PFCMPGT and PFMAX
+-- 3DNow, by the suffix after 0F 0F and the operands: manual 000's Table 1, of which Req 10 names PF2IW, PI2FW and PSWAPD, then manual 003, of which it
+-- names PAVGUSB, PFCMPGT and PFMAX (003's Table 2 prints A4 beside another name; PFMAX's own page has it)
 abbrev suffixTable : List (ℕ × (Operand → Effect))
 suffixTable =
     -- "PF2IW, PI2FW and PSWAPD don't read their destination"

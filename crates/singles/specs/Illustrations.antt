@@ -1,5 +1,5 @@
--- Every cell of the tables, at both signs and at the ends of what it is for. The numbers are our own, since the manuals have none; both halves of a
--- register are examples.
+-- Every cell of the tables, at both signs and at the ends of what it is for. The numbers are our own, but PAVGUSB's, which are 003's: for the others
+-- the manuals have none. Both halves of a register are examples.
 use Rattle.basis.specs.Names.{ℕ, Bool, true, false, _&&_, List, [], _∷_, eqb}
 use Rattle.singles.specs.Siblings.{Sibling, PF2IW, PI2FW, PSWAPD, PAVGUSB, PFCMPGT, PFMAX, leave}
 use Rattle.singles.specs.declared.answers.Answer.{Answer}

@@ -1,4 +1,4 @@
--- `siblings::answered` meets its contract: each answer is a rule on the suffix.
+-- `siblings::answered` meets its contract: where a half is undefined it refuses, and else an operation remains.
 use Rattle.works.proofs.Answering.{answering}
 use Rattle.works.proofs.siblings.answered.Statement.{statement}
 use Rattle.works.proofs.siblings.answered.Tie as tie

@@ -1,4 +1,4 @@
--- `siblings::of_suffix` meets its contract: each answer is a rule on the suffix.
+-- `siblings::of_suffix` meets its contract: its operation and its answer are the suffix's.
 use Rattle.works.proofs.Answering.{answering}
 use Rattle.works.proofs.siblings.of_suffix.Statement.{statement}
 use Rattle.works.proofs.siblings.of_suffix.Tie as tie

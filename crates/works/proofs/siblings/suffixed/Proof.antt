@@ -1,4 +1,4 @@
--- `siblings::suffixed` meets its contract: each answer is a rule on the suffix.
+-- `siblings::suffixed` meets its contract: a refused work stays, and any other becomes the suffix's.
 use Rattle.works.proofs.Answering.{answering}
 use Rattle.works.proofs.siblings.suffixed.Statement.{statement}
 use Rattle.works.proofs.siblings.suffixed.Tie as tie
