@@ -1,13 +1,13 @@
 -- What can be completed: bytes more make an instruction of what is left of a code, unless it has a suffix that is not listed, which nothing but
 -- another suffix in its place can mend.
-use Rattle.basis.specs.Names.{ℕ, zero, suc, _+_, _-_, _≤_, _<_, _≡_, refl, _⊎_, Bool, true, false, cond, List, [], _∷_, _++_, leb, length, take, drop, replicate}
-use Rattle.basis.proofs.Names.{sym, ap, _∙_, inl, inr, false≢true, append-assoc, append-nil, add-zero, arith, leb-true, leb-false, le-leb, length-append, length-replicate, length-drop, length-take-le, take-append-drop, take-append-le, drop-append-le, drop-of-length-le}
+use Rattle.basis.specs.Names.{ℕ, zero, suc, _+_, _-_, _≤_, _≡_, refl, _⊎_, Bool, true, false, cond, List, [], _∷_, _++_, leb, length, take, drop, replicate}
+use Rattle.basis.proofs.Names.{sym, ap, _∙_, inl, inr, false≢true, append-assoc, add-zero, arith, leb-true, leb-false, le-leb, length-append, length-replicate, length-drop, length-take-le, take-append-drop, take-append-le, drop-append-le, drop-of-length-le}
 use Rattle.words.specs.Number.{AllBytes, number}
 use Rattle.words.proofs.Numbers.{all-none, all-cons, all-append}
 use Rattle.codec.specs.Refusals.{notListed}
 use Rattle.codec.specs.Reader.{Reader, whole, refuse, byte, field, reads}
 use Rattle.codec.specs.declared.Instruction.{Instruction}
-use Rattle.codec.specs.Answers.{Decoded, good, refused}
+use Rattle.codec.specs.Answers.{good, refused}
 use Rattle.codec.proofs.Readers.{field-reads, field-read, reads-yes, reads-no}
 
 pub record Completed (r : Reader) (at : ℕ) (s : List ℕ) : Type 0 where

@@ -1,9 +1,9 @@
 -- An instruction with a suffix is read as one with an immediate, and then its suffix is looked at. Rules for the functions that do so.
 use Rattle.basis.specs.Names.{ℕ, _+_, _≡_, refl, Bool, true, false, cond, List, [], _∷_, eqb, leb, length, take, drop}
-use Rattle.basis.proofs.Names.{sym, ap, ap₂, _∙_, arith, needs, eq-eqb, ne-eqb, eqb-false}
+use Rattle.basis.proofs.Names.{sym, ap, _∙_, arith, needs, eq-eqb, ne-eqb, eqb-false}
 use Rattle.words.specs.Number.{number}
 use Rattle.codec.specs.Refusals.{codeEnds, notListed}
-use Rattle.codec.specs.Forms.{Form, mmreg1←mmreg2/mem64+imm8, mmreg1·mmreg2/mem64+suffix, isAmong, allows, accepts}
+use Rattle.codec.specs.Forms.{mmreg1←mmreg2/mem64+imm8, mmreg1·mmreg2/mem64+suffix, isAmong, allows, accepts}
 use Rattle.codec.specs.Table.{formOf}
 use Rattle.codec.specs.Operands.{upper, lower, hasSib}
 use Rattle.codec.specs.Reader.{Reader, whole, refuse, byte, field, reads}

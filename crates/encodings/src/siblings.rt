@@ -3,7 +3,6 @@ ghost use Rattle.basis.specs.Names.{_<_, _≤_};
 use crate::ESCAPE;
 use crate::NOTHING;
 use crate::REGISTERS;
-use crate::ROOM;
 use crate::Tally;
 use crate::try_code;
 use codec::modes::BYTE_DISPLACEMENT;

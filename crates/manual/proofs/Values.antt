@@ -1,7 +1,6 @@
 -- The numbers that an effect's value is made of are those of the operands that it takes, where all of them have their places.
 use Rattle.basis.specs.Names.{_≡_, refl, Bool, true, false, cond, List, [], _∷_, _++_, map, ℕ, zero, suc, _+_, length, take, drop}
 use Rattle.basis.proofs.Names.{sym, ap, ap₂, subst, _∙_, false≢true, take-at, drop-at}
-use Rattle.words.specs.Number.{number}
 use Rattle.reorder.specs.Result.{Result, done, refused, andThen, mapResult}
 use Rattle.reorder.specs.Plan.{looks}
 use Rattle.manual.specs.State.{State}

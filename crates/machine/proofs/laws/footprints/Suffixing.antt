@@ -1,7 +1,7 @@
 -- The footprint of an instruction with a suffix: it is refused as its step is, and else that of a load or of a computation. Rules for what the code
 -- makes of one.
-use Rattle.basis.specs.Names.{_≡_, refl, _⊎_, Bool, true, false, List, [], _∷_, ℕ, _/_, _%_, _^_, eqb, length, getD}
-use Rattle.basis.proofs.Names.{sym, ap, ap₂, subst, _∙_, inl, inr, false≢true, needs}
+use Rattle.basis.specs.Names.{_≡_, refl, _⊎_, true, false, List, [], ℕ, _/_, _%_, _^_, eqb, length, getD}
+use Rattle.basis.proofs.Names.{sym, ap, subst, _∙_, inl, inr, false≢true, needs}
 use Rattle.singles.specs.Siblings.{Sibling, PF2IW, PI2FW, PSWAPD, PAVGUSB, PFCMPGT, PFMAX, leave}
 use Rattle.singles.specs.declared.answers.Answer.{Answer}
 use Rattle.singles.specs.declared.answers.Answer.the-variants.{Leaves, Fails}
@@ -9,7 +9,7 @@ use Rattle.words.specs.Buffer.{loaded}
 use Rattle.reorder.specs.Result.{Result, done, refused, andThen, mapResult}
 use Rattle.reorder.specs.Plan.{Plan, looks, leaves, perform}
 use Rattle.reorder.specs.Footprint.{footprintOf, footprintIn}
-use Rattle.codec.specs.Contents.{Suffixed, maximum, siblings}
+use Rattle.codec.specs.Contents.{maximum, siblings}
 use Rattle.codec.specs.Opcodes.{suffixedOf}
 use Rattle.codec.specs.Forms.{mmxFile}
 use Rattle.codec.specs.inner.Fields.{Registers}
@@ -24,11 +24,11 @@ use Rattle.manual.specs.Locations.{Location, mmxRegister, rmOf, placesOf}
 use Rattle.manual.specs.Effects.{Effect, placesOfAll, valuesIn, contentsOfAll, planOn, placed, via}
 use Rattle.manual.specs.inner.Unmarked.{directly}
 use Rattle.manual.specs.Instructions.{supported}
-use Rattle.manual.specs.Steps.{Outcome, completed, refusedWith, concluded}
+use Rattle.manual.specs.Steps.{refusedWith, concluded}
 use Rattle.manual.proofs.Floors.{placed-zero}
 use Rattle.manual.proofs.Shapes.{both, bothOr, move, moveOr}
 use Rattle.works.specs.declared.Work.{Work}
-use Rattle.works.specs.Works.{toOperate, toRefuse, workOf, refusedWork}
+use Rattle.works.specs.Works.{toOperate, toRefuse}
 use Rattle.works.specs.Siblings.{valueLeft, operationLeft, answeredWork, siblingWork, suffixedWork}
 use Rattle.machine.specs.declared.Footprint.{Footprint}
 use Rattle.machine.specs.declared.Machine.{Machine}
@@ -45,9 +45,9 @@ use Rattle.machine.specs.Footprints.{masked}
 use Rattle.machine.specs.inner.Reaches.{reachOf, footprintOfWay, unmarkedFootprint, Completes}
 use Rattle.machine.specs.inner.Spots.{otherOf, spotOf}
 use Rattle.machine.specs.inner.Ways.{wayOf, suffixWay, hasOther}
-use Rattle.machine.specs.inner.Works.{machineOf, effectIn, Listed, takeWork, performed, Does}
+use Rattle.machine.specs.inner.Works.{effectIn, Listed, takeWork, performed}
 use Rattle.machine.proofs.laws.gathering.Suffixing.{effectOfSuffix, suffix-effect, suffix-operand, workBySuffix, does-suffix}
-use Rattle.machine.proofs.laws.ways.Numbering.{way-suffixes, two-from}
+use Rattle.machine.proofs.laws.ways.Numbering.{way-suffixes}
 use Rattle.machine.proofs.laws.footprints.ByWay.{tracedAs, load-footprint, compute-footprint}
 
 -- A step that is refused has no footprint, and one that completes has that of any other with the same operands

@@ -1,7 +1,7 @@
 -- The work that the code makes of an instruction with a suffix does what its effect does.
 use Rattle.basis.specs.Names.{_≡_, refl, Bool, true, false, List, map, ℕ, _/_, _%_, _^_, eqb, length, getD}
-use Rattle.basis.proofs.Names.{sym, ap, subst, _∙_, arith, needs, le-leb}
-use Rattle.lanes.specs.Operations.{Operation, operate, described, MOVE}
+use Rattle.basis.proofs.Names.{sym, ap, subst, _∙_, needs}
+use Rattle.lanes.specs.Operations.{operate, described, MOVE}
 use Rattle.singles.specs.Siblings.{Sibling, PF2IW, PI2FW, PSWAPD, PAVGUSB, PFCMPGT, PFMAX, leave}
 use Rattle.singles.specs.declared.answers.Answer.{Answer}
 use Rattle.singles.specs.declared.answers.Answer.the-variants.{Leaves, Fails}
@@ -27,13 +27,12 @@ use Rattle.manual.specs.Steps.{concluded}
 use Rattle.manual.proofs.Shapes.{bothOr, moveOr}
 use Rattle.manual.proofs.Direct.{valueAt, putAt, move-or-direct, both-or-direct}
 use Rattle.works.specs.declared.Work.{Work}
-use Rattle.works.specs.Works.{toOperate, workOf}
 use Rattle.works.specs.Siblings.{answeredWork, siblingWork, suffixedWork}
 use Rattle.machine.specs.declared.ways.Way.{Way}
 use Rattle.machine.specs.declared.ways.Way.the-variants.{Suffixes}
 use Rattle.machine.specs.State.{stateOf}
 use Rattle.machine.specs.inner.Spots.{fileIn, otherOf, spotOf}
-use Rattle.machine.specs.inner.Ways.{wayOf, hasOther}
+use Rattle.machine.specs.inner.Ways.{wayOf}
 use Rattle.machine.specs.inner.Works.{machineOf, effectIn, Listed, takeWork, performed, Does}
 use Rattle.machine.proofs.laws.gathering.Soundness.{sound-suffixed}
 use Rattle.machine.proofs.laws.gathering.Sorting.{of-work, ways}
