@@ -1,5 +1,5 @@
 -- What the writer leaves, computed: in a buffer that is longer than the instruction, as long, and shorter; and of a record without bytes. What the
--- reader and the writer give of loops.
+-- reader and the writer give of loops, and of 3DNow's suffixes.
 use Rattle.basis.specs.Names.{_≡_, refl, [], _∷_, ℕ}
 use Rattle.codec.specs.declared.Instruction.{Instruction}
 use Rattle.codec.specs.declared.Operand.{Operand}
@@ -81,4 +81,33 @@ of-loops = record {
   moved = refl;
   decremented = refl;
   no-second = refl;
+}
+
+-- PSWAPD MM1, [EBX + ESI * 4 - 16], and the same with another suffix
+abbrev swap : ℕ → Instruction
+swap suffix = instructionOf 0x0f 0x0f (record { mode = 1; reg = 1; rm = 4; scale = 2; index = 6; base = 3; displacement = 0xf0 }) suffix
+
+pub record SuffixExamples : Type 0 where
+  -- the suffix is the last byte, after the displacement, and the record's immediate as it stood
+  pub swaps : readPart (0x0f ∷ 0x0f ∷ 0x4c ∷ 0xb3 ∷ 0xf0 ∷ 0xbb ∷ 0x90 ∷ []) ≡ good (swap 0xbb) 6
+  pub maximum : readPart (0x0f ∷ 0x0f ∷ 0xc1 ∷ 0xa4 ∷ []) ≡ good (instructionOf 0x0f 0x0f (registers 0 1) 0xa4) 4
+  -- 3 while a byte is missing, the suffix too
+  pub ends : (readPart (0x0f ∷ 0x0f ∷ []) ≡ refused 3) × ((readPart (0x0f ∷ 0x0f ∷ 0xc0 ∷ []) ≡ refused 3) × (readPart (0x0f ∷ 0x0f ∷ 0x04 ∷ []) ≡ refused 3))
+  -- 5 for a suffix that is not listed: PFMUL's; and for the second bytes beside 0F
+  pub unlisted : readPart (0x0f ∷ 0x0f ∷ 0xc0 ∷ 0xb4 ∷ []) ≡ refused 5
+  pub beside : (readPart (0x0f ∷ 0x0d ∷ []) ≡ refused 5) × (readPart (0x0f ∷ 0x0e ∷ []) ≡ refused 5)
+  -- written back; a record with that suffix has no bytes
+  pub swapped : writeTo (swap 0xbb) (1 ∷ 2 ∷ 3 ∷ 4 ∷ 5 ∷ 6 ∷ 7 ∷ []) ≡ wrote 6 (0x0f ∷ 0x0f ∷ 0x4c ∷ 0xb3 ∷ 0xf0 ∷ 0xbb ∷ 7 ∷ [])
+  pub no-suffix : writeTo (swap 0xb4) (1 ∷ []) ≡ refusedWith 11 (1 ∷ [])
+
+pub of-suffixes : SuffixExamples
+unfolding allows formAt formOfFirst hasSib displacementSize immediateReader displacementReader sibReader modrmReader formReader firstReader secondReader instructionReader sibFits operandFits operandIsZero partsFit opcodeFits hasBytes sibBytes displacementBytes operandBytes partsBytes bytesOf writeTo
+of-suffixes = record {
+  swaps = refl;
+  maximum = refl;
+  ends = (refl, (refl, refl));
+  unlisted = refl;
+  beside = (refl, refl);
+  swapped = refl;
+  no-suffix = refl;
 }
