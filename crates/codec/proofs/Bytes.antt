@@ -1,9 +1,9 @@
 -- What is found in a list: what every line passes is passed by the line found. So it is said of every second byte, of every first byte, and of every
 -- form's number. And what is among the numbers of a list.
 use Rattle.basis.specs.Names.{ℕ, _≤_, _≡_, refl, Bool, true, false, not, cond, _&&_, _||_, List, [], _∷_, map, eqb, ltb, getD, drop}
-use Rattle.basis.proofs.Names.{sym, ap, subst, _∙_, false≢true, arith, ltb-true, le-ltb, eqb-true}
+use Rattle.basis.proofs.Names.{sym, ap, subst, _∙_, false≢true, arith, ltb-true, le-ltb, eqb-true, not-true}
 use Rattle.codec.specs.Forms.{Form, absent, mmreg1·mmreg2/mem64, forms, isAmong, hasSuffix}
-use Rattle.codec.specs.Contents.{lines, maximum, siblings, loops}
+use Rattle.codec.specs.Contents.{Line, lines, threeDNow, maximum, siblings, loops}
 use Rattle.codec.specs.Opcodes.{find, suffixedOf, usedForm, isOf, formAt, formOfFirst, formFor, escape}
 use Rattle.codec.specs.Table.{formOf}
 use Rattle.codec.specs.inner.Entries.{isOrdinary}
@@ -68,6 +68,23 @@ opcode-passes test z h g first second = by (eqb first escape)
     by : (t : Bool) → test (cond t (formAt second) (formOfFirst first)) ≡ true
     by true = form-passes test z h second
     by false = first-passes test z g first
+
+-- the one opcode with a suffix is 3DNow's
+pub only-suffix : (first second : ℕ) → hasSuffix (formFor first second) ≡ true → (first ≡ escape) × (second ≡ threeDNow)
+unfolding formAt
+only-suffix first second = by (eqb first escape) refl
+  where
+    by : (t : Bool) → eqb first escape ≡ t → hasSuffix (cond t (formAt second) (formOfFirst first)) ≡ true → (first ≡ escape) × (second ≡ threeDNow)
+    by false e h = absurd (false≢true (sym (not-true (hasSuffix (formOfFirst first)) (first-passes (λ f. not (hasSuffix f)) refl refl first)) ∙ h))
+    by true e h = (
+      eqb-true first escape e,
+      found-has (λ x. x .form) absent (λ f. hasSuffix f ≡ true → second ≡ threeDNow) (λ x. eqb second (x .second)) (λ x. not (hasSuffix (x .form)) || eqb (x .second) threeDNow)
+          (λ h. absurd (false≢true h)) listed lines refl h,
+    )
+      where
+        listed : (x : Line) → eqb second (x .second) ≡ true → (not (hasSuffix (x .form)) || eqb (x .second) threeDNow) ≡ true → hasSuffix (x .form) ≡ true → second ≡ threeDNow
+        listed x f g h =
+            eqb-true second (x .second) f ∙ eqb-true (x .second) threeDNow (ap (λ (t : Bool). not t || eqb (x .second) threeDNow) (sym h) ∙ g)
 
 -- and so does the form whose operands are used, where that of the opcode does
 pub used-passes : (test : Form → Bool) → test (maximum .form) ≡ true → allPass (λ x. test (x .form)) siblings ≡ true → (form : Form) (immediate : ℕ) → test form ≡ true

@@ -18,7 +18,7 @@ use Rattle.codec.specs.Writes.{bytesOf, writeTo}
 use Rattle.codec.specs.declared.Operand.{Operand}
 use Rattle.codec.specs.declared.Instruction.{Instruction}
 use Rattle.codec.specs.Answers.{Decoded, good, refused, wrote, refusedWith}
-use Rattle.codec.proofs.Bytes.{opcode-passes, first-passes, found-has, among}
+use Rattle.codec.proofs.Bytes.{opcode-passes, first-passes, found-has, only-suffix, among}
 use Rattle.codec.proofs.FormNumbers.{list-free}
 use Rattle.codec.proofs.Readers.{reads-yes, reads-no}
 use Rattle.codec.proofs.Given.{partsReader}
@@ -173,28 +173,13 @@ allowed first second = (
   opcode-passes (λ f. allows f (upper (sample f)) (middle (sample f)) (lower (sample f))) refl refl refl first second,
 )
 
--- one suffix has a form that some are refused by: it is 3DNow's
-only-suffix : (first second v : ℕ) → accepts (formFor first second) v ≡ false → (first ≡ escape) × (second ≡ threeDNow)
-unfolding formAt
-only-suffix first second v = by (eqb first escape) refl
+-- a form that some immediates are refused by has a suffix
+refuses-some : (form : Form) (v : ℕ) → accepts form v ≡ false → hasSuffix form ≡ true
+refuses-some form v h = by (hasSuffix form) refl
   where
-    plain : (form : Form) → not (hasSuffix form) ≡ true → accepts form v ≡ true
-    plain form e = list-free (form .suffixes) v (not-true (hasSuffix form) e)
-
-    by : (t : Bool) → eqb first escape ≡ t → accepts (cond t (formAt second) (formOfFirst first)) v ≡ false → (first ≡ escape) × (second ≡ threeDNow)
-    by false e h = absurd (false≢true (sym h ∙ plain (formOfFirst first) (first-passes (λ f. not (hasSuffix f)) refl refl first)))
-    by true e h = (
-      eqb-true first escape e,
-      found-has (λ x. x .form) absent (λ f. accepts f v ≡ false → second ≡ threeDNow) (λ x. eqb second (x .second)) (λ x. not (hasSuffix (x .form)) || eqb (x .second) threeDNow)
-          (λ h. absurd (false≢true (sym h))) listed lines refl h,
-    )
-      where
-        listed : (x : Line) → eqb second (x .second) ≡ true → (not (hasSuffix (x .form)) || eqb (x .second) threeDNow) ≡ true → accepts (x .form) v ≡ false → second ≡ threeDNow
-        listed x f g h = or (not (hasSuffix (x .form))) refl g
-          where
-            or : (t : Bool) → not (hasSuffix (x .form)) ≡ t → (t || eqb (x .second) threeDNow) ≡ true → second ≡ threeDNow
-            or true t g = absurd (false≢true (sym h ∙ plain (x .form) t))
-            or false t g = eqb-true second (x .second) f ∙ eqb-true (x .second) threeDNow g
+    by : (t : Bool) → hasSuffix form ≡ t → hasSuffix form ≡ true
+    by true e = e
+    by false e = absurd (false≢true (sym h ∙ list-free (form .suffixes) v e))
 
 after-3dnow : (s : List ℕ) → Spoilt (accepts (formFor escape threeDNow)) (partsReader (formFor escape threeDNow) escape threeDNow) 2 s
     → EndsUnlisted (escape ∷ threeDNow ∷ s)
@@ -242,7 +227,7 @@ module _ (first second : ℕ) (there : isAbsent (formFor first second) ≡ false
       inside (opcode ++ s) (c .more) (c .instruction) (c .size) (c .are-bytes)
       (ap readPart (append-assoc opcode s (c .more)) ∙ opcode-reads first second (s ++ c .more) there ∙ c .found)
   due-after s (inr x) =
-      let (is-escape, is-3dnow) = only-suffix first second (x .value) (x .unlisted) in
+      let (is-escape, is-3dnow) = only-suffix first second (refuses-some (formFor first second) (x .value) (x .unlisted)) in
       refusal notListed (five (inr (inr (subst₂ Unsuffixed (sym is-escape) (sym is-3dnow) (after-3dnow s) x))))
     where
       Unsuffixed : ℕ → ℕ → Type 0

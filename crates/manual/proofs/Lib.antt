@@ -19,6 +19,7 @@ pub mod Exactly
 pub mod Bounds
 pub mod StackBases
 pub mod Stores
+pub mod Pairs
 pub mod JumpTargets
 pub mod Reaching
 pub mod Demand3
