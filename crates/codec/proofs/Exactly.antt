@@ -1,13 +1,13 @@
 -- Each refusal of reading is given exactly when there is its reason: what is left of a code is a good instruction, or has a reason, and what has
 -- a reason is refused by its number.
 use Rattle.basis.specs.Names.{ℕ, _+_, _≤_, _<_, _≡_, refl, _⊎_, Bool, true, false, cond, not, _&&_, _||_, List, [], _∷_, _++_, eqb, leb, ltb, length, take, drop}
-use Rattle.basis.proofs.Names.{sym, ap, subst, subst₂, _∙_, _↔_, inl, inr, false≢true, append-assoc, arith, leb-true, leb-false, le-leb, lt-leb, ltb-true, ltb-false, lt-ltb, le-ltb, eqb-true, eqb-false, not-true, length-append, take-append-drop, take-append-le, drop-append-le}
+use Rattle.basis.proofs.Names.{sym, ap, subst, subst₂, _∙_, _↔_, inl, inr, false≢true, append-assoc, arith, leb-true, leb-false, le-leb, lt-leb, ltb-true, ltb-false, lt-ltb, le-ltb, eqb-true, eqb-false, length-append, take-append-drop, take-append-le, drop-append-le}
 use Rattle.words.specs.Number.{AllBytes, number}
 use Rattle.words.proofs.Numbers.{all-none, all-cons}
 use Rattle.words.proofs.Laws.{and-both}
 use Rattle.codec.specs.Refusals.{codeTooLong, codeEnds, prefixed, notListed, notAllowed, noBytes, bufferEnds}
-use Rattle.codec.specs.Forms.{Form, absent, mmreg1·mmreg2/mem64+suffix, isAmong, isAbsent, hasOperand, allows, immediateSize, hasSuffix, accepts}
-use Rattle.codec.specs.Contents.{Line, lines, threeDNow}
+use Rattle.codec.specs.Forms.{Form, mmreg1·mmreg2/mem64+suffix, isAmong, isAbsent, hasOperand, allows, immediateSize, hasSuffix, accepts}
+use Rattle.codec.specs.Contents.{threeDNow}
 use Rattle.codec.specs.Opcodes.{formAt, formOfFirst, formFor, opcodeBytes, escape, prefixes}
 use Rattle.codec.specs.Operands.{upper, middle, lower, hasSib, noOperand}
 use Rattle.codec.specs.Reader.{Reader, whole, refuse, byte, field, reads}
@@ -18,7 +18,7 @@ use Rattle.codec.specs.Writes.{bytesOf, writeTo}
 use Rattle.codec.specs.declared.Operand.{Operand}
 use Rattle.codec.specs.declared.Instruction.{Instruction}
 use Rattle.codec.specs.Answers.{Decoded, good, refused, wrote, refusedWith}
-use Rattle.codec.proofs.Bytes.{opcode-passes, first-passes, found-has, only-suffix, among}
+use Rattle.codec.proofs.Bytes.{opcode-passes, only-suffix, among}
 use Rattle.codec.proofs.FormNumbers.{list-free}
 use Rattle.codec.proofs.Readers.{reads-yes, reads-no}
 use Rattle.codec.proofs.Given.{partsReader}

@@ -1,6 +1,6 @@
 -- Refusal 22 in the customer's words: a half is unsupported of what PF2IW, PFMAX or PFCMPGT reads as a pair of single-precision numbers: the source, and
 -- of the latter two the destination. They are 0F 0F with the suffixes 1C, A4 and A0.
-use Rattle.basis.specs.Names.{_≡_, refl, Bool, true, _&&_, List, [], _∷_, map, List·Memᴰ as In, ℕ}
+use Rattle.basis.specs.Names.{_≡_, refl, true, _&&_, List, [], _∷_, map, List·Memᴰ as In, ℕ}
 use Rattle.basis.proofs.Names.{sym, ap, ap₂, subst, subst₂, _∙_, _↔_, false≢true, List·Memᴰ·head as here, List·Memᴰ·tail as there, arith}
 use Rattle.words.specs.Number.{AllBytes}
 use Rattle.words.proofs.Laws.{and-both}
