@@ -5,7 +5,7 @@ pub use borrow.Author.Tests.{eq-eqb, eqb-false, eqb-true, le-leb, le-ltb, leb-fa
 pub use lib.Arith.{bin-ind, digits-lt, mod-mul}
 pub use lib.Bits.{and-le-l, and-le-r, and-mask, and-mod, and-shr, and-step, and-zero-r, differ, or-add-and, or-lt, or-mod, or-shr, or-step, or-zero-l, or-zero-r, xor-add-and, xor-block, xor-comm, xor-lt, xor-mod, xor-self, xor-shifted, xor-shr, xor-step, xor-zero-r}
 pub use lib.Dec.{T}
-pub use lib.Ieee.{below, down, inf, nan, up}
+pub use lib.Ieee.{below, down, fin, inf, nan, up}
 unfoldable pub use lib.Ieee.{div, isNan, nanBits, odd, ofFields, round}
 pub use lib.Ieee.Back.{round-whole, whole-unique}
 pub use lib.Ieee.Bits.{nanBits-above, nanBits-is}

@@ -19,8 +19,8 @@ pub use lib.Bits.{bitAnd, bitOr, bitXor}
 pub use lib.IntN.{ℤ, pos, negsuc, subℕ, _+ℤ_, _-ℤ_, _*ℤ_}
 pub use lib.Signed.{leZ, ltZ, shrZ}
 -- IEEE 754's single-precision numbers: `ofBits` is the number of a pattern, `toBits` the pattern of a number; `ofInt` is an integer as a number,
--- `toUnsigned 64` a number without sign and fraction; `lt x y` says that x is below y
-pub use lib.Ieee.{Float, fin, binary32}
+-- `toUnsigned 64` a number rounded to zero as one of 64 bits, and a negative one as 0; `neg` is its negative; `lt x y` says that x is below y
+pub use lib.Ieee.{Float, binary32}
 unfoldable pub use lib.Ieee.{ofBits, toBits, ofInt, toUnsigned, neg, lt}
 -- strings, and a character's number
 pub use Prim.Native.String.{String}

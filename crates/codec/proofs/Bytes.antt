@@ -86,7 +86,7 @@ only-suffix first second = by (eqb first escape) refl
         listed x f g h =
             eqb-true second (x .second) f ∙ eqb-true (x .second) threeDNow (ap (λ (t : Bool). not t || eqb (x .second) threeDNow) (sym h) ∙ g)
 
--- and so does the form whose operands are used, where that of the opcode does
+-- a test is passed by the form whose operands are used, where that of the opcode passes it
 pub used-passes : (test : Form → Bool) → test (maximum .form) ≡ true → allPass (λ x. test (x .form)) siblings ≡ true → (form : Form) (immediate : ℕ) → test form ≡ true
     → test (usedForm form immediate) ≡ true
 unfolding suffixedOf

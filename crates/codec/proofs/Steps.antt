@@ -281,9 +281,6 @@ module _ (code : List ℕ) (at : ℕ) where
         pub immediate-on : t ≡ true → x ≡ found entry (good (instructionOf first second w v) (at + k)) → Finds (immediateReader form first second w) at
         immediate-on e h = h ∙ ap (found entry) (sym (immediate-here ∙ reads-yes _ _ _ (at + k) (drop (at + k) code) (sym g ∙ e)))
 
-        pub immediate-other : t ≡ false → x ≡ refusedAs notListed → Finds (immediateReader form first second w) at
-        immediate-other e h = h ∙ ap (found entry) (sym (immediate-here ∙ reads-no _ _ _ (at + k) (drop (at + k) code) (sym g ∙ e)))
-
   -- a number of one byte and of four
   pub number-1 : (k r : ℕ) → k ≡ 1 → r ≡ getD code at 0 + 256 * (0 + 256 * (0 + 256 * 0)) → at + k ≤ length code
       → r ≡ number (take k (drop at code))

@@ -250,15 +250,22 @@ fn print_written_fences() {
 
 fn print_written_siblings() {
     let mut buffer = [FILL; ROOM];
-    print_writing(b"PFMAX is", SIBLING, 0, 7, 0xa4, &mut buffer);
-    print_writing(b"0F 0F with B4 is", SIBLING, 0, 7, 0xb4, &mut buffer);
+    print_writing(b"PFMAX is", SIBLING, 0, 7, PFMAX as u32, &mut buffer);
+    print_writing(
+        b"0F 0F with B4 is",
+        SIBLING,
+        0,
+        7,
+        PFMUL as u32,
+        &mut buffer,
+    );
     print_writing(b"0F 0F with 1A4 is", SIBLING, 0, 7, 0x1a4, &mut buffer);
     print_writing(
         b"PFMAX with register 8 is",
         SIBLING,
         0,
         8,
-        0xa4,
+        PFMAX as u32,
         &mut buffer,
     );
     print_writing(
@@ -266,7 +273,7 @@ fn print_written_siblings() {
         SIBLING,
         0,
         7,
-        0xa4,
+        PFMAX as u32,
         &mut buffer[0..3],
     );
 }

@@ -51,7 +51,8 @@ const HEAD: usize = 3;
 // The least ModRM byte with mod 11.
 const REGISTERS: u8 = UPPER * REGISTER;
 
-// The least entries of two operands, and of those whose destination is the MMX register that reg names and whose source is an MMX register or memory.
+// The least entries of two operands, and of those without a suffix whose destination is the MMX register that reg names and whose source is an MMX
+// register or memory.
 const OPERANDS: u32 = FORM * TWO_OPERANDS;
 
 const FROM_MMX: u32 = FORM * LOAD_Q;
@@ -92,7 +93,7 @@ fn store(
     none()
 }
 
-// A byte as a suffix.
+// A byte as a number of the sort that an immediate is, which a suffix is.
 fn suffix_of(byte: u8) -> u32
     ensures { λ r. ⌜ r ≡ byte ⌝ }
 {

@@ -1,5 +1,5 @@
 -- The laws of the manuals' rules: the places obey the laws of lists, reading is local, and so demand 3; where a run goes on, and that it is its
--- steps; what refusals and a floor keep; what the instructions of loops do, and whether reading reaches a jump; what a footprint says, and which
+-- steps; what refusals and a floor keep, and when a half refuses; what the instructions of loops do, and whether reading reaches a jump; what a footprint says, and which
 -- meet; examples that the definitions compute; the manuals' tables of opcodes.
 pub mod Lists
 pub mod Marking
@@ -19,7 +19,7 @@ pub mod Exactly
 pub mod Bounds
 pub mod StackBases
 pub mod Stores
-pub mod Pairs
+pub mod ReadPairs
 pub mod JumpTargets
 pub mod Reaching
 pub mod Demand3

@@ -3,17 +3,18 @@
 -- 1. "Every code block, register setting, lent memory and file gets an answer, and every call ends." No public function asks for anything, and a
 -- function that is proved ends; each contract allows one answer; and no text is cut.
 pub use Rattle.lanes.proofs.Allowed.{operate-one, extract-one, insert-one, shuffle-one, top-bits-one, blend-one}
+pub use Rattle.singles.proofs.Allowed.{maximum-one, greater-one, to-words-one, from-words-one, swapped-one, of-one as singles-of-one}
 pub use Rattle.words.proofs.Allowed.{load-one, store-one}
-pub use Rattle.codec.proofs.Allowed.{table-one, read-from-one, read-one, write-one}
-pub use Rattle.works.proofs.Allowed.{work-of-one, refused-one, barred-one, table-one as open-table-one, is-inside-one, extended-one, miss-of-one, target-of-one, perform-one}
+pub use Rattle.codec.proofs.Allowed.{is-suffix-one, table-one, read-from-one, read-one, write-one}
+pub use Rattle.works.proofs.Allowed.{work-of-one, refused-one, barred-one, table-one as open-table-one, is-inside-one, extended-one, miss-of-one, target-of-one, of-suffix-one, suffixed-one, perform-one}
 pub use Rattle.machine.proofs.Allowed.{from-page-one, step-one, run-one, footprint-one, meets-one}
 pub use Rattle.pagefile.proofs.Allowed.{read-one as page-one, code-one, memory-one, mmx-registers-one, integer-registers-one}
 pub use Rattle.printout.proofs.Allowed.{buffer-one, report-one, refusal-one}
 pub use Rattle.player.proofs.Allowed.{play-one}
 pub use Rattle.player.proofs.Whole.{whole}
 -- "Bad input is refused by the numbers in document 01": 2 to 6 of reading, 11 and 12 of writing, 1 to 10 of a step, 13 of a file, each given exactly
--- when document 01 says, 14 of a step, when document 02's Req 04 says, 19, when Req 07 does, and 20 and 21, when Req 08 does; and whichever function
--- is asked, the number is the same.
+-- when document 01 says, 14 of a step, when document 02's Req 04 says, 19, when Req 07 does, 20 and 21, when Req 08 does, and 22, when Req 10 does;
+-- and whichever function is asked, the number is the same.
 pub use Rattle.codec.proofs.Exactly.{reading-exactly, twelve-exactly}
 pub use Rattle.codec.proofs.Sixes.{six-in-words}
 pub use Rattle.codec.proofs.Theorems.{eleven-exactly}
@@ -21,16 +22,20 @@ pub use Rattle.manual.proofs.Exactly.{step-exactly}
 pub use Rattle.manual.proofs.StackBases.{fourteen-in-words}
 pub use Rattle.manual.proofs.JumpTargets.{nineteen-in-words}
 pub use Rattle.manual.proofs.Stores.{twenty-one-in-words, stores-exactly}
+pub use Rattle.manual.proofs.ReadPairs.{twenty-two-in-words}
 pub use Rattle.machine.proofs.Agreeing.{reading-as-step, footprint-as-step, run-as-step}
 pub use Rattle.pagefile.proofs.Meaning.{thirteen-exactly}
 -- "A refused instruction changes no register, mark or memory byte; a refused run keeps what earlier instructions did."
 pub use Rattle.manual.proofs.Refusals.{refused-step, refused-run}
 -- 2. "Reading, writing and running agree with AMD's multimedia manual for all 47 of its instructions", and by document 02's Req 01 with manual 000
--- for the 19 that it adds, and by Req 07 with the AMD64 manual for the four of loops. The definitions are computed from the lists of their headings,
--- which are complete and say what document 01's table, manual 000's and the AMD64 manual's say.
+-- for the 19 that it adds, by Req 07 with the AMD64 manual for the four of loops, and by Req 10 with manuals 000 and 003 for six of 3DNow. The
+-- definitions are computed from the lists of their headings, which are complete and say what document 01's table, manual 000's, the AMD64 manual's and
+-- the six suffixes say; each cell of the six's tables is computed.
 pub use Rattle.codec.proofs.Headings.{complete}
 pub use Rattle.codec.proofs.OpcodeBytes.{first-bytes, second-bytes}
 pub use Rattle.manual.proofs.OpcodeTable.{agrees, loops-agree}
+pub use Rattle.singles.proofs.Illustrations.{illustrations-hold}
+pub use Rattle.singles.proofs.Failing.{fails-where, leaves-where}
 -- "Each instruction form has exactly the bytes the manual gives it, and those bytes give that form back."
 pub use Rattle.codec.proofs.Theorems.{read-writes-back, written-reads-back, reading-in-range}
 -- "Each completed step leaves exactly the registers, memory and tag mark the manual states": the contract of `Machine::step` is an equation with the

@@ -1,6 +1,6 @@
 -- The tables over halves and the tables over the numbers that these stand for say the same.
-use Rattle.basis.specs.Names.{_≡_, refl, ℕ, _+_, _-_, _*_, _/_, _^_, min, _<_, Bool, true, false, not, cond, eqb, ltb, ℤ, Float, fin, binary32, ofBits, toUnsigned, neg, lt}
-use Rattle.basis.proofs.Names.{ap, ap₂, _∙_, arith, needs, lt-ltb, ltb-true, ltb-false, pow-pos, nan, inf, up, down, down-pos, HasValue, div-same}
+use Rattle.basis.specs.Names.{_≡_, refl, ℕ, _+_, _-_, _*_, _/_, _^_, min, _<_, Bool, true, false, not, cond, eqb, ltb, ℤ, Float, binary32, ofBits, toUnsigned, neg, lt}
+use Rattle.basis.proofs.Names.{ap, ap₂, _∙_, arith, needs, lt-ltb, ltb-true, ltb-false, pow-pos, nan, inf, up, down, down-pos, HasValue, div-same, fin}
 use Rattle.lanes.specs.Lane.{lane}
 use Rattle.singles.specs.Ranges.{exponent, zeroRange, normalRange, unsupportedRange, rangeOf, isNegative}
 use Rattle.singles.specs.Tables.{greaterCell, greaterHalf, maximumCell, maximumHalf, units, wholePart, wordRow, wordCell, wordHalf}

@@ -1,7 +1,7 @@
 -- Numbers to signed words and back: what a number between the ends of the signed words is without its fraction, and a word as a number. Rules for the
 -- functions of words.
-use Rattle.basis.specs.Names.{_≡_, ℕ, suc, _+_, _-_, _*_, _/_, _%_, _^_, min, _≤_, _<_, Bool, true, false, not, ltb, pos, Float, fin, binary32, ofBits, toBits, ofInt, toUnsigned, neg, lt}
-use Rattle.basis.proofs.Names.{sym, ap, _∙_, subst, arith, needs, T, dite, decLe, false≢true, true≢false, lt-ltb, le-ltb, ltb-true, ltb-false, div-lt-iff-lt-mul, le-div-iff-mul-le, lt-of-not-le, min-eq-left, nan, inf, up, down, isNan, round, down-pos, HasValue, round-whole, whole-unique, neg-fits, round-fits}
+use Rattle.basis.specs.Names.{_≡_, ℕ, suc, _+_, _-_, _*_, _/_, _%_, _^_, min, _≤_, _<_, Bool, true, false, not, ltb, pos, Float, binary32, ofBits, toBits, ofInt, toUnsigned, neg, lt}
+use Rattle.basis.proofs.Names.{sym, ap, _∙_, subst, arith, needs, T, dite, decLe, false≢true, true≢false, lt-ltb, le-ltb, ltb-true, ltb-false, div-lt-iff-lt-mul, le-div-iff-mul-le, lt-of-not-le, min-eq-left, nan, inf, up, down, isNan, round, down-pos, HasValue, round-whole, whole-unique, neg-fits, round-fits, fin}
 use Rattle.lanes.specs.Signed.{signed}
 use Rattle.lanes.proofs.Integers.{is-lt}
 use Rattle.singles.specs.Tables.{singleOf}

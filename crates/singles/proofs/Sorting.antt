@@ -1,6 +1,6 @@
 -- Halves as lanes, which of them are NaNs, and their classes. Rules for the functions of halves.
-use Rattle.basis.specs.Names.{_≡_, refl, ℕ, _/_, _%_, _^_, _≤_, _<_, Bool, true, not, Float, fin, binary32, ofBits}
-use Rattle.basis.proofs.Names.{sym, _∙_, subst, needs, T, ne-eqb, lt-ltb, le-ltb, nan, inf, div, isNan, nanBits, nanBits-above, nanBits-is}
+use Rattle.basis.specs.Names.{_≡_, refl, ℕ, _/_, _%_, _^_, _≤_, _<_, Bool, true, not, Float, binary32, ofBits}
+use Rattle.basis.proofs.Names.{sym, _∙_, subst, needs, T, ne-eqb, lt-ltb, le-ltb, nan, inf, div, isNan, nanBits, nanBits-above, nanBits-is, fin}
 use Rattle.lanes.specs.Lane.{lane}
 use Rattle.lanes.proofs.Registers.{lane-first}
 use Rattle.singles.specs.Ranges.{exponent}

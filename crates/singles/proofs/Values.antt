@@ -1,6 +1,6 @@
 -- The number of a normal half has the half's sign and, in units of 2 ^ -150, its magnitude; so numbers are ordered as their halves are.
-use Rattle.basis.specs.Names.{_≡_, refl, ℕ, suc, _+_, _-_, _*_, _/_, _%_, _^_, _≤_, _<_, Bool, true, false, not, eqb, ltb, _⊎_, Float, fin, binary32, ofBits, lt}
-use Rattle.basis.proofs.Names.{sym, ap, ap₂, _∙_, subst, subst₂, inl, inr, dite, decLe, arith, eqb-false, lt-ltb, le-ltb, add-mul, zero-mul, mul-assoc, mul-comm, mul-right-comm, mul-pos, mul-le-mul-left, mul-le-mul-right, mul-lt-mul-of-pos-right, le-of-mul-le-mul-right, eq-or-lt-of-le, le-of-eq, le-of-lt, le-trans, lt-of-lt-of-le, lt-of-not-le, pow-pos, pow-mono, pow-suc, pow-succ', nan, inf, up, down, below, odd, ofFields, down-pos, HasValue, odd-sign}
+use Rattle.basis.specs.Names.{_≡_, refl, ℕ, suc, _+_, _-_, _*_, _/_, _%_, _^_, _≤_, _<_, Bool, true, false, not, eqb, ltb, _⊎_, Float, binary32, ofBits, lt}
+use Rattle.basis.proofs.Names.{sym, ap, ap₂, _∙_, subst, subst₂, inl, inr, dite, decLe, arith, eqb-false, lt-ltb, le-ltb, add-mul, zero-mul, mul-assoc, mul-comm, mul-right-comm, mul-pos, mul-le-mul-left, mul-le-mul-right, mul-lt-mul-of-pos-right, le-of-mul-le-mul-right, eq-or-lt-of-le, le-of-eq, le-of-lt, le-trans, lt-of-lt-of-le, lt-of-not-le, pow-pos, pow-mono, pow-suc, pow-succ', nan, inf, up, down, below, odd, ofFields, down-pos, HasValue, odd-sign, fin}
 use Rattle.singles.specs.Ranges.{exponent, isNegative, magnitude}
 use Rattle.singles.specs.Tables.{exceedsBy, exceeds, units}
 use Rattle.singles.specs.inner.Numbers.{plusZero}
