@@ -13,6 +13,7 @@ from edges import operands as lane_operands
 from edges import places as lane_places
 from emulator import INTEGERS as NAMES
 from forms import MEMORY, POINTERS, SUM, TRIES
+from loops import counted, loop, pointed
 from opcodes import (EMMS, MODRMS, MOVD_LOAD, MOVE, MOVQ_LOAD, MOVQ_STORE, SECOND_BYTE, SECOND_BYTES, SIBLING, SUFFIXES, add, at_address, decrement,
                      jump, move, registers, shift, sibling, sibling_at, sibling_registers)
 from pagefile import EM, PENDING, TS, VALID, ZERO, Page
@@ -367,20 +368,6 @@ def tags():
     for marks in (0, VALID):
         yield f'22-tags-{marks}', page_of(sibling_registers('PFMAX', 4, 5), marks=marks, mmx=MMX[:5] + (2 ** 64 - 1,) + MMX[6:]), 'refused 22 0 at 0'
     yield '22-after-EMMS', page_of(EMMS_CODE, sibling_registers('PF2IW', 4, 5), marks=VALID, mmx=(2 ** 64 - 1,) * 8), 'refused 22 1 at 2'
-
-
-def loop(*body):
-    length = sum(map(len, body))
-    return b''.join(body) + jump(-length - 2)
-
-
-def counted(register, turns, *body):
-    return move(register, turns) + loop(*body, decrement(register))
-
-
-def pointed(second, mm, register):
-    """The operand bytes of [register + 0], behind a second byte."""
-    return bytes([0x0F, second, 0x40 | mm << 3 | register, 0])
 
 
 def turns():
