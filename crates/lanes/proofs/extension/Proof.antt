@@ -16,4 +16,4 @@ extension_spec =
     (λ c.
     let start = c.before in
     let n = start.args.operation in
-    unnamed n start.args.destination start.args.source (past n 45 13 start.requires c.match.rest)))
+    unnamed n start.args.destination start.args.source (past n 45 13 start.requires c.in_default.in_default-own.rest)))

@@ -18,7 +18,7 @@ operate_spec =
     (λ c κs. search naming) (λ c κs. search naming) (λ c κs. search naming) (λ c κs. search naming) (λ c κs. search naming) (λ c κs. search naming)
     (λ c κs. search naming) (λ c κs. search naming) (λ c κs. search naming) (λ c κs. search naming) (λ c κs. search naming) (λ c κs. search naming)
     (λ c κs. search naming) (λ c κs. search naming) (λ c κs. search naming) (λ c κs. search naming)
-    (λ c κs. past c.before.args.operation 0 45 (omega arith) c.match.rest) (λ c. search naming) (λ c. search naming) (λ c. search naming)
+    (λ c κs. past c.before.args.operation 0 45 (omega arith) c.in_default.in_default-own.rest) (λ c. search naming) (λ c. search naming) (λ c. search naming)
     (λ c. search naming) (λ c. search naming) (λ c. search naming) (λ c. search naming) (λ c. search naming) (λ c. search naming)
     (λ c. search naming) (λ c. search naming) (λ c. search naming) (λ c. search naming) (λ c. search naming) (λ c. search naming)
     (λ c. search naming) (λ c. search naming) (λ c. search naming) (λ c. search naming) (λ c. search naming) (λ c. search naming)

@@ -5,10 +5,10 @@ use Rattle.lanes.proofs.AddingUp.{Totalled, adding_up}
 use Rattle.lanes.proofs.distances.total.Statement.{statement}
 use Rattle.lanes.proofs.distances.total.Tie as tie
 
-abbrev invariant-loop : tie.invariant-loop
+abbrev invariant-loop : tie.invariant-loop-i
 invariant-loop x w ones sum₀ i₀ sum i = Totalled w x sum i
 
-abbrev decreases-loop : tie.decreases-loop
+abbrev decreases-loop : tie.decreases-loop-i
 decreases-loop x w ones sum₀ i₀ sum i = 64 / w - i
 
 pub total_spec : {M : Type 1} → statement M
@@ -18,4 +18,4 @@ total_spec =
     invariant-loop
     decreases-loop
     (λ c κs. search adding_up) (λ c. search adding_up) (λ c. search adding_up) (λ c. search adding_up) (λ c. search adding_up)
-    (λ c. search adding_up) (λ c. search adding_up) (λ c. search adding_up) (λ c. search adding_up) (λ c. c.before.loop.invariant.1 ∙ search adding_up))
+    (λ c. search adding_up) (λ c. search adding_up) (λ c. search adding_up) (λ c. search adding_up) (λ c. c.before.loop-i.invariant.1 ∙ search adding_up))

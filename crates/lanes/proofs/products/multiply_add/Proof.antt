@@ -5,10 +5,10 @@ use Rattle.lanes.proofs.Building.{Built, building}
 use Rattle.lanes.proofs.products.multiply_add.Statement.{statement}
 use Rattle.lanes.proofs.products.multiply_add.Tie as tie
 
-abbrev invariant-loop : tie.invariant-loop
+abbrev invariant-loop : tie.invariant-loop-i
 invariant-loop a b lanes₀ i₀ lanes i = Built (pairwise product_sum) 32 a b lanes i
 
-abbrev decreases-loop : tie.decreases-loop
+abbrev decreases-loop : tie.decreases-loop-i
 decreases-loop a b lanes₀ i₀ lanes i = 2 - i
 
 pub multiply_add_spec : {M : Type 1} → statement M
