@@ -20,7 +20,7 @@ use prefixes::ESCAPE;
 use refusals::{BUFFER_ENDS, CODE_ENDS, CODE_TOO_LONG, LONGEST_CODE, NO_BYTES};
 
 // The fields of the ModRM byte and of the SIB byte, and the displacement, as they stood; a field that is not there is 0.
-#[derive(Drop)]
+#[derive(Clone, Copy)]
 pub struct Operand {
     pub mode: u8,
     pub reg: u8,
@@ -33,7 +33,7 @@ pub struct Operand {
 
 // The opcode bytes, of which the second is 0 where there is one alone, the operand and the immediate; where the opcode has a digit (71 to 73, 18, AE,
 // 83), it is in reg, and where it has a suffix (0F), that is the immediate.
-#[derive(Drop)]
+#[derive(Clone, Copy)]
 pub struct Instruction {
     pub first: u8,
     pub second: u8,
@@ -43,7 +43,7 @@ pub struct Instruction {
 
 // What an instruction does to the tag mark, whether the control marks stop it, and which others it meets wherever they read and write. The silent
 // ones touch nothing: the prefetches and SFENCE. Those of loops are MOV, ADD, DEC and JNZ.
-#[derive(Drop)]
+#[derive(Clone, Copy)]
 pub enum Kind {
     Ordinary,
     Emms,
@@ -52,21 +52,21 @@ pub enum Kind {
 }
 
 // What reading gives: the instruction and its length, or the refusal.
-#[derive(Drop)]
+#[derive(Clone, Copy)]
 pub enum Reading {
     Read(Instruction, usize),
     Refused(u8),
 }
 
 // What writing gives: the instruction's length, or the refusal.
-#[derive(Drop)]
+#[derive(Clone, Copy)]
 pub enum Writing {
     Wrote(usize),
     Refused(u8),
 }
 
 // What reading with a table gives, as plain numbers: the refusal, or 0 with the entry of the opcode bytes, the instruction and the position after it.
-#[derive(Drop)]
+#[derive(Clone, Copy)]
 pub struct Found {
     pub refusal: u8,
     pub entry: u32,

@@ -30,7 +30,7 @@ const NO_OPERAND: Operand = Operand {
 };
 
 // The opcode bytes, with their entry and its form.
-#[derive(Drop)]
+#[derive(Clone, Copy)]
 pub(crate) struct Opcode {
     pub(crate) first: u8,
     pub(crate) second: u8,

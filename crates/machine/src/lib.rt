@@ -22,7 +22,7 @@ use manual::Marks;
 pub use meetings::{kinds_meet, meets};
 
 // The registers and marks. The memory is lent to each call beside them.
-#[derive(Drop)]
+#[derive(Clone, Copy)]
 pub struct Machine {
     // MM0 to MM7
     pub mmx: [u64; 8],
@@ -32,14 +32,14 @@ pub struct Machine {
 }
 
 // What a step came to.
-#[derive(Drop)]
+#[derive(Clone, Copy)]
 pub enum Taken {
     Completed,
     Refused(u8),
 }
 
 // What a step hands back: the position is that of the next instruction, or the one it was given.
-#[derive(Drop)]
+#[derive(Clone, Copy)]
 pub struct Stepped {
     pub answer: Taken,
     pub machine: Machine,
@@ -47,7 +47,7 @@ pub struct Stepped {
 }
 
 // How a run ended.
-#[derive(Drop)]
+#[derive(Clone, Copy)]
 pub enum End {
     Done,
     Spent,
@@ -55,7 +55,7 @@ pub enum End {
 }
 
 // What a run hands back: the position reached, and the count of instructions completed.
-#[derive(Drop)]
+#[derive(Clone, Copy)]
 pub struct Ran {
     pub end: End,
     pub at: usize,
@@ -64,7 +64,7 @@ pub struct Ran {
 }
 
 // Places: registers as masks, bit k for register k, memory bytes as a range (without bytes it starts at 0), and the zero mark.
-#[derive(Drop)]
+#[derive(Clone, Copy)]
 pub struct Places {
     pub mmx: u8,
     pub integers: u8,
@@ -74,7 +74,7 @@ pub struct Places {
 }
 
 // What a step reads and writes.
-#[derive(Drop)]
+#[derive(Clone, Copy)]
 pub struct Footprint {
     pub reads: Places,
     pub writes: Places,
@@ -82,7 +82,7 @@ pub struct Footprint {
 }
 
 // The footprint of a step, or the step's refusal.
-#[derive(Drop)]
+#[derive(Clone, Copy)]
 pub enum Tracing {
     Traced(Footprint),
     Refused(u8),

@@ -11,7 +11,7 @@ use codec::forms::{FORM, PART, SIZE};
 use codec::modes::{NO_DISPLACEMENT, REGISTER};
 
 // The number of the MMX register or of the integer register, the address of the first byte with how many they are, or the refusal.
-#[derive(Drop)]
+#[derive(Clone, Copy)]
 pub(crate) enum Spot {
     Mmx(u8),
     Integer(u8),

@@ -9,7 +9,7 @@ use codec::fields::{MIDDLE, UPPER, VALUES};
 use codec::modes::{BYTE_DISPLACEMENT, LONG_DISPLACEMENT, NO_BASE, SIB};
 
 // The operand's address, and the position after its bytes in the code; a position of 0 where they do not all lie in the code.
-#[derive(Drop)]
+#[derive(Clone, Copy)]
 pub(crate) struct Pointer {
     pub(crate) address: u32,
     pub(crate) next: usize,

@@ -22,7 +22,7 @@ pub(crate) const NOWHERE: Places = Places {
 };
 
 // Where an operand is: the mask of its address registers and its places; or its refusal.
-#[derive(Drop)]
+#[derive(Clone, Copy)]
 pub(crate) enum Reach {
     Inside(u8, Places),
     Refused(u8),

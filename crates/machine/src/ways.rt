@@ -11,7 +11,7 @@ use codec::suffixes::{PF2IW, PI2FW, PSWAPD};
 // The tag mark is set empty; nothing is touched; a register is shifted by an immediate; a part of an MMX register goes to an integer register; an MMX
 // register is stored in the operand of r/m, loaded from it, or computed with it, or a suffix says which; a word of it is inserted, or its words are
 // shuffled; or an MMX register is stored in memory at EDI under a mask.
-#[derive(Drop)]
+#[derive(Clone, Copy)]
 pub(crate) enum Way {
     Empties,
     Passes,

@@ -1,7 +1,7 @@
 // The manual's rules are definitions (specs/) and laws (proofs/). What they share with the code is one type; there are no functions.
 
 // The marks of a machine.
-#[derive(Drop)]
+#[derive(Clone, Copy)]
 pub struct Marks {
     // the tag mark: valid, or empty
     pub valid: bool,

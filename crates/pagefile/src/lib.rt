@@ -36,7 +36,7 @@ pub const LONGEST_FILE: usize = 65536;
 const MALFORMED: u8 = 13;
 
 // What a file is: well formed, with its marks; or refused, with the refusal's number.
-#[derive(Drop)]
+#[derive(Clone, Copy)]
 pub enum Page {
     WellFormed(u8),
     Refused(u8),

@@ -17,6 +17,7 @@ in_wider x (y ∷ p) k q (later m) = later (in_wider x p k q m)
 
 -- the list is what stands before the element, the element, and what stands after it
 pub split : (x : ℕ) (l : List ℕ) → In x l → (p q : List ℕ) × (l ≡ p ++ x ∷ q)
+split x [] h = elim h [ ]
 split x (y ∷ l) (here e) = ([], l, ap (λ (z : ℕ). z ∷ l) (sym e))
 split x (y ∷ l) (later m) = let (p, q, e) = split x l m in (y ∷ p, q, ap (λ (z : List ℕ). y ∷ z) e)
 
@@ -28,5 +29,6 @@ in_at (y ∷ l) (suc p) h = later (in_at l p (omega arith))
 
 -- an element stands at a place
 pub at_in : (x : ℕ) (l : List ℕ) → In x l → (p : ℕ) × (p < length l) × (get_or l p 0 ≡ x)
+at_in x [] h = elim h [ ]
 at_in x (y ∷ l) (here e) = (zero, omega arith, sym e)
 at_in x (y ∷ l) (later m) = let (p, h, e) = at_in x l m in (suc p, omega arith, e)

@@ -10,6 +10,7 @@ Ascending [] = Unit {0}
 Ascending (x ∷ xs) = ((y : ℕ) → In y xs → x < y) × Ascending xs
 
 pub ascending_before : (p : List ℕ) (k : ℕ) (q : List ℕ) → Ascending (p ++ k ∷ q) → (x : ℕ) → In x p → x < k
+ascending_before [] k q a x h = elim h [ ]
 ascending_before (y ∷ p) k q a x (here e) = subst (λ (z : ℕ). z < k) (sym e) (a.0 k (Memᴰ-append_right p (here refl)))
 ascending_before (y ∷ p) k q a x (later m) = ascending_before p k q a.1 x m
 
@@ -23,6 +24,7 @@ from m zero = []
 from m (suc n) = m ∷ from (suc m) n
 
 in_from : (m n x : ℕ) → In x (from m n) → (m ≤ x) × (x < m + n)
+in_from m zero x h = elim h [ ]
 in_from m (suc n) x (here e) = omega arith
 in_from m (suc n) x (later h) = let r = in_from (suc m) n x h in omega arith
 
@@ -56,6 +58,7 @@ permutation_in old (k ∷ new) (p, q, e, r) x m =
     ⊎_elim (λ same. here same) (λ n. later (rest n)) (in_seam x p k q (subst (In x) e m))
 
 permutation_back : (old new : List ℕ) → Permutation old new → (x : ℕ) → In x new → In x old
+permutation_back old [] _ x h = elim h [ ]
 permutation_back old (k ∷ new) (p, q, e, r) x (here same) = subst (In x) (sym e) (Memᴰ-append_right p (here same))
 permutation_back old (k ∷ new) (p, q, e, r) x (later m) =
     subst (In x) (sym e) (in_wider x p k q (permutation_back (p ++ q) new r x m))

@@ -77,6 +77,7 @@ module _ {S P K Z : Type 0} (look : S → P → ℕ) (put : S → P → ℕ → 
   -- and what is put looks alike
   look-puts_same : (s s' : S) (ps : List P) (vs : List ℕ) (q : P) → frozen s ≡ frozen s' → In q ps
       → look (puts put s ps vs) q ≡ look (puts put s' ps vs) q
+  look-puts_same s s' [] vs q f h = elim h [ ]
   look-puts_same s s' (p ∷ ps) vs q f (here e) =
       look-puts_alike (put s p (get_or vs 0 0)) (put s' p (get_or vs 0 0)) ps (drop 1 vs) q
       (laws.frozen-put s p _ ∙ f ∙ sym (laws.frozen-put s' p _)) (rw e (laws.look_same s s' p _ f))

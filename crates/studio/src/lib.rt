@@ -9,7 +9,7 @@ use machine::{End, Machine};
 pub use whys::why_not;
 
 // A place that steps read and write: a register by its number, a memory byte by its address, or the zero mark.
-#[derive(Drop)]
+#[derive(Clone, Copy)]
 pub enum Place {
     Mmx(u8),
     Integer(u8),
@@ -18,7 +18,7 @@ pub enum Place {
 }
 
 // How two instructions meet at a place: both write it; the earlier writes and the later reads it; the earlier reads and the later writes it.
-#[derive(Drop)]
+#[derive(Clone, Copy)]
 pub enum Manner {
     BothWrite,
     WriteRead,
@@ -26,7 +26,7 @@ pub enum Manner {
 }
 
 // What two instructions are to each other: they do not meet; one is EMMS; or the lowest place where they meet, and how.
-#[derive(Drop)]
+#[derive(Clone, Copy)]
 pub enum Meeting {
     Apart,
     Emms,
@@ -34,7 +34,7 @@ pub enum Meeting {
 }
 
 // Why two instructions cannot change places: a refusal; the run's own answer, where it is not done, with its position and its count; or their meeting.
-#[derive(Drop)]
+#[derive(Clone, Copy)]
 pub enum Why {
     Refused(u8),
     NotDone(End, usize, u32),
@@ -42,7 +42,7 @@ pub enum Why {
 }
 
 // What is handed back: the answer, and the machine as the run leaves it, or where there was none as it was.
-#[derive(Drop)]
+#[derive(Clone, Copy)]
 pub struct Asked {
     pub why: Why,
     pub machine: Machine,

@@ -14,7 +14,7 @@ use machine::{End, Machine, Ran, Tracing};
 const BUDGET: u32 = 4096;
 
 // A run, and the footprints of two of its instructions, each traced where the run had come to it.
-#[derive(Drop)]
+#[derive(Clone, Copy)]
 struct Watched {
     ran: Ran,
     first: Tracing,

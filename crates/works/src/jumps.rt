@@ -11,7 +11,7 @@ const SIGN: u32 = 128;
 const DISPLACEMENTS: usize = 256;
 
 // Where a run goes on: at a position, or the refusal of a jump.
-#[derive(Drop)]
+#[derive(Clone, Copy)]
 pub enum Target {
     At(usize),
     Refused(u8),

@@ -30,7 +30,7 @@ pub(crate) const DOUBLEWORD_RANGE: u64 = 0x100000000;
 
 // What remains of an instruction: what to do, with a number (the operation, the bytes to store, or the refusal), a place (the register, or the
 // address) and a value, and the position where the run goes on.
-#[derive(Drop)]
+#[derive(Clone, Copy)]
 pub struct Work {
     pub what: u8,
     pub number: u8,

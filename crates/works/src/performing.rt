@@ -8,7 +8,7 @@ use crate::{
 };
 
 // How a step ended: the refusal or 0, the position where the run goes on and, where it completed, the tag mark and the zero mark.
-#[derive(Drop)]
+#[derive(Clone, Copy)]
 pub struct Moved {
     pub refusal: u8,
     pub next: usize,

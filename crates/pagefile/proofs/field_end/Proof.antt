@@ -12,4 +12,4 @@ field_end_spec =
     (λ c κs. search ends) (λ c. search ends)
     (λ c.
     let d = c.before.before.before.before in
-    wrong_contents _ _ _ _ d.load.ensures d.before.before.before.if1.false _ c.before.may_hold.ensures c.if4.false))
+    wrong_contents _ _ _ _ d.load-count.ensures d.before.before.before.if-room-lt-HEADING_BYTES.false _ c.before.may_hold.ensures c.if-may_hold.false))

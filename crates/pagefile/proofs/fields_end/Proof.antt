@@ -6,10 +6,10 @@ use Rattle.pagefile.proofs.Places.{places}
 use Rattle.pagefile.proofs.fields_end.Statement.{statement}
 use Rattle.pagefile.proofs.fields_end.Tie as tie
 
-abbrev invariant-loop : tie.invariant-loop
+abbrev invariant-loop : tie.invariant-loop-read
 invariant-loop file tag at₀ read₀ at read = (read ≤ tag) × (at ≤ length file) × (drop at file ≡ remaining read file)
 
-abbrev decreases-loop : tie.decreases-loop
+abbrev decreases-loop : tie.decreases-loop-read
 decreases-loop file tag at₀ read₀ at read = tag - read
 
 pub fields_end_spec : {M : Type 1} → statement M
