@@ -6,9 +6,9 @@ use Rattle.codec.proofs.Entries.{form_is, form_two, form_one}
 use Rattle.codec.proofs.opcodes.form_for.Statement.{statement}
 use Rattle.codec.proofs.opcodes.form_for.Tie as tie
 
-returns : tie.Need-returns
+returns : tie.Need-returns-then-first-eq-ESCAPE
 unfolding opcode_table form_at operation_at
-returns c = form_is c.before.args.second ∙ form_two c.before.args.first c.before.args.second c.if1.true
+returns c = form_is c.before.args.second ∙ form_two c.before.args.first c.before.args.second c.if-first-eq-ESCAPE.true
 
 pub form_for_spec : {M : Type 1} → statement M
 form_for_spec =

@@ -8,5 +8,5 @@ first_at_spec =
     tie.close
     (tie.spec
     (λ c κs. search reading) (λ c κs. search reading) (λ c κs. search reading) (λ c. search reading) (λ c. search reading) (λ c κs. search reading)
-    (λ c κs. first_adds _ _ _ c.before.before.before.first_form.ensures.0 c.before.before.if1.false c.before.has_operand.ensures c.if2.true)
+    (λ c κs. first_adds _ _ _ c.before.before.before.first_form-form.ensures.0 c.before.before.if-form-eq-ABSENT.false c.before.has_operand.ensures c.if-has_operand.true)
     (λ c κs. search reading) (λ c. search reading) (λ c. search reading))

@@ -11,6 +11,6 @@ register_at_spec =
     (λ c κs. search reading)
     (λ c.
     let tested = c.before.before.before in
-    register_on _ _ _ _ _ _ _ tested.before.before.before.before.requires _ tested.allowed.ensures tested.before.before.if1.false _ c.before.before.if2.true
+    register_on _ _ _ _ _ _ _ tested.before.before.before.before.requires _ tested.allowed.ensures tested.before.before.if-code-at.false _ c.before.before.if-allowed.true
     c.before.operand_of.ensures c.number_after.ensures)
     (λ c κs. search reading) (λ c. search reading))

@@ -9,6 +9,6 @@ unfolding sib_fits
 sib_fits_spec =
     tie.close
     (tie.spec
-    (λ c. search (tests, c.before.if1.true)) (λ c. search (tests, c.before.before.if1.true)) (λ c. search (tests, c.before.if1.false))
-    (λ c. search (tests, c.before.before.if1.false)) (λ c. search (tests, c.before.before.if1.true))
-    (λ c. search (tests, c.before.before.if1.false)))
+    (λ c. search (tests, c.before.if-there.true)) (λ c. search (tests, c.before.before.if-there.true)) (λ c. search (tests, c.before.if-there.false))
+    (λ c. search (tests, c.before.before.if-there.false)) (λ c. search (tests, c.before.before.if-there.true))
+    (λ c. search (tests, c.before.before.if-there.false)))
