@@ -64,6 +64,7 @@ abbrev RefusedBy : State → ℕ → List Location → Type 0
 RefusedBy s n xs = (x : Location) → In x xs → (o : Outside s x) → miss_of o.at ≡ n
 
 all-refused : (s : State) (n : ℕ) (xs : List Location) → RefusedBy s n xs → (x : Location) → In x xs → Outside s x → places_of_all s xs ≡ refused n
+all-refused s n [] alike x h o = elim h [ ]
 all-refused s n (y ∷ ys) alike x (here e) o =
     ap (λ r. and_then r (λ ps. map_result (λ qs. ps ++ qs) (places_of_all s ys))) (ap (places_of s) (sym e) ∙ outside_refused s x o ∙ ap refused (alike x (here e) o))
 all-refused s n (y ∷ ys) alike x (there m) o = by (places_of s y) refl (all-refused s n ys (λ z among. alike z (there among)) x m o)
@@ -105,6 +106,7 @@ all-inside s xs inside = by (places_of_all s xs) refl
 
 -- and those that have, are not outside
 placed-inside : (s : State) (xs : List Location) (ps : List Place) → places_of_all s xs ≡ done ps → (x : Location) → In x xs → ¬ Outside s x
+placed-inside s [] ps e x h o = elim h [ ]
 placed-inside s (y ∷ ys) ps e x (here same) o =
     false≢true (cc ((apiece s y ys ps e).first, ap (places_of s) same, outside_refused s x o))
 placed-inside s (y ∷ ys) ps e x (there m) o = let a = apiece s y ys ps e in placed-inside s ys a.others a.rest x m o
@@ -159,6 +161,7 @@ module _ (floor : ℕ) (s : State) where
       by a false t further h = record { operand = y; among = here refl; below = own_below y a.own a.first t }
 
   below_one : (xs : List Location) (ps : List Place) → places_of_all s xs ≡ done ps → (x : Location) → In x xs → Below floor s x → all_writable floor ps ≡ false
+  below_one [] ps e x h b = elim h [ ]
   below_one (y ∷ ys) ps e x m b =
       let a = apiece s y ys ps e in
       ap (all_writable floor) (sym a.both) ∙ writable_both floor a.own a.others ∙ by a m (λ m. below_one ys a.others a.rest x m b)

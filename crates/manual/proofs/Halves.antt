@@ -44,6 +44,7 @@ module _ (s : State) where
   one_read x y reads e = decided x (y ∷ []) (number_of s y) (number_of s y) (is_unsupported y) e (λ h. (reads, (y, (here refl, h)))) (λ h r. none r.1.1.0 r.1.1.1 h)
     where
       none : {z : Location} → In z (y ∷ []) → is_unsupported z ≡ true → is_unsupported y ≡ false → ⊥
+      none (there h') h g = elim h' [ ]
       none (here same) h g = false≢true (sym g ∙ ap is_unsupported (sym same) ∙ h)
 
   -- both are
@@ -58,6 +59,7 @@ module _ (s : State) where
       by false false f g e = decided x _ _ _ false e (λ h. absurd (false≢true h)) (λ h r. none r.1.1.0 r.1.1.1)
         where
           none : {w : Location} → In w (y ∷ z ∷ []) → is_unsupported w ≡ true → ⊥
+          none (there (there h')) h = elim h' [ ]
           none (here same) h = false≢true (sym f ∙ ap is_unsupported (sym same) ∙ h)
           none (there (here same)) h = false≢true (sym g ∙ ap is_unsupported (sym same) ∙ h)
 

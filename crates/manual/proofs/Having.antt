@@ -50,6 +50,7 @@ each_both P [] ys h g = g
 each_both P (x ∷ xs) ys (one, rest) g = (one, each_both P xs ys rest g)
 
 each_in : {A : Type 0} (P : A → Type 0) (xs : List A) → Each P xs → (x : A) → In x xs → P x
+each_in P [] _ x h = elim h [ ]
 each_in P (y ∷ ys) (one, rest) x (here e) = subst P (sym e) one
 each_in P (y ∷ ys) (one, rest) x (there m) = each_in P ys rest x m
 

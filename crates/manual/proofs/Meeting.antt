@@ -156,6 +156,7 @@ number_of zero_mark = 0
 
 among : (p : Place) (k j n : ℕ) → ¬ (n ≡ k) → ¬ (n ≡ j) → In p (mmx n ∷ []) → In p (mmx k ∷ mmx j ∷ []) → ⊥
 unfolding number_of
+among p k j n other other' m (later (later h)) = elim h [ ]
 among p k j n other other' m (here e) = other (ap number_of (sym (eq_of_singleton m) ∙ e))
 among p k j n other other' m (later (here e)) = other' (ap number_of (sym (eq_of_singleton m) ∙ e))
 

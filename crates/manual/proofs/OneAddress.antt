@@ -1,6 +1,6 @@
 -- All operands of an instruction that are in memory are one: at one address, which is in EDI for MASKMOVQ and for all others the one that r/m names,
 -- and of one size.
-use Rattle.basis.specs.Names.{◌≡◌, refl, Bool, true, false, not, cond, ◌&&◌, ◌||◌, List, ◌∷◌, map, Memᴰ as In, ℕ, ◌%◌, eqb}
+use Rattle.basis.specs.Names.{◌≡◌, refl, Bool, true, false, not, cond, ◌&&◌, ◌||◌, List, [], ◌∷◌, map, Memᴰ as In, ℕ, ◌%◌, eqb}
 use Rattle.basis.proofs.Names.{sym, subst, ◌∙◌, ⊎_elim, false≢true, Memᴰ-head as here, Memᴰ-tail as there, eqb-false, eqb-true}
 use Rattle.words.proofs.Laws.{and_both}
 use Rattle.codec.specs.Forms.{File, mmx_file, integer_file, Slot, reg, rm, rm/mem, mem, edi, fixed, opcode, zero_slot, Form, memory_size}
@@ -62,6 +62,7 @@ module _ (i : Instruction) (a : Address) (size : ℕ) where
   at_slot false n (edi m) h e = absurd (false≢true h)
 
   at_all : (in_edi : Bool) (n : ℕ) (xs : List Slot) → all_pass (is_at in_edi n) xs ≡ true → In (memory a size) (map (locate i) xs) → PointedAt in_edi i n a size
+  at_all in_edi n [] h h' = elim h' [ ]
   at_all in_edi n (x ∷ xs) h (here e) = at_slot in_edi n x (and_both (is_at in_edi n x) _ h).0 e
   at_all in_edi n (x ∷ xs) h (there m) = at_all in_edi n xs (and_both (is_at in_edi n x) _ h).1 m
 

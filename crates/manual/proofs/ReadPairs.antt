@@ -56,10 +56,12 @@ module _ (i : Instruction) where
       has e = record { is_first = f; is_second = g; is_suffix = e }
 
       one_of : {x : Location} → Has i 0x1c → In x (rm_of mmx_file 8 i.operand ∷ []) → ReadsPair i x
+      one_of k (there h) = elim h [ ]
       one_of k (here e) = subst (ReadsPair i) (sym e) (pf2iw k)
 
       two_of : {suffix : ℕ} {x : Location} → (Has i suffix → ReadsPair i (mmx_register i.operand.reg)) → (Has i suffix → ReadsPair i (rm_of mmx_file 8 i.operand))
           → Has i suffix → In x (mmx_register i.operand.reg ∷ rm_of mmx_file 8 i.operand ∷ []) → ReadsPair i x
+      two_of p q k (there (there h)) = elim h [ ]
       two_of p q k (here e) = subst (ReadsPair i) (sym e) (p k)
       two_of p q k (there (here e)) = subst (ReadsPair i) (sym e) (q k)
 

@@ -67,6 +67,7 @@ module _ (i : Instruction) where
   -- so that it has none
   module _ (a : Address) (size : ℕ) where
     no_memory : (xs : List Slot) → all_pass is_register xs ≡ true → In (memory a size) (map (locate i) xs) → ⊥
+    no_memory [] h h' = elim h' [ ]
     no_memory (reg file ∷ xs) h (here e) = no_register a size file i.operand.reg e
     no_memory (rm file ∷ xs) h (here e) = no_register a size file i.operand.rm e
     no_memory (fixed k ∷ xs) h (here e) = no_register a size mmx_file k e

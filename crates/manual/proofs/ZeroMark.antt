@@ -66,6 +66,7 @@ module _ (i : Instruction) where
   no_slot zero_slot h e = false≢true h
 
   no_slots : (xs : List Slot) → all_pass is_named xs ≡ true → In zero_operand (map (locate i) xs) → ⊥
+  no_slots [] h h' = elim h' [ ]
   no_slots (x ∷ xs) h (here e) = no_slot x (and_both (is_named x) _ h).0 e
   no_slots (x ∷ xs) h (there m) = no_slots xs (and_both (is_named x) _ h).1 m
 
@@ -103,6 +104,7 @@ module _ (i : Instruction) where
 -- the zero mark is a place of operands only where it is one of them
 module _ (s : State) where
   no_byte : (size a : ℕ) → In zero_mark (bytes_from a size) → ⊥
+  no_byte zero a h = elim h [ ]
   no_byte (suc size) a (here e) = false≢true (cc)
   no_byte (suc size) a (there m) = no_byte size (a + 1) m
 
