@@ -5,7 +5,7 @@ use Rattle.basis.proofs.Names.{sym, ap, ap₂, ◌∙◌}
 use contract.Lifetimes.{Lfts}
 use borrow.Fn.Kinds.{Dens, ended_of}
 use denote.Triple.Clauses.{AtExit}
-use Rattle.std.proofs.Common.{Bor}
+use Rattle.std.proofs.Common.{Bor, MutBor}
 use Rattle.manual.specs.Runs.{run_of}
 use Rattle.machine.specs.declared.Machine.{Machine}
 use Rattle.machine.specs.declared.Footprint.{Footprint}
@@ -29,7 +29,7 @@ pub record RunCall (machine : Machine) (code memory : List ℕ) (floor budget : 
   pub met : run_reads.Post κs given answer exit
   pub with_machine : given.0 ≡ machine
   pub with_code : given.1.0.now ≡ code
-  pub with_memory_lem : given.1.1.0.now ≡ memory
+  pub with_memory : given.1.1.0.now ≡ memory
   pub with_floor : given.1.1.1.0 ≡ floor
   pub with_budget : given.1.1.1.1.0 ≡ budget
   pub leaves : exit.1.1.0.now ≡ after
@@ -43,7 +43,7 @@ pub record FootprintCall (machine : Machine) (code : List ℕ) (at : ℕ) (memor
   pub with_machine : given.0 ≡ machine
   pub with_code : given.1.0.now ≡ code
   pub with_position : given.1.1.0 ≡ at
-  pub with_memory_lem : given.1.1.1.0.now ≡ memory
+  pub with_memory : given.1.1.1.0.now ≡ memory
 
 -- meets(first, second) handed back `answer`
 pub record MeetsCall (first second : Footprint) (answer : Bool) : Type 1 where
@@ -62,14 +62,14 @@ run_says machine code memory floor budget answer after c =
     ap (paper_of_run answer) (sym c.leaves) ∙ c.met
     ∙ ap₂ (λ (f n : ℕ). run_of f c.given.1.0.now n (state_of c.given.0 c.given.1.1.0.now)) c.with_floor c.with_budget
     ∙ ap (λ (x : List ℕ). run_of floor x budget (state_of c.given.0 c.given.1.1.0.now)) c.with_code
-    ∙ ap₂ (λ (m : Machine) (x : List ℕ). run_of floor code budget (state_of m x)) c.with_machine c.with_memory_lem
+    ∙ ap₂ (λ (m : Machine) (x : List ℕ). run_of floor code budget (state_of m x)) c.with_machine c.with_memory
 
 pub footprint_says : (machine : Machine) (code : List ℕ) (at : ℕ) (memory : List ℕ) (answer : Tracing) → FootprintCall machine code at memory answer
     → paper_of_footprint answer ≡ masked_at code at (state_of machine memory)
 footprint_says machine code at memory answer c =
     c.met
     ∙ ap₂ (λ (x : List ℕ) (n : ℕ). masked_at x n (state_of c.given.0 c.given.1.1.1.0.now)) c.with_code c.with_position
-    ∙ ap₂ (λ (m : Machine) (x : List ℕ). masked_at code at (state_of m x)) c.with_machine c.with_memory_lem
+    ∙ ap₂ (λ (m : Machine) (x : List ℕ). masked_at code at (state_of m x)) c.with_machine c.with_memory
 
 pub meets_says : (first second : Footprint) (answer : Bool) → MeetsCall first second answer → answer ≡ meet first second
 meets_says first second answer c = c.met ∙ ap₂ meet c.with_first c.with_second
@@ -80,17 +80,21 @@ meets_says first second answer c = c.met ∙ ap₂ meet c.with_first c.with_seco
 abbrev lent : List ℕ → Bor (List ℕ)
 lent bytes = record { ref_ptr = (0, 0); now = bytes }
 
+-- and bytes that are lent to be written
+abbrev lent_to_write : List ℕ → MutBor (List ℕ)
+lent_to_write bytes = record { ref_ptr = (0, 0); ghost_name = 0; now = bytes }
+
 pub run_there : (machine : Machine) (code memory : List ℕ) (floor budget : ℕ) (answer : Ran) (after : List ℕ)
     → paper_of_run answer after ≡ run_of floor code budget (state_of machine memory) → RunCall machine code memory floor budget answer after
 run_there machine code memory floor budget answer after e =
     record {
       κs = ([], ([], tt));
-      given = (machine, (lent code, (lent memory, (floor, (budget, tt)))));
-      exit = (machine, (lent code, (lent after, (floor, (budget, tt)))));
+      given = (machine, (lent code, (lent_to_write memory, (floor, (budget, tt)))));
+      exit = (machine, (lent code, (lent_to_write after, (floor, (budget, tt)))));
       met = e;
       with_machine = refl;
       with_code = refl;
-      with_memory_lem = refl;
+      with_memory = refl;
       with_floor = refl;
       with_budget = refl;
       leaves = refl;
@@ -107,7 +111,7 @@ footprint_there machine code at memory answer e =
       with_machine = refl;
       with_code = refl;
       with_position = refl;
-      with_memory_lem = refl;
+      with_memory = refl;
     }
 
 pub meets_there : (first second : Footprint) → MeetsCall first second (meet first second)

@@ -12,14 +12,14 @@ footprint_spec =
     (λ c. search position_rules)
     (λ c κs.
     let reading = c.before.before.before.before in
-    let table = reading.before.before.table.ensures in
-    let passed = c.before.before.before.if3.false in
-    let found = reading.read_from.ensures in
-    (names_registers _ _ _ _ table found, is_looping _ _ _ _ table found passed c.if4.true))
+    let table = reading.before.before.table-table.ensures in
+    let passed = c.before.before.before.if-refusal-ne0.false in
+    let found = reading.read_from-found.ensures in
+    (names_registers _ _ _ _ table found, is_looping _ _ _ _ table found passed c.if-instruction-ne-ESCAPE.true))
     (λ c.
     let reading = c.before.before.before.before.before in
     let limits = reading.before.before.before in
-    traced_looped _ _ _ _ limits.before.if1.false limits.if2.false _ _ reading.before.before.table.ensures reading.read_from.ensures
-    c.before.before.before.before.if3.false _ c.before.if4.true c.traced.ensures)
+    traced_looped _ _ _ _ limits.before.if-memory-gt-LONGEST_MEMORY.false limits.if-code-gt-LONGEST_CODE.false _ _ reading.before.before.table-table.ensures reading.read_from-found.ensures
+    c.before.before.before.before.if-refusal-ne0.false _ c.before.if-instruction-ne-ESCAPE.true c.traced.ensures)
     (λ c κs. search position_rules) (λ c κs. search position_rules) (λ c. search position_rules)
     (λ c κs. search position_rules) (λ c. search position_rules))

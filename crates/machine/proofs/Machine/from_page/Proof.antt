@@ -12,4 +12,4 @@ from_page_spec =
     tie.close
     (tie.spec
     (λ c κs. search rules) (λ c κs. search rules)
-    (λ c. ap₂ (λ (mmx integers : List ℕ). machine_of mmx integers (marks_of c.before.before.before.before.args.marks)) c.before.mmx_of.ensures c.integers_of.ensures))
+    (λ c. ap₂ (λ (mmx integers : List ℕ). machine_of mmx integers (marks_of c.before.before.before.before.args.marks)) c.before.mmx_of-registers.ensures c.integers_of-others.ensures))

@@ -9,7 +9,7 @@ use Rattle.machine.proofs.laws.running.Budgets.{run_refused, turning}
 use Rattle.machine.proofs.Machine.run_from.Statement.{statement}
 use Rattle.machine.proofs.Machine.run_from.Tie as tie
 
-abbrev invariant-loop : tie.invariant-loop
+abbrev invariant-loop : tie.invariant-loop-at
 invariant-loop code start memory₀ floor budget table mmx₀ integers₀ marks₀ bar quick at₀ rest₀ memory mmx integers marks at rest =
     (rest ≤ budget)
     × ((at ≤ length code)
@@ -18,7 +18,7 @@ invariant-loop code start memory₀ floor budget table mmx₀ integers₀ marks�
     × (remaining floor rest code at (budget - rest) (state_of (machine_of mmx integers marks) memory)
     ≡ remaining floor budget code start 0 (state_of (machine_of mmx₀ integers₀ marks₀) memory₀)))))
 
-abbrev decreases-loop : tie.decreases-loop
+abbrev decreases-loop : tie.decreases-loop-at
 decreases-loop code start memory₀ floor budget table mmx₀ integers₀ marks₀ bar quick at₀ rest₀ memory mmx integers marks at rest =
     rest
 
@@ -30,17 +30,12 @@ run_from_spec =
     decreases-loop
     (λ c κs. search rules) (λ c κs. search rules) (λ c κs. search rules) (λ c. search turning) (λ c. search rules)
     (λ c. search turning)
-    (λ c κs.
-    let start = c.before.before.before.before.before.before.before.before in
-    let pre = start.before.before.before.before.before.before.before.before.requires in
-    (start.before.before.before.before.before.table.ensures, (start.table2.ensures, (pre.0, (search (rules, pre), search (rules, pre))))))
+    (λ c κs. (c.table-table.ensures, (c.table-quick.ensures, (c.requires.0, (search (rules, c.requires), search (rules, c.requires))))))
     (λ c. search rules) (λ c. search rules)
     (λ c.
-    let turn = c.before.before.before.before.before.before.before.before.before in
-    let inv = turn.before.before.loop.invariant in
-    let entry = turn.before.before.before.before.before.before.before.before.before.before.before in
-    run_refused _ _ _ _ _ _ _ _ _ _ inv.1.1.1.1 turn.before.loop-test.true inv.0 turn.if1.false entry.requires.0 entry.args.memory.now
-    inv.1.1.0 entry.requires.1.0 entry.requires.1.1.0 _ _ _ _ _ inv.1.1.1.0 _ _ refl refl c.before.before.before.advance.ensures c.if2.true)
+    let inv = c.loop-at.invariant in
+    run_refused _ _ _ _ _ _ _ _ _ _ inv.1.1.1.1 c.loop-at-test.true inv.0 c.if-remaining-eq0.false c.requires.0 c.args.memory.now
+    inv.1.1.0 c.requires.1.0 c.requires.1.1.0 _ _ _ _ _ inv.1.1.1.0 _ _ refl refl c.advance-moved.ensures c.if-refusal-ne0.true)
     (λ c. search rules) (λ c. search rules)
     (λ c. (search rules, (search turning, (search rules, (search turning, search turning)))))
     (λ c. search rules) (λ c. search rules) (λ c. search turning))

@@ -4,10 +4,10 @@ use Rattle.machine.proofs.laws.addresses.Addressing.{addressing}
 use Rattle.machine.proofs.addresses.scaled.Statement.{statement}
 use Rattle.machine.proofs.addresses.scaled.Tie as tie
 
-abbrev invariant-loop : tie.invariant-loop
+abbrev invariant-loop : tie.invariant-loop-remaining
 invariant-loop index scale doubled₀ remaining₀ doubled remaining = (remaining ≤ scale) × (doubled ≡ index * 2 ^ (scale - remaining) % 2 ^ 32)
 
-abbrev decreases-loop : tie.decreases-loop
+abbrev decreases-loop : tie.decreases-loop-remaining
 decreases-loop index scale doubled₀ remaining₀ doubled remaining = remaining
 
 pub scaled_spec : {M : Type 1} → statement M

@@ -11,9 +11,7 @@ unmarked_spec =
     (λ c κs. search form_rules) (λ c. search form_rules) (λ c κs. search form_rules) (λ c κs. search form_rules) (λ c κs. search form_rules)
     (λ c κs. search form_rules) (λ c. search form_rules) (λ c κs. search form_rules) (λ c. search form_rules)
     (λ c.
-    let pointing = c.before.before.before.before.before in
-    let plain = pointing.before.before.before.before.before in
-    traced_inside _ _ _ plain.before.before.requires.1 plain.if1.false _ pointing.before.before.before.Way-of.ensures _ pointing.before.before.has_other.ensures
-    pointing.before.if2.true _ pointing.pointed.ensures _ c.before.before.before.before.reach_operand.ensures _ _ _ (search rules)
+    traced_inside _ _ c.args.instruction c.requires.1 c.if-entry-eq-SUFFIXED.false _ c.way_of-way.ensures _ c.has_other.ensures
+    c.if-has_other.true _ c.pointed-pointed.ensures _ c.reach_operand.ensures _ _ _ c.in-Inside.is
     c.footprint_of_way.ensures)
     (λ c. search form_rules) (λ c κs. search form_rules) (λ c. search form_rules))

@@ -13,13 +13,13 @@ gathered_spec =
     (λ c κs.
     let reading = c.before.before.before.before in
     let pre = reading.before.before.before.before.before.requires in
-    let passed = c.before.before.before.if2.false in
-    let found = reading.read_from.ensures in
-    (names_registers _ _ _ _ pre.0 found, is_looping _ _ _ _ pre.0 found passed c.if3.true))
+    let passed = c.before.before.before.if-refusal-ne0.false in
+    let found = reading.read_from-found.ensures in
+    (names_registers _ _ _ _ pre.0 found, is_looping _ _ _ _ pre.0 found passed c.if-instruction-ne-ESCAPE.true))
     (λ c.
     let reading = c.before.before.before.before.before in
     let pre = reading.before.before.before.before.before.requires in
-    gathered_looped _ _ _ _ pre.0 reading.read_from.ensures _ _ _ _ _ pre.1.1.0 pre.1.1.1 _ c.before.before.before.before.if2.false c.before.if3.true
+    gathered_looped _ _ _ _ pre.0 reading.read_from-found.ensures _ _ _ _ _ pre.1.1.0 pre.1.1.1 _ c.before.before.before.before.if-refusal-ne0.false c.before.if-instruction-ne-ESCAPE.true
     c.looped.ensures)
     (λ c κs. search fetching) (λ c κs. search fetching)
     (λ c.
@@ -27,18 +27,18 @@ gathered_spec =
     let escaped = stopped.before in
     let reading = escaped.before.before.before.before in
     let pre = reading.before.before.before.before.before.requires in
-    gathered_barred _ _ _ _ pre.0 reading.read_from.ensures _ _ _ _ _ pre.1.1.0 pre.1.1.1 _ escaped.before.before.before.if2.false escaped.if3.false _
-    stopped.stopping.ensures c.before.if4.true c.refused2.ensures)
+    gathered_barred _ _ _ _ pre.0 reading.read_from-found.ensures _ _ _ _ _ pre.1.1.0 pre.1.1.1 _ escaped.before.before.before.if-refusal-ne0.false escaped.if-instruction-ne-ESCAPE.false _
+    stopped.stopping-stop.ensures c.before.if-stop-ne0.true c.refused-then-stop-ne0.ensures)
     (λ c κs.
     let escaped = c.before.before in
     let reading = escaped.before.before.before.before in
     let pre = reading.before.before.before.before.before.requires in
-    let found = reading.read_from.ensures in
-    (names_registers _ _ _ _ pre.0 found, is_listed_lem _ _ _ _ pre.0 found escaped.before.before.before.if2.false escaped.if3.false))
+    let found = reading.read_from-found.ensures in
+    (names_registers _ _ _ _ pre.0 found, is_listed_lem _ _ _ _ pre.0 found escaped.before.before.before.if-refusal-ne0.false escaped.if-instruction-ne-ESCAPE.false))
     (λ c.
     let stopped = c.before.before in
     let escaped = stopped.before in
     let reading = escaped.before.before.before.before in
     let pre = reading.before.before.before.before.before.requires in
-    gathered_sorted _ _ _ _ pre.0 reading.read_from.ensures _ _ _ _ _ pre.1.1.0 pre.1.1.1 _ escaped.before.before.before.if2.false escaped.if3.false _
-    stopped.stopping.ensures c.before.if4.false c.sorted.ensures))
+    gathered_sorted _ _ _ _ pre.0 reading.read_from-found.ensures _ _ _ _ _ pre.1.1.0 pre.1.1.1 _ escaped.before.before.before.if-refusal-ne0.false escaped.if-instruction-ne-ESCAPE.false _
+    stopped.stopping-stop.ensures c.before.if-stop-ne0.false c.sorted.ensures))

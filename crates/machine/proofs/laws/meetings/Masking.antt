@@ -18,6 +18,7 @@ module _ (number : Place → List ℕ) (place : ℕ → Place)
       go (inr i) rest = later (rest i)
 
   numbers_of_lem : (k : ℕ) (ps : List Place) → In (place k) ps → In k (numbers_of number ps)
+  numbers_of_lem k [] h = elim h [ ]
   numbers_of_lem k (p ∷ ps) (here e) = Memᴰ-append_left (numbers_of number ps) (subst (λ (q : Place). In k (number q)) e (own k))
   numbers_of_lem k (p ∷ ps) (later m) = Memᴰ-append_right (number p) (numbers_of_lem k ps m)
 
@@ -85,5 +86,6 @@ zero_exactly ps = (there ps, told ps)
     either false b e = e
 
     told : (ps : List Place) → In zero_mark ps → has_zero_mark ps ≡ true
+    told [] h = elim h [ ]
     told (p ∷ ps) (here e) = subst (λ (q : Place). (is_zero_mark q || has_zero_mark ps) ≡ true) e refl
     told (p ∷ ps) (later m) = either (is_zero_mark p) (has_zero_mark ps) (told ps m)

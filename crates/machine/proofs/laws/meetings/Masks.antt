@@ -52,6 +52,7 @@ some_bit = bin_ind (λ x. (x ≡ 0 → ⊥) → (k : ℕ) × (bit k x ≡ 1)) (�
             (1 + k, ap (λ (x : ℕ). x % 2) (sym (shr-shr n 1 k)) ∙ e)
 
 set-bit : (k : ℕ) (ks : List ℕ) → In k ks → bit k (mask ks) ≡ 1
+set-bit k [] h = elim h [ ]
 set-bit k (j ∷ ks) (here e) = rw (← e) (omega (arith, bit-bit_or k (2 ^ k) (mask ks), bit_same k))
 set-bit k (j ∷ ks) (later m) = omega (arith, bit-bit_or k (2 ^ j) (mask ks), set-bit k ks m)
 

@@ -29,6 +29,7 @@ abbrev pub Range : List ℕ → Type 0
 Range bs = (b : ℕ) → In b bs ↔ ((get_or bs 0 0 ≤ b) × (b < get_or bs 0 0 + length bs))
 
 in_bytes : (size a b : ℕ) → In b (bytes_of (bytes_from a size)) → (a ≤ b) × (b < a + size)
+in_bytes zero a b h = elim h [ ]
 in_bytes (suc size) a b (here e) = (omega arith, omega arith)
 in_bytes (suc size) a b (later m) = let (low, high) = in_bytes size (a + 1) b m in (omega arith, omega arith)
 

@@ -7,6 +7,8 @@ use Rattle.words.specs.Buffer.{loaded}
 use Rattle.codec.specs.Forms.{is_among, allows, memory_size, accepts}
 use Rattle.codec.specs.Operands.{upper, middle, lower, operand_of, no_operand}
 use Rattle.codec.specs.Table.{form_of}
+use Rattle.codec.specs.Opcodes.{escape}
+use Rattle.codec.specs.Reads.{instruction_of}
 use Rattle.codec.specs.inner.Entries.{shift_of}
 use Rattle.codec.specs.declared.Found.{Found}
 use Rattle.codec.specs.declared.Operand.{Operand}
@@ -77,7 +79,7 @@ module _ (entry modrm : ℕ) (code : List ℕ) (at : ℕ) (here : at < length co
                   passed = refl;
                   escaped = refl;
                   present = λ z. omega arith;
-                  does = λ l. does_two registers integers m entry _ (at + 1) (registers_of_lem modrm 0 0) l (omega arith) (λ z. omega arith) work (made m l);
+                  does = λ l. does_two registers integers m entry (instruction_of escape second w 0) (at + 1) (registers_of_lem modrm 0 0) l (omega arith) (λ z. omega arith) work (made m l);
                 });
           }
         where
@@ -147,7 +149,7 @@ module _ (entry modrm : ℕ) (code : List ℕ) (at : ℕ) (here : at < length co
             escaped = refl;
             present = λ z. omega arith;
             does = λ l.
-                does_suffix registers integers m entry _ (at + 1 + 1) (registers_of_lem modrm 0 0) l Suffixes (way_suffixes form is) work refl
+                does_suffix registers integers m entry (instruction_of escape second w (suffix q)) (at + 1 + 1) (registers_of_lem modrm 0 0) l Suffixes (way_suffixes form is) work refl
                 (q.is
                 ∙ ap₂ (λ (a b : ℕ). suffixed_work (suffix q) a (work_of to_operate 0 (middle modrm) b (at + 1 + 1))) o e
                 ∙ ap (λ (x : Spot). suffixed_work (suffix q) (get_or registers (middle modrm) 0) (take_work registers integers m (entry % 256) (middle modrm) x (at + 1 + 1)))
@@ -176,7 +178,7 @@ module _ (entry modrm : ℕ) (code : List ℕ) (at : ℕ) (here : at < length co
                 escaped = refl;
                 present = λ z. omega arith;
                 does = λ l.
-                    does_shift registers integers m entry _ (at + 2) (registers_of_lem modrm 0 0) l (way_of form) refl work number
+                    does_shift registers integers m entry (instruction_of escape second w v) (at + 2) (registers_of_lem modrm 0 0) l (way_of form) refl work number
                     (sym (way_shifts form (omega arith) (omega arith) (omega arith))) o made;
               });
         }
@@ -202,7 +204,7 @@ module _ (entry modrm : ℕ) (code : List ℕ) (at : ℕ) (here : at < length co
         escaped = refl;
         present = λ z. omega arith;
         does = λ l.
-            does_empties registers integers m entry _ at no_registers l
+            does_empties registers integers m entry (instruction_of escape second no_operand 0) at no_registers l
             (way_of form) refl work (sym (way_empties form (omega arith) (omega arith))) made;
       }))
 
@@ -223,7 +225,7 @@ module _ (entry modrm : ℕ) (code : List ℕ) (at : ℕ) (here : at < length co
               escaped = refl;
               present = λ z. omega (arith, a.two);
               does = λ l.
-                  does_two registers integers m entry _ p.next (registers_of_lem modrm t.sib t.displacement) l a.two a.plain work
+                  does_two registers integers m entry (instruction_of escape second w 0) p.next (registers_of_lem modrm t.sib t.displacement) l a.two a.plain work
                   (a.made l
                   ∙ ap (λ (x : Spot). work_at registers integers m entry (middle modrm) x p.next)
                   (spot_inside integers (length m) entry w l (two_from form a.two) (λ z. omega arith) p.address t.address true (sym (a.inside l)) refl));
@@ -249,7 +251,7 @@ module _ (entry modrm : ℕ) (code : List ℕ) (at : ℕ) (here : at < length co
               escaped = refl;
               present = λ z. omega arith;
               does = λ l.
-                  does_suffix registers integers m entry _ (p.next + 1) (registers_of_lem modrm t.sib t.displacement) l Suffixes (way_suffixes form is) work refl
+                  does_suffix registers integers m entry (instruction_of escape second w v) (p.next + 1) (registers_of_lem modrm t.sib t.displacement) l Suffixes (way_suffixes form is) work refl
                   (let size : entry / 2 ^ 16 % 256 ≡ 8 = l.sized ∙ ap (λ (k : ℕ). memory_size (form_of k)) is in
                   q.suffixed.is
                   ∙ ap₂ (λ (a k : ℕ). suffixed_work v a (work_of to_operate 0 (middle modrm) (loaded m p.address k) (p.next + 1))) o (sym size)

@@ -9,16 +9,16 @@ looped_spec =
     tie.close
     (tie.spec
     (λ c. search rules) (λ c κs. search rules)
-    (λ c. loops_down _ _ _ _ _ c.before.before.before.requires.1 _ _ c.before.if1.true c.counted.ensures)
+    (λ c. loops_down _ _ _ _ _ c.before.before.before.requires.1 _ _ c.before.if-form-eq-DECREMENT.true c.counted.ensures)
     (λ c κs. search rules) (λ c. search rules) (λ c κs. search rules)
     (λ c.
     let pre = c.before.before.before.before.before.before.before.requires in
-    loops-add _ _ _ _ _ pre.1 _ _ pre.0 _ c.before.before.signed.ensures c.before.before.before.before.if2.true c.counted2.ensures)
+    loops-add _ _ _ _ _ pre.1 _ _ pre.0 _ c.before.before.signed-addend.ensures c.before.before.before.before.if-form-eq-ADD.true c.counted-then-form-eq-ADD.ensures)
     (λ c κs. search rules) (λ c κs. search rules)
     (λ c.
     let pre = c.before.before.before.before.before.before.requires in
-    loops-set _ _ _ _ _ pre.1 _ _ _ c.before.widened.ensures c.before.before.if3.true c.work_of.ensures)
+    loops-set _ _ _ _ _ pre.1 _ _ _ c.before.widened.ensures c.before.before.if-form-eq-SET.true c.work_of.ensures)
     (λ c κs. search rules)
     (λ c.
     let pre = c.before.before.before.before.before.requires in
-    loops_jump _ _ _ _ _ pre.1 _ _ c.before.before.before.if1.false c.before.before.if2.false c.before.if3.false c.jump.ensures))
+    loops_jump _ _ _ _ _ pre.1 _ _ c.before.before.before.if-form-eq-DECREMENT.false c.before.before.if-form-eq-ADD.false c.before.if-form-eq-SET.false c.jump.ensures))

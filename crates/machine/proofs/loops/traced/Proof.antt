@@ -9,17 +9,15 @@ traced_spec =
     tie.close
     (tie.spec
     (λ c κs. search rules)
-    (λ c. traced_set _ _ _ _ _ c.before.before.before.requires.1 _ c.before.if1.true c.of_integer.ensures)
+    (λ c. traced_set _ _ _ _ _ c.requires.1 _ c.if-form-eq-SET.true c.of_integer.ensures)
     (λ c κs. search rules)
-    (λ c. traced_add _ _ _ _ _ c.before.before.before.before.before.requires.1 _ c.before.before.if2.true c.counting.ensures)
+    (λ c. traced_add _ _ _ _ _ c.requires.1 _ c.if-form-eq-ADD.true c.counting.ensures)
     (λ c κs. search rules)
-    (λ c. traced_down _ _ _ _ _ c.before.before.before.before.before.requires.1 _ c.before.if3.true c.counting2.ensures)
+    (λ c. traced_down _ _ _ _ _ c.requires.1 _ c.if-form-eq-DECREMENT.true c.counting-then-form-eq-DECREMENT.ensures)
     (λ c κs. search rules) (λ c. search rules) (λ c. search rules)
     (λ c.
-    let other = c.before.before.before in
-    traced_jump _ _ _ _ _ other.before.before.before.before.requires.1 other.before.before.if1.false other.before.if2.false other.if3.false _
-    c.before.before.onward.ensures _ c.enum_told.given.1)
+    traced_jump _ _ _ _ _ c.requires.1 c.if-form-eq-SET.false c.if-form-eq-ADD.false c.if-form-eq-DECREMENT.false _
+    c.onward.ensures _ c.in-At.is)
     (λ c.
-    let other = c.before.before.before.before in
-    traced_outside _ _ _ _ _ other.before.before.before.before.requires.1 other.before.before.if1.false other.before.if2.false other.if3.false _
-    c.before.before.before.onward.ensures _ c.before.refusal.given.1))
+    traced_outside _ _ _ _ _ c.requires.1 c.if-form-eq-SET.false c.if-form-eq-ADD.false c.if-form-eq-DECREMENT.false _
+    c.onward.ensures _ c.in-Refused.is))

@@ -10,5 +10,5 @@ past_long_spec =
     tie.close
     (tie.spec
     (λ c. search displacing) (λ c. search displacing) (λ c κs. search displacing)
-    (λ c. omega (arith, c.load.ensures, loaded_below c.before.before.before.args.code.now c.before.before.before.args.at 4 (λ i. (c.before.before.shared-slice-known.given i).fits)))
+    (λ c. omega (arith, c.load-displacement.ensures, loaded_below c.before.before.before.args.code.now c.before.before.before.args.at 4 (λ i. (c.before.before.shared_slice_known-1.given i).fits)))
     (λ c κs. search displacing) (λ c. search displacing) (λ c. search displacing))

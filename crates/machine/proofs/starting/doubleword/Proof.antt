@@ -10,5 +10,5 @@ doubleword_spec =
     tie.close
     (tie.spec
     (λ c. search rules) (λ c κs. search rules)
-    (λ c. omega (arith, c.load.ensures, loaded_below c.before.before.args.field.now (4 * c.before.before.args.k) 4 (λ i. (c.before.shared-slice-known.given i).fits)))
+    (λ c. omega (arith, c.load.ensures, loaded_below c.before.before.args.field.now (4 * c.before.before.args.k) 4 (λ i. (c.before.shared_slice_known-1.given i).fits)))
     (λ c. search rules))

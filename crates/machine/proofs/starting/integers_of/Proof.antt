@@ -12,5 +12,5 @@ integers_of_spec =
     (λ c κs. search rules) (λ c κs. search rules)
     (λ c i.
     let d = c.before.before.before.before in
-    d.before.before.before.doubleword.ensures i ∷ d.before.before.doubleword2.ensures i ∷ d.before.doubleword3.ensures i ∷ d.doubleword4.ensures i
-    ∷ c.before.before.before.doubleword5.ensures i ∷ c.before.before.doubleword6.ensures i ∷ c.before.doubleword7.ensures i ∷ c.doubleword8.ensures i ∷ []))
+    d.before.before.before.doubleword.ensures i ∷ d.before.before.doubleword-2.ensures i ∷ d.before.doubleword-3.ensures i ∷ d.doubleword-4.ensures i
+    ∷ c.before.before.before.doubleword-5.ensures i ∷ c.before.before.doubleword-6.ensures i ∷ c.before.doubleword-7.ensures i ∷ c.doubleword-8.ensures i ∷ []))

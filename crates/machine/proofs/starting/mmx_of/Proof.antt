@@ -12,5 +12,5 @@ mmx_of_spec =
     (λ c κs. search rules) (λ c κs. search rules)
     (λ c i.
     let d = c.before.before.before.before in
-    d.before.before.before.quadword.ensures i ∷ d.before.before.quadword2.ensures i ∷ d.before.quadword3.ensures i ∷ d.quadword4.ensures i
-    ∷ c.before.before.before.quadword5.ensures i ∷ c.before.before.quadword6.ensures i ∷ c.before.quadword7.ensures i ∷ c.quadword8.ensures i ∷ []))
+    d.before.before.before.quadword.ensures i ∷ d.before.before.quadword-2.ensures i ∷ d.before.quadword-3.ensures i ∷ d.quadword-4.ensures i
+    ∷ c.before.before.before.quadword-5.ensures i ∷ c.before.before.quadword-6.ensures i ∷ c.before.quadword-7.ensures i ∷ c.quadword-8.ensures i ∷ []))

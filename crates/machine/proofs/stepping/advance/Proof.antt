@@ -9,8 +9,4 @@ advance_spec =
     tie.close
     (tie.spec
     (λ c κs. search rules) (λ c κs. search rules) (λ c. search rules)
-    (λ c.
-    let done = c.before.before in
-    let gathered = done.before.before.before.before in
-    let pre = gathered.before.before.before.before.before.before.requires in
-    advanced _ _ _ _ _ _ _ _ _ _ _ _ _ _ pre.1.1.1.1 gathered.gathered.ensures done.perform.ensures))
+    (λ c. advanced _ _ _ _ _ _ _ _ _ _ _ _ _ _ c.requires.1.1.1.1 c.gathered-work.ensures c.perform.ensures))
