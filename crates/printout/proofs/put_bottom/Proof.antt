@@ -9,9 +9,6 @@ unfolding memory_line
 put_bottom_spec =
     tie.close
     (tie.spec
-    (λ c κs. search chain) (λ c. search chain) (λ c κs. search chain)
-    (λ c κs.
-    let d = c.before.before.before in
-    let e = d.before.before.before.before.before in
-    fits_third d.put_number_line.ensures e.put_mark_lines.ensures e.before.before.before.before.requires)
+    (λ c κs. search chain) (λ c κs. search chain)
+    (λ c κs. fits_third c.put_number_line-end.ensures c.put_mark_lines-end.ensures c.requires)
     (λ c. search chain) (λ c. search chain))

@@ -8,8 +8,5 @@ put_top_spec =
     tie.close
     (tie.spec
     (λ c κs. search chain) (λ c κs. search chain)
-    (λ c κs.
-    let d = c.before.before.before in
-    let e = d.before.before.before.before in
-    fits_third d.put_mmx_lines.ensures e.put_first_line.ensures e.before.before.before.before.before.before.requires)
+    (λ c κs. fits_third c.put_mmx_lines-end.ensures c.put_first_line-end.ensures c.requires)
     (λ c. search chain) (λ c. search chain))

@@ -9,5 +9,5 @@ unfolding refusal_text
 refusal_spec =
     tie.close
     (tie.spec
-    (λ c κs. search rooms) (λ c. search rooms) (λ c. search rooms) (λ c. search rooms) (λ c. search rooms) (λ c κs. search rooms)
-    (λ c. search rooms) (λ c. search rooms))
+    (λ c κs. search rooms) (λ c. search rooms) (λ c. search rooms) (λ c. search rooms) (λ c κs. search rooms) (λ c. search rooms)
+    (λ c. search rooms))

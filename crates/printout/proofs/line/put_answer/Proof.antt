@@ -7,6 +7,6 @@ pub put_answer_spec : {M : Type 1} → statement M
 put_answer_spec =
     tie.close
     (tie.spec
-    (λ c. search naming) (λ c. search naming) (λ c κs. search naming) (λ c. search naming) (λ c. search naming) (λ c κs. search naming)
-    (λ c. search naming) (λ c. search naming) (λ c. search naming) (λ c κs. search naming) (λ c. search naming) (λ c. search naming)
-    (λ c. search naming) (λ c. search naming) (λ c. search naming) (λ c. search naming))
+    (λ c. search naming) (λ c κs. search naming) (λ c. search naming) (λ c κs. search naming) (λ c. search naming) (λ c. search naming)
+    (λ c κs. search naming) (λ c. search naming) (λ c. search naming) (λ c. search naming) (λ c. search naming) (λ c. search naming)
+    (λ c. search naming))

@@ -7,11 +7,11 @@ use Rattle.printout.proofs.Pieces.{pieces, next_byte}
 use Rattle.printout.proofs.line.put_byte_lines.Statement.{statement}
 use Rattle.printout.proofs.line.put_byte_lines.Tie as tie
 
-abbrev invariant-loop : tie.invariant-loop
+abbrev invariant-loop : tie.invariant-loop-i
 invariant-loop out₀ at memory end₀ i₀ out end i =
     (i ≤ length memory) × Remaining (byte_lines i (drop i memory)) end out (byte_lines 0 memory) at out₀
 
-abbrev decreases-loop : tie.decreases-loop
+abbrev decreases-loop : tie.decreases-loop-i
 decreases-loop out₀ at memory end₀ i₀ out end i = length memory - i
 
 pub put_byte_lines_spec : {M : Type 1} → statement M
@@ -21,14 +21,14 @@ put_byte_lines_spec =
     invariant-loop
     decreases-loop
     (λ c. search pieces) (λ c. search pieces)
-    (λ c. search (Fits-8_64, c.shared-slice-known2.given))
+    (λ c. search (Fits-8_64, c.shared_slice_known-in-loop-i-1.given))
     (λ c. search pieces) (λ c. search pieces) (λ c κs. search pieces)
     (λ c κs.
     let d = c.before.before.before.before in
-    fits-remaining _ d.loop.invariant.1 (next_byte _ _ _ c.gap_after.ensures (search)) (search))
+    fits-remaining _ d.loop-i.invariant.1 (next_byte _ _ _ c.gap_after.ensures (search)) (search))
     (λ c. search pieces) (λ c. search pieces)
     (λ c.
     let d = c.before.before.before in
-    let l = d.before.before.before.before.loop in
-    (search pieces, less_remaining c.before.before.put_hex.ensures l.invariant.1 (next_byte _ _ _ d.gap_after.ensures (search))))
+    let l = d.before.before.before.before.loop-i in
+    (search pieces, less_remaining c.before.before.put_hex-end.ensures l.invariant.1 (next_byte _ _ _ d.gap_after.ensures (search))))
     (λ c. search pieces) (λ c. search pieces))

@@ -9,9 +9,6 @@ unfolding first_line
 put_first_line_spec =
     tie.close
     (tie.spec
-    (λ c κs. search chain) (λ c. search chain) (λ c κs. search chain) (λ c. search chain)
-    (λ c κs.
-    let d = c.before.before.before.before in
-    let e = d.before.before.before.before.before in
-    fits_third d.put_number.ensures e.put_answer.ensures e.before.before.before.requires)
+    (λ c κs. search chain) (λ c κs. search chain)
+    (λ c κs. fits_third c.put_number-end.ensures c.put_answer-end.ensures c.requires)
     (λ c. search chain) (λ c. search chain))

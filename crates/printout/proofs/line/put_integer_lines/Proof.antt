@@ -14,5 +14,5 @@ unfolding integer_lines
 put_integer_lines_spec =
     tie.close
     (tie.spec
-    (λ c κs. search chain) (λ c. search chain) (λ c. search chain) (λ c κs. search (chain, fits_as, same_lines)) (λ c. search chain)
+    (λ c κs. search chain) (λ c. search chain) (λ c κs. search (chain, fits_as, same_lines)) (λ c. search chain)
     (λ c. search (chain, puts_as, same_lines)))

@@ -9,4 +9,4 @@ unfolding mmx_lines
 put_mmx_lines_spec =
     tie.close
     (tie.spec
-    (λ c. search chain) (λ c. search chain) (λ c κs. search chain) (λ c. search chain) (λ c. search chain))
+    (λ c. search chain) (λ c κs. search chain) (λ c. search chain) (λ c. search chain))

@@ -7,5 +7,4 @@ pub put_zero_line_spec : {M : Type 1} → statement M
 put_zero_line_spec =
     tie.close
     (tie.spec
-    (λ c. search naming) (λ c κs. search naming) (λ c. search naming) (λ c κs. search naming) (λ c. search naming) (λ c. search naming)
-    (λ c. search naming) (λ c. search naming))
+    (λ c κs. search naming) (λ c κs. search naming) (λ c. search naming) (λ c. search naming) (λ c. search naming) (λ c. search naming))

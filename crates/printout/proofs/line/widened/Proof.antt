@@ -14,10 +14,10 @@ module _ (wide values : List ℕ) (i : ℕ) (same : take i wide ≡ take i value
 
 ruleset passing = (rules, one_passed, all_passed)
 
-abbrev invariant-loop : tie.invariant-loop
+abbrev invariant-loop : tie.invariant-loop-i
 invariant-loop values wide₀ i₀ wide i = (i ≤ 8) × (length wide ≡ 8) × (take i wide ≡ take i values)
 
-abbrev decreases-loop : tie.decreases-loop
+abbrev decreases-loop : tie.decreases-loop-i
 decreases-loop values wide₀ i₀ wide i = 8 - i
 
 pub widened_spec : {M : Type 1} → statement M

@@ -6,11 +6,11 @@ use Rattle.printout.proofs.Numbers.{numbers}
 use Rattle.printout.proofs.put.decimal_places.Statement.{statement}
 use Rattle.printout.proofs.put.decimal_places.Tie as tie
 
-abbrev invariant-loop : tie.invariant-loop
+abbrev invariant-loop : tie.invariant-loop-rest
 invariant-loop number count₀ rest₀ count rest =
     (1 ≤ count) × (rest + count ≤ number + 1) × (places (number + 1 - count) rest + count ≡ places number number + 1)
 
-abbrev decreases-loop : tie.decreases-loop
+abbrev decreases-loop : tie.decreases-loop-rest
 decreases-loop number count₀ rest₀ count rest = rest
 
 pub decimal_places_spec : {M : Type 1} → statement M

@@ -6,11 +6,11 @@ use Rattle.printout.proofs.Numbers.{numbers}
 use Rattle.printout.proofs.put.put_digits.Statement.{statement}
 use Rattle.printout.proofs.put.put_digits.Tie as tie
 
-abbrev invariant-loop : tie.invariant-loop
+abbrev invariant-loop : tie.invariant-loop-remaining
 invariant-loop out₀ at number base count rest₀ remaining₀ out rest remaining =
     (remaining ≤ count) × (length out ≡ length out₀) × (put out at (digits base remaining rest) ≡ put out₀ at (digits base count number))
 
-abbrev decreases-loop : tie.decreases-loop
+abbrev decreases-loop : tie.decreases-loop-remaining
 decreases-loop out₀ at number base count rest₀ remaining₀ out rest remaining = remaining
 
 pub put_digits_spec : {M : Type 1} → statement M

@@ -5,10 +5,10 @@ use Rattle.printout.proofs.Pieces.{pieces}
 use Rattle.printout.proofs.put.put_word.Statement.{statement}
 use Rattle.printout.proofs.put.put_word.Tie as tie
 
-abbrev invariant-loop : tie.invariant-loop
+abbrev invariant-loop : tie.invariant-loop-i
 invariant-loop out₀ at word end₀ i₀ out end i = (i ≤ length word) × Remaining (drop i word) end out word at out₀
 
-abbrev decreases-loop : tie.decreases-loop
+abbrev decreases-loop : tie.decreases-loop-i
 decreases-loop out₀ at word end₀ i₀ out end i = length word - i
 
 pub put_word_spec : {M : Type 1} → statement M
