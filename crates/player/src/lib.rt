@@ -32,7 +32,8 @@ fn run_copied(file: &[u8], marks: u8, memory: &[u8], buffer: &mut [u8], out: &mu
     requires { length memory.now ≤ length buffer.old }
     ensures { printing result out.new ≡ printed (answer_text (run_in memory.now marks file.now)) out.old }
 {
-    let n = bytes::copy(memory, buffer);
+    let n = memory.len();
+    buffer[0..n].copy_from_slice(memory);
     run(file, marks, &mut buffer[0..n], out)
 }
 
