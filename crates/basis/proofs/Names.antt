@@ -18,14 +18,7 @@ pub use lib.Pow.{field, high, low, mod-mod-pow, mod-pow-add, ones_lt, ones_split
 pub use lib.Seq.{drop-append-le, drop-append_seam, drop_at, drop-cons, drop-drop, drop-length, get_or-drop, get_or-set_other, length-sets, length-take-le, set_comm, sets-eq, take-add, take_all, take-append-le, take-append_seam, take_at, take-length, take-set-le, take-suc, take-suc-set}
 pub use lib.Signed.{mag, non_neg}
 pub use mathlib.Core.Bool.{and-false, and-true, false≢true, or-false, or-true, true≢false}
-pub use mathlib.Core.List.Memᴰ.{append_cases as Memᴰ-append_cases}
-pub use mathlib.Core.List.Memᴰ.{append_left as Memᴰ-append_left}
-pub use mathlib.Core.List.Memᴰ.{append_right as Memᴰ-append_right}
-pub use mathlib.Core.List.Memᴰ.{eq_of_singleton as Memᴰ-eq_of_singleton}
-pub use mathlib.Core.List.Memᴰ.{head as Memᴰ-head}
-pub use mathlib.Core.List.Memᴰ.{map as Memᴰ-map}
-pub use mathlib.Core.List.Memᴰ.{not-nil as Memᴰ-not_nil}
-pub use mathlib.Core.List.Memᴰ.{tail as Memᴰ-tail}
+pub use mathlib.Core.List.Memᴰ.{append_cases as Memᴰ-append_cases, append_left as Memᴰ-append_left, append_right as Memᴰ-append_right, eq_of_singleton as Memᴰ-eq_of_singleton, head as Memᴰ-head, map as Memᴰ-map, not-nil as Memᴰ-not_nil, tail as Memᴰ-tail}
 pub use mathlib.Core.List.{append_assoc, append-nil}
 pub use mathlib.Core.Logic.{◌↔◌, dite, inl, inr, ⊎_elim}
 pub use mathlib.Core.Path.{◌∙◌, ap, ap₂, subst, subst₂, sym}

@@ -1,4 +1,6 @@
 // What a packed operation leaves in a 64-bit register, from a destination and a source.
+#![tactic(auto)]
+
 mod compares;
 mod distances;
 mod extremes;

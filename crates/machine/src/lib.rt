@@ -1,4 +1,6 @@
 // The player's machine: its state, and what a step, a run and a footprint answer.
+#![tactic(auto)]
+
 mod addresses;
 mod footprints;
 mod gathering;

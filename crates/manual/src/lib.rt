@@ -1,4 +1,5 @@
 // The manual's rules are definitions (specs/) and laws (proofs/). What they share with the code is one type; there are no functions.
+#![tactic(auto)]
 
 // The marks of a machine.
 #[derive(Clone, Copy)]

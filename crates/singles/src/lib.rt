@@ -1,4 +1,6 @@
 // What PFMAX, PFCMPGT and PF2IW leave, which read a register as two single-precision numbers, and what PI2FW and PSWAPD leave.
+#![tactic(auto)]
+
 mod answers;
 mod classes;
 mod halves;

@@ -1,4 +1,6 @@
 // What a studio asks of a block: why two of its instructions cannot change places.
+#![tactic(auto)]
+
 mod going;
 mod jumps;
 mod meetings;

@@ -1,5 +1,7 @@
 // Little-endian numbers of up to 8 bytes in a lent buffer. Any place and any size may be asked for: bytes that do not all lie in the buffer
 // are read as 0, and are not written.
+#![tactic(auto)]
+
 ghost use Rattle.basis.specs.Names.{◌≡◌, ◌+◌, ◌≤◌, length, sets};
 ghost use Rattle.words.specs.Number.{number, bytes};
 ghost use Rattle.words.specs.Buffer.{inside, loaded, stored};

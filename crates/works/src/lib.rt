@@ -1,5 +1,7 @@
 // What remains to be done of an instruction, as plain numbers, and what does it; its tests, where a jump leads, the refusal of a miss, and what is left
 // to do by a suffix.
+#![tactic(auto)]
+
 mod bars;
 mod inside;
 mod jumps;
