@@ -10,12 +10,6 @@ go_on_spec =
     (tie.spec
     (λ c. search rules) (λ c. search rules) (λ c. search rules) (λ c. search continuing)
     (λ c. search continuing) (λ c. search rules) (λ c κs. search rules)
-    (λ c.
-    let part = c.before.before.before.before in
-    let start = part.before.before.before.before.before.before.before.before in
-    omega (arith, ends_within _ _ start.args.ran _ start.requires part.run.result _ part.run.ensures))
-    (λ c.
-    let part = c.before.before.before.before.before.before in
-    let start = part.before.before.before.before.before.before.before.before in
-    omega (arith, counts_within _ _ start.args.ran _ start.requires part.run.result _ part.run.ensures))
+    (λ c. omega (arith, ends_within _ _ c.args.ran _ c.requires c.run-rest.result _ c.run-rest.ensures))
+    (λ c. omega (arith, counts_within _ _ c.args.ran _ c.requires c.run-rest.result _ c.run-rest.ensures))
     (λ c. search continuing) (λ c. search continuing) (λ c. search rules) (λ c. search continuing))

@@ -8,10 +8,10 @@ use Rattle.studio.proofs.laws.jumps.Reaching.{reaching}
 use Rattle.studio.proofs.jumps.reaches_jump.Statement.{statement}
 use Rattle.studio.proofs.jumps.reaches_jump.Tie as tie
 
-abbrev invariant-loop : tie.invariant-loop
+abbrev invariant-loop : tie.invariant-loop-at
 invariant-loop code table at₀ at = reaches read is_jump (drop at code) ≡ reaches read is_jump code
 
-abbrev decreases-loop : tie.decreases-loop
+abbrev decreases-loop : tie.decreases-loop-at
 decreases-loop code table at₀ at = length code - at
 
 pub reaches_jump_spec : {M : Type 1} → statement M

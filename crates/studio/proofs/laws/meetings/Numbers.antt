@@ -55,6 +55,7 @@ all_numbered n =
 -- the places that stand there are those with these numbers
 
 pub in_numbered : (n k more : ℕ) (p : Place) → In p (numbered n k more) → (j : ℕ) × (k ≤ j) × (j < k + more) × (p ≡ place_at n j)
+in_numbered n k zero p h = elim h [ ]
 in_numbered n k (suc more) p (here e) = (k, omega arith, omega arith, e)
 in_numbered n k (suc more) p (later m) = let (j, low, high, e) = in_numbered n (k + 1) more p m in (j, omega arith, omega arith, e)
 

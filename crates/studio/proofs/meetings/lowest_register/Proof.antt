@@ -5,10 +5,10 @@ use Rattle.studio.proofs.laws.meetings.Masks.{masking}
 use Rattle.studio.proofs.meetings.lowest_register.Statement.{statement}
 use Rattle.studio.proofs.meetings.lowest_register.Tie as tie
 
-abbrev invariant-loop : tie.invariant-loop
+abbrev invariant-loop : tie.invariant-loop-k
 invariant-loop mask k₀ k = (k ≤ 8) × Least k (in_mask mask) k
 
-abbrev decreases-loop : tie.decreases-loop
+abbrev decreases-loop : tie.decreases-loop-k
 decreases-loop mask k₀ k = 8 - k
 
 pub lowest_register_spec : {M : Type 1} → statement M

@@ -1,6 +1,6 @@
 -- `meetings::lowest_shared` meets its contract: it looks for registers in both masks, then for a byte in both ranges, then at the zero mark.
-use Rattle.basis.proofs.Names.{⊎_elim}
 use Rattle.studio.proofs.laws.meetings.Sharing.{sharing}
+use Rattle.studio.proofs.meetings.lowest_shared.Lts.{then-one+else-other, else-one}
 use Rattle.studio.proofs.meetings.lowest_shared.Statement.{statement}
 use Rattle.studio.proofs.meetings.lowest_shared.Tie as tie
 
@@ -10,4 +10,5 @@ lowest_shared_spec =
     (tie.spec
     (λ c κs. search sharing) (λ c. search sharing) (λ c κs. search sharing) (λ c. search sharing) (λ c. search sharing) (λ c. search sharing)
     (λ c κs. search sharing) (λ c. search sharing) (λ c. search sharing) (λ c. search sharing) (λ c. search sharing) (λ c. search sharing)
-    (λ c. search sharing) (λ c. ⊎_elim (λ w. search sharing) (λ w. search sharing) c.if4.branch))
+    (λ c. search sharing)
+    (λ c. elim c.if-one.branch [ then-one+else-other w ↦ search sharing | else-one w ↦ search sharing ]))

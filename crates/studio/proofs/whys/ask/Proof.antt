@@ -13,9 +13,7 @@ ask_spec =
     (λ c. search rules)
     (λ c. search asking)
     (λ c κs.
-    let watching = c.before.before.before.before.before.before.before.before.before in
-    memory_short _ _ _ _ _ _ watching.before.before.within_budget.ensures watching.before.within-budget2.ensures _ _ watching.watch.ensures
-    c.before.before.before.enum_told.given.1)
+    memory_short _ _ _ _ _ _ c.within_budget.ensures c.within_budget-2.ensures _ _ c.watch-watched.ensures c.in-Done.is)
     (λ c. search rules) (λ c. search rules) (λ c. search rules)
     (λ c. search asking)
     (λ c. search rules)

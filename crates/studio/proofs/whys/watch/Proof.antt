@@ -9,24 +9,15 @@ watch_spec =
     tie.close
     (tie.spec
     (λ c κs. search rules) (λ c κs. search rules) (λ c. search rules)
-    (λ c κs.
-    let near = c.before.before.before.before.before in
-    let start = near.before.before.before.before in
-    a_part _ _ _ _ _ start.requires.0 start.requires.1.0 start.requires.1.1 near.run.ensures)
+    (λ c κs. a_part _ _ _ _ _ c.requires.0 c.requires.1.0 c.requires.1.1 c.run-near.ensures)
     (λ c κs. search rules) (λ c. search rules)
     (λ c κs.
-    let far = c.before.before.before.before.before in
-    let near = far.before.before.before.before.before.before in
-    let start = near.before.before.before.before in
-    a_part _ _ _ _ _ start.requires.0 start.requires.1.1 (omega arith) (far.go_on.ensures ∙ carried_on _ _ _ _ _ start.requires.1.0 near.run.ensures))
+    a_part _ _ _ _ _ c.requires.0 c.requires.1.1 (omega arith) (c.go_on-far.ensures ∙ carried_on _ _ _ _ _ c.requires.1.0 c.run-near.ensures))
     (λ c. search rules)
     (λ c.
-    let far = c.before.before.before.before.before.before.before.before in
-    let near = far.before.before.before.before.before.before in
-    let start = near.before.before.before.before in
-    let comes = far.go_on.ensures ∙ carried_on _ _ _ _ _ start.requires.1.0 near.run.ensures in
+    let comes = c.go_on-far.ensures ∙ carried_on _ _ _ _ _ c.requires.1.0 c.run-near.ensures in
     record {
-      runs = c.before.before.go-on2.ensures ∙ carried_on _ _ _ _ _ start.requires.1.1 comes;
-      first = far.before.before.trace.ensures ∙ footprint_there _ _ _ near.run.result _ near.run.ensures;
-      second = c.before.before.before.before.trace2.ensures ∙ footprint_there _ _ _ far.go_on.result _ comes;
+      runs = c.go_on-ran.ensures ∙ carried_on _ _ _ _ _ c.requires.1.1 comes;
+      first = c.trace-first.ensures ∙ footprint_there _ _ _ c.run-near.result _ c.run-near.ensures;
+      second = c.trace-second.ensures ∙ footprint_there _ _ _ c.go_on-far.result _ comes;
     }))
