@@ -20,7 +20,7 @@ pub use lib.Signed.{mag, non_neg}
 pub use mathlib.Core.Bool.{and-false, and-true, false≢true, or-false, or-true, true≢false}
 pub use mathlib.Core.List.Memᴰ.{append_cases as Memᴰ-append_cases, append_left as Memᴰ-append_left, append_right as Memᴰ-append_right, eq_of_singleton as Memᴰ-eq_of_singleton, head as Memᴰ-head, map as Memᴰ-map, not-nil as Memᴰ-not_nil, tail as Memᴰ-tail}
 pub use mathlib.Core.List.{append_assoc, append-nil}
-pub use mathlib.Core.Logic.{◌↔◌, dite, inl, inr, ⊎_elim}
+pub use mathlib.Core.Logic.{dite, inl, inr, ⊎_elim}
 pub use mathlib.Core.Path.{◌∙◌, ap, ap₂, subst, subst₂, sym}
 pub use native.Mathlib.Decide.{dec_le, dec_lt, ℕ_discrete}
 pub use native.Mathlib.Nat.{add_assoc, add_comm, add-mod, add-mod-mod, add-mod_right, add-mul, add-mul-mod_self_right, add-sub_cancel_left, add-suc, add-zero, div-add-mod', div-eq_of_lt, div-le_self, div-lt_iff_lt-mul, div-mul-le_self, div-one, div_self, eq-or-lt_of_le, le-div_iff_mul-le, le_of_eq, le_of_lt, le_of_mul-le-mul_right, le_of_suc-le-suc, le_trans, lt_of_le_of_lt, lt_of_lt_of_le, lt_of_not-le, lt-suc_self, lt_trans, min-eq_left, min-eq_right, mod-add-mod, mod-eq_of_lt, mod-lt, mod-mod, mod-one, mod_self, mul-add, mul-add-mod_self_right, mul_assoc, mul_comm, mul-div_cancel, mul-le-mul, mul-le-mul_left, mul-le-mul_right, mul-lt-mul_of_pos_right, mul-mod_left, mul-one, mul-pos, mul_right_comm, mul-suc, mul-zero, not-suc-le-zero, one-le-pow, one-mul, pow-le-pow_right, pow-suc, pow-succ', sub_self, sub-zero, suc-add, two-pow-succ, zero-add, zero-div, zero-mod, zero-mul}

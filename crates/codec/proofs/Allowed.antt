@@ -1,6 +1,6 @@
 -- Any two answers that a public contract allows at one input are equal, and so is what they leave in a lent buffer: each contract is one equation,
 -- and the paper's answers of different cases differ.
-use Rattle.basis.specs.Names.{◌≡◌, List, ℕ}
+use Rattle.std.specs.Prelude.{◌≡◌, List, ℕ}
 use Rattle.basis.proofs.Names.{sym, ◌∙◌}
 use contract.Lifetimes.{Lfts}
 use borrow.Fn.Kinds.{Dens, res_t, ended_of}

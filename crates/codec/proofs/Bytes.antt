@@ -1,6 +1,6 @@
 -- What is found in a list: what every line passes is passed by the line found. So it is said of every second byte, of every first byte, and of every
 -- form's number. And what is among the numbers of a list.
-use Rattle.basis.specs.Names.{ℕ, ◌≤◌, ◌≡◌, refl, Bool, true, false, not, cond, ◌&&◌, ◌||◌, List, [], ◌∷◌, map, eqb, ltb, get_or, drop}
+use Rattle.std.specs.Prelude.{ℕ, ◌≤◌, ◌≡◌, refl, Bool, true, false, not, cond, ◌&&◌, ◌||◌, List, [], ◌∷◌, map, eqb, ltb, get_or, drop}
 use Rattle.basis.proofs.Names.{sym, ap, subst, ◌∙◌, false≢true, arith, ltb-true, le-ltb, eqb-true, not-true}
 use Rattle.codec.specs.Forms.{Form, absent, mmreg1·mmreg2/mem64, forms, is_among, has_suffix}
 use Rattle.codec.specs.Contents.{Line, lines, three_dnow, maximum, siblings, loops}

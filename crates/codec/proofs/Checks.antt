@@ -1,5 +1,5 @@
 -- The writer's tests, from what the code has found: rules for the functions that say whether a record has bytes.
-use Rattle.basis.specs.Names.{ℕ, zero, suc, ◌^◌, ◌<◌, ◌≡◌, refl, Bool, true, false, ◌&&◌, eqb, ltb}
+use Rattle.std.specs.Prelude.{ℕ, zero, suc, ◌^◌, ◌<◌, ◌≡◌, refl, Bool, true, false, ◌&&◌, eqb, ltb}
 use Rattle.basis.proofs.Names.{sym, ap, ◌∙◌, and-true, arith, rules, lt-ltb, eq-eqb, ne_eqb, le-ltb}
 use Rattle.codec.specs.Forms.{Form, has_operand, allows, immediate_size, accepts}
 use Rattle.codec.specs.Opcodes.{form_for, escape}

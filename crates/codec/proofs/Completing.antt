@@ -1,6 +1,6 @@
 -- What can be completed: bytes more make an instruction of what is left of a code, unless it has a suffix that is not listed, which nothing but
 -- another suffix in its place can mend.
-use Rattle.basis.specs.Names.{ℕ, zero, suc, ◌+◌, ◌-◌, ◌≤◌, ◌≡◌, refl, ◌⊎◌, Bool, true, false, cond, List, [], ◌∷◌, ◌++◌, leb, length, take, drop, replicate}
+use Rattle.std.specs.Prelude.{ℕ, zero, suc, ◌+◌, ◌-◌, ◌≤◌, ◌≡◌, refl, ◌⊎◌, Bool, true, false, cond, List, [], ◌∷◌, ◌++◌, leb, length, take, drop, replicate}
 use Rattle.basis.proofs.Names.{sym, ap, ◌∙◌, inl, inr, false≢true, append_assoc, add-zero, arith, leb-true, leb-false, le-leb, length-append, length-replicate, length-drop, length-take-le, take-append-drop, take-append-le, drop-append-le, drop_of_length-le}
 use Rattle.words.specs.Number.{AllBytes, number}
 use Rattle.words.proofs.Numbers.{all_none, all_cons, all_append}

@@ -1,6 +1,7 @@
 -- Our table says of each second byte what the list says: the operations by a computation for the 256 bytes, the other parts by arithmetic. And the
 -- number of a first byte's form names that form.
-use Rattle.basis.specs.Names.{List, [], ◌∷◌, none, some, ℕ, zero, suc, ◌+◌, ◌/◌, ◌^◌, ◌≤◌, ◌<◌, ◌≡◌, refl, Bool, true, false, cond, ◌&&◌, eqb, leb, ltb, length, get_or, ◌%◌}
+use Rattle.std.specs.Prelude.{List, [], ◌∷◌, ℕ, zero, suc, ◌+◌, ◌/◌, ◌^◌, ◌≤◌, ◌<◌, ◌≡◌, refl, Bool, true, false, cond, ◌&&◌, eqb, leb, ltb, length, get_or, ◌%◌}
+use Rattle.basis.specs.Names.{none, some}
 use Rattle.basis.proofs.Names.{sym, ap, subst, ◌∙◌, arith, rules, zero-add, add-zero, leb-true, ltb-true, ltb-false, eq-eqb, ne_eqb, get_or-eq_default}
 use Rattle.lanes.specs.Operations.{Operation, Described, described, KEEP}
 use Rattle.codec.specs.Contents.{lines, OneByte, loops}

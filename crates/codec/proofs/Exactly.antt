@@ -1,7 +1,7 @@
 -- Each refusal of reading is given exactly when there is its reason: what is left of a code is a good instruction, or has a reason, and what has
 -- a reason is refused by its number.
-use Rattle.basis.specs.Names.{ℕ, ◌+◌, ◌≤◌, ◌<◌, ◌≡◌, refl, ◌⊎◌, Bool, true, false, cond, not, ◌&&◌, ◌||◌, List, [], ◌∷◌, ◌++◌, eqb, leb, ltb, length, take, drop}
-use Rattle.basis.proofs.Names.{sym, ap, subst, subst₂, ◌∙◌, ◌↔◌, inl, inr, false≢true, append_assoc, arith, leb-true, leb-false, le-leb, lt-leb, ltb-true, ltb-false, lt-ltb, le-ltb, eqb-true, eqb-false, length-append, take-append-drop, take-append-le, drop-append-le}
+use Rattle.std.specs.Prelude.{ℕ, ◌+◌, ◌≤◌, ◌<◌, ◌≡◌, refl, ◌⊎◌, Bool, true, false, cond, not, ◌&&◌, ◌||◌, List, [], ◌∷◌, ◌++◌, eqb, leb, ltb, length, take, drop, ◌↔◌}
+use Rattle.basis.proofs.Names.{sym, ap, subst, subst₂, ◌∙◌, inl, inr, false≢true, append_assoc, arith, leb-true, leb-false, le-leb, lt-leb, ltb-true, ltb-false, lt-ltb, le-ltb, eqb-true, eqb-false, length-append, take-append-drop, take-append-le, drop-append-le}
 use Rattle.words.specs.Number.{AllBytes, number}
 use Rattle.words.proofs.Numbers.{all_none, all_cons}
 use Rattle.words.proofs.Laws.{and_both}

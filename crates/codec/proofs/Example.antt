@@ -1,6 +1,6 @@
 -- What the writer leaves, computed: in a buffer that is longer than the instruction, as long, and shorter; and of a record without bytes. What the
 -- reader and the writer give of loops, and of 3DNow's suffixes.
-use Rattle.basis.specs.Names.{◌≡◌, refl, [], ◌∷◌, ℕ}
+use Rattle.std.specs.Prelude.{◌≡◌, refl, [], ◌∷◌, ℕ}
 use Rattle.codec.specs.declared.Instruction.{Instruction}
 use Rattle.codec.specs.declared.Operand.{Operand}
 use Rattle.codec.specs.declared.Writing.TheVariants.{Wrote, Refused}

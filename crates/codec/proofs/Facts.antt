@@ -1,5 +1,5 @@
 -- The writer's tests as facts: all of a list of tests is true exactly where each of them is.
-use Rattle.basis.specs.Names.{ℕ, ◌^◌, ◌<◌, ◌≡◌, refl, Bool, true, false, not, cond, ◌&&◌, List, [], ◌∷◌, eqb, ltb}
+use Rattle.std.specs.Prelude.{ℕ, ◌^◌, ◌<◌, ◌≡◌, refl, Bool, true, false, not, cond, ◌&&◌, List, [], ◌∷◌, eqb, ltb}
 use Rattle.basis.proofs.Names.{sym, ap, ◌∙◌, false≢true, lt-ltb, ltb-true, eqb-true, not-true}
 use Rattle.codec.specs.Forms.{Form, is_absent, has_operand, allows, immediate_size, accepts}
 use Rattle.codec.specs.Opcodes.{form_for, escape}

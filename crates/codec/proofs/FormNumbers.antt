@@ -1,5 +1,5 @@
 -- What the code's tests on a form's number say of the form: rules for the functions that take one.
-use Rattle.basis.specs.Names.{ℕ, zero, suc, ◌+◌, ◌≤◌, ◌<◌, ◌≡◌, refl, Bool, true, false, not, ◌&&◌, ◌||◌, List, [], ◌∷◌, eqb, ltb}
+use Rattle.std.specs.Prelude.{ℕ, zero, suc, ◌+◌, ◌≤◌, ◌<◌, ◌≡◌, refl, Bool, true, false, not, ◌&&◌, ◌||◌, List, [], ◌∷◌, eqb, ltb}
 use Rattle.basis.proofs.Names.{sym, subst, ◌∙◌, and-true, or-false, false≢true, arith, rules, ne_eqb, eqb-true, eqb-false, ltb-true, ltb-false, not-true}
 use Rattle.words.proofs.Laws.{and_both}
 use Rattle.codec.specs.Forms.{Use, Slot, reg, rm, rm/mem, mem, edi, fixed, opcode, zero_slot, Form, alone/7, mmreg1·mmreg2/mem64, mmreg1·mmreg2/mem64+suffix, forms, is_absent, is_any, has_operand, is_among, list_allows, slot_allows, slots_allow, allows, immediate_size, has_suffix, accepts}

@@ -1,5 +1,5 @@
 -- What every reading gives, whatever the table and the bytes: registers below 8, a form that is there, the refusals 3 to 6. Part by part.
-use Rattle.basis.specs.Names.{ℕ, ◌≤◌, ◌≡◌, refl, Bool, true, false, cond, List, eqb}
+use Rattle.std.specs.Prelude.{ℕ, ◌≤◌, ◌≡◌, refl, Bool, true, false, cond, List, eqb}
 use Rattle.basis.proofs.Names.{ap, ap₂, ◌∙◌, arith}
 use Rattle.codec.specs.Refusals.{prefixed, not_listed}
 use Rattle.codec.specs.Forms.{Form, is_among, is_absent, has_operand, allows, accepts}

@@ -1,6 +1,7 @@
 -- The list has 47 headings of manual 004 with 57 lines, and 16 of manual 000 with 19, and each line is found by its bytes; the six of 3DNow are found
 -- by their suffixes, and the four of loops by their 18 first bytes: by computation.
-use Rattle.basis.specs.Names.{◌≡◌, refl, Bool, false, not, ◌&&◌, cond, List, [], ◌∷◌, map, flatten, Option, none, some, ℕ, zero, suc, eqb, length, replicate}
+use Rattle.std.specs.Prelude.{◌≡◌, refl, Bool, false, not, ◌&&◌, cond, List, [], ◌∷◌, map, ℕ, zero, suc, eqb, length, replicate}
+use Rattle.basis.specs.Names.{flatten, Option, none, some}
 use Rattle.codec.specs.Forms.{is_absent, is_among}
 use Rattle.codec.specs.Contents.{Line, contents, extensions, lines_of, three_dnow, lines, siblings, OneByte, loops}
 use Rattle.codec.specs.Opcodes.{prefixes, escape, form_at, operation_at, suffixed_of, is_of, form_of_first}

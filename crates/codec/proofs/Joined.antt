@@ -1,5 +1,5 @@
 -- A byte of three fields gives its fields, and they the byte.
-use Rattle.basis.specs.Names.{ℕ, ◌<◌, ◌≡◌}
+use Rattle.std.specs.Prelude.{ℕ, ◌<◌, ◌≡◌}
 use Rattle.basis.proofs.Names.{arith}
 use Rattle.codec.specs.Operands.{upper, middle, lower, joined}
 use Rattle.codec.specs.inner.Fields.{Fields}

@@ -1,5 +1,5 @@
 -- An instruction with a suffix is read as one with an immediate, and then its suffix is looked at. Rules for the functions that do so.
-use Rattle.basis.specs.Names.{ℕ, ◌+◌, ◌≡◌, refl, Bool, true, false, cond, List, [], ◌∷◌, eqb, leb, length, take, drop}
+use Rattle.std.specs.Prelude.{ℕ, ◌+◌, ◌≡◌, refl, Bool, true, false, cond, List, [], ◌∷◌, eqb, leb, length, take, drop}
 use Rattle.basis.proofs.Names.{sym, ap, ◌∙◌, arith, rules, eq-eqb, ne_eqb, eqb-false}
 use Rattle.words.specs.Number.{number}
 use Rattle.codec.specs.Refusals.{code_ends, not_listed}

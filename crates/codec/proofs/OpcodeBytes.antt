@@ -1,6 +1,6 @@
 -- The opcode bytes, all 256 of each: of the first, document 01's eleven are refused by 4 on their own, 0F and those of loops go on or are whole, and
 -- every other byte is refused by 5; of the second, after 0F, every byte that the list has not is.
-use Rattle.basis.specs.Names.{ℕ, zero, suc, ◌≡◌, refl, Bool, true, false, cond, List, [], ◌∷◌, eqb, length, not, map}
+use Rattle.std.specs.Prelude.{ℕ, zero, suc, ◌≡◌, refl, Bool, true, false, cond, List, [], ◌∷◌, eqb, length, not, map}
 use Rattle.codec.specs.Refusals.{code_ends, prefixed, not_listed}
 use Rattle.codec.specs.Forms.{is_among}
 use Rattle.codec.specs.Contents.{Line, lines}

@@ -1,5 +1,5 @@
 -- Reading with our table: what is found at a position, less that position, is the defined reading. Rules for `read`.
-use Rattle.basis.specs.Names.{ℕ, ◌+◌, ◌-◌, ◌≤◌, ◌<◌, ◌≡◌, refl, Bool, cond, List, length, drop}
+use Rattle.std.specs.Prelude.{ℕ, ◌+◌, ◌-◌, ◌≤◌, ◌<◌, ◌≡◌, refl, Bool, cond, List, length, drop}
 use Rattle.basis.proofs.Names.{sym, ap, ◌∙◌, arith, add-zero, rules, lt-ltb, le-ltb}
 use Rattle.codec.specs.Refusals.{code_too_long}
 use Rattle.codec.specs.Opcodes.{form_at}

@@ -1,5 +1,6 @@
 -- What the writer's stores leave, part by part: rules for the functions that put bytes.
-use Rattle.basis.specs.Names.{ℕ, suc, ◌+◌, ◌/◌, ◌%◌, ◌≤◌, ◌<◌, ◌≡◌, Bool, true, false, cond, List, [], ◌∷◌, ◌++◌, eqb, length, set, drop, sets}
+use Rattle.std.specs.Prelude.{ℕ, suc, ◌+◌, ◌/◌, ◌%◌, ◌≤◌, ◌<◌, ◌≡◌, Bool, true, false, cond, List, [], ◌∷◌, ◌++◌, eqb, length, set, drop}
+use Rattle.basis.specs.Names.{sets}
 use Rattle.basis.proofs.Names.{sym, ap, ap₂, ◌∙◌, towards_suc, arith, rules, le-leb, lt-leb, eq-eqb, ne_eqb, length-append, length-set, sets-eq}
 use Rattle.words.specs.Number.{bytes}
 use Rattle.codec.specs.Refusals.{no_bytes, buffer_ends}

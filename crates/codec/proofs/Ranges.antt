@@ -1,5 +1,5 @@
 -- A record that has bytes is in range: its fields fit their places, and a place has its bits.
-use Rattle.basis.specs.Names.{ℕ, ◌^◌, ◌<◌, ◌≡◌, refl, Bool, true, false}
+use Rattle.std.specs.Prelude.{ℕ, ◌^◌, ◌<◌, ◌≡◌, refl, Bool, true, false}
 use Rattle.basis.proofs.Names.{sym, subst, arith, eqb-true}
 use Rattle.codec.specs.Forms.{Form, has_operand, allows, immediate_size}
 use Rattle.codec.specs.Opcodes.{form_for, escape}

@@ -1,5 +1,5 @@
 -- Laws of every reader, whatever it asks for: it reads its own bytes alone, wherever they stand. By cases of what is still to be read.
-use Rattle.basis.specs.Names.{ℕ, suc, ◌+◌, ◌-◌, ◌≤◌, ◌<◌, ◌≡◌, refl, Bool, true, false, cond, List, [], ◌∷◌, ◌++◌, leb, length, get_or, take, drop}
+use Rattle.std.specs.Prelude.{ℕ, suc, ◌+◌, ◌-◌, ◌≤◌, ◌<◌, ◌≡◌, refl, Bool, true, false, cond, List, [], ◌∷◌, ◌++◌, leb, length, get_or, take, drop}
 use Rattle.basis.proofs.Names.{sym, ap, ap₂, ◌∙◌, false≢true, append_assoc, add-one, arith, add_assoc, add-zero, leb-true, le-leb, lt-leb, length-append, length-drop, drop-cons, length-take-le, take-add, take_at, drop_at, drop-drop}
 use Rattle.words.specs.Number.{number}
 use Rattle.codec.specs.Refusals.{code_ends}

@@ -1,5 +1,5 @@
 -- A record that has bytes is read from them, whatever follows: part by part, each reader finds the bytes of its part.
-use Rattle.basis.specs.Names.{ℕ, suc, ◌+◌, ◌^◌, ◌<◌, ◌≡◌, refl, Bool, true, false, cond, List, [], ◌∷◌, ◌++◌, eqb, length}
+use Rattle.std.specs.Prelude.{ℕ, suc, ◌+◌, ◌^◌, ◌<◌, ◌≡◌, refl, Bool, true, false, cond, List, [], ◌∷◌, ◌++◌, eqb, length}
 use Rattle.basis.proofs.Names.{sym, ap, ap₂, ◌∙◌, append_assoc, arith, add-zero, eqb-true, length-append}
 use Rattle.words.specs.Number.{AllBytes, bytes}
 use Rattle.codec.specs.Refusals.{not_listed}

@@ -1,7 +1,7 @@
 -- Refusal 6 in the customer's words: 71, 72 or 73 with mod not 11, or with a digit that is not listed; a register or memory form that manual 000 does
 -- not list; another digit of 18; AE before another byte than F8; 83 in another form than /0 with mod 11; and nothing else.
-use Rattle.basis.specs.Names.{ℕ, ◌≡◌, refl, ◌⊎◌, Bool, true, false, not, cond, ◌&&◌, ◌||◌, List, [], ◌∷◌, ◌++◌, eqb, leb, ltb, get_or}
-use Rattle.basis.proofs.Names.{sym, ap, ◌∙◌, ◌↔◌, inl, inr, false≢true, arith, and-true, or-false, eqb-true, leb-true, ltb-true, eq-eqb, ne_eqb}
+use Rattle.std.specs.Prelude.{ℕ, ◌≡◌, refl, ◌⊎◌, Bool, true, false, not, cond, ◌&&◌, ◌||◌, List, [], ◌∷◌, ◌++◌, eqb, leb, ltb, get_or, ◌↔◌}
+use Rattle.basis.proofs.Names.{sym, ap, ◌∙◌, inl, inr, false≢true, arith, and-true, or-false, eqb-true, leb-true, ltb-true, eq-eqb, ne_eqb}
 use Rattle.codec.specs.Forms.{absent, is_among, is_absent, has_operand, allows}
 use Rattle.codec.specs.Contents.{lines, OneByte, loops}
 use Rattle.codec.specs.Opcodes.{form_at, is_of, form_of_first, form_for, opcode_bytes, escape}

@@ -1,5 +1,5 @@
 -- The sizes of displacements and immediates, 0, 1 or 4 bytes, and how far a number of four bytes reaches.
-use Rattle.basis.specs.Names.{ℕ, ◌+◌, ◌≤◌, ◌<◌, ◌≡◌, refl, List, length}
+use Rattle.std.specs.Prelude.{ℕ, ◌+◌, ◌≤◌, ◌<◌, ◌≡◌, refl, List, length}
 use Rattle.basis.proofs.Names.{arith}
 use Rattle.codec.specs.inner.Fields.{Sized}
 use Rattle.codec.proofs.Tests.{tests}

@@ -1,5 +1,5 @@
 -- What is read spells the bytes that it was read from: each part that a reader asks for is a part of the record's bytes.
-use Rattle.basis.specs.Names.{ℕ, suc, ◌+◌, ◌^◌, ◌<◌, ◌≡◌, refl, Bool, true, false, cond, ◌&&◌, List, [], ◌∷◌, ◌++◌, eqb, take, drop}
+use Rattle.std.specs.Prelude.{ℕ, suc, ◌+◌, ◌^◌, ◌<◌, ◌≡◌, refl, Bool, true, false, cond, ◌&&◌, List, [], ◌∷◌, ◌++◌, eqb, take, drop}
 use Rattle.basis.proofs.Names.{sym, ap, subst, ◌∙◌, false≢true, append_assoc, append-nil, arith, lt-ltb, take-add}
 use Rattle.words.specs.Number.{AllBytes, number, bytes}
 use Rattle.codec.specs.Refusals.{not_listed}

@@ -1,5 +1,5 @@
 -- The reader at a position of a code: what each part gives, from what the code has found there. Rules for the reader's functions.
-use Rattle.basis.specs.Names.{ℕ, ◌+◌, ◌-◌, ◌*◌, ◌/◌, ◌^◌, ◌≤◌, ◌<◌, ◌≡◌, refl, Bool, true, false, cond, List, eqb, length, get_or, take, drop}
+use Rattle.std.specs.Prelude.{ℕ, ◌+◌, ◌-◌, ◌*◌, ◌/◌, ◌^◌, ◌≤◌, ◌<◌, ◌≡◌, refl, Bool, true, false, cond, List, eqb, length, get_or, take, drop}
 use Rattle.basis.proofs.Names.{sym, ap, ap₂, ◌∙◌, false≢true, arith, add-zero, mul-zero, rules, eq-eqb, ne_eqb, eqb-true, drop_of_length-le}
 use Rattle.words.specs.Number.{number}
 use Rattle.words.proofs.Laws.{and_both}

@@ -1,6 +1,6 @@
 -- The theorems of the codec: bytes and records match one to one, reading is local, and what is read is in range.
-use Rattle.basis.specs.Names.{ℕ, ◌≤◌, ◌≡◌, refl, Bool, true, false, cond, List, [], ◌++◌, eqb, ltb, leb, length, take, drop}
-use Rattle.basis.proofs.Names.{sym, ap, ◌∙◌, false≢true, ◌↔◌, append-nil, arith, le-ltb}
+use Rattle.std.specs.Prelude.{ℕ, ◌≤◌, ◌≡◌, refl, Bool, true, false, cond, List, [], ◌++◌, eqb, ltb, leb, length, take, drop, ◌↔◌}
+use Rattle.basis.proofs.Names.{sym, ap, ◌∙◌, false≢true, append-nil, arith, le-ltb}
 use Rattle.words.specs.Number.{AllBytes}
 use Rattle.codec.specs.Refusals.{code_too_long, no_bytes, buffer_ends}
 use Rattle.codec.specs.Opcodes.{form_at, escape}

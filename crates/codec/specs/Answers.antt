@@ -1,5 +1,5 @@
 -- What reading and writing come to, in document 01's numbers, and what each case of the code's answers says of it.
-use Rattle.basis.specs.Names.{ℕ, List}
+use Rattle.std.specs.Prelude.{ℕ, List}
 use Rattle.codec.specs.declared.Instruction.{Instruction}
 use Rattle.codec.specs.declared.Reading.{Reading}
 use Rattle.codec.specs.declared.Reading.TheVariants as reading

@@ -1,6 +1,7 @@
 -- The instructions: manual 004's 47 headings and the 16 of manual 000, in the order of their tables of contents, each with its opcode bytes, forms
 -- and operations; the six of 3DNow; and the four of loops. Reading, writing, effects and footprints all go by these lists.
-use Rattle.basis.specs.Names.{ℕ, String, List, [], ◌∷◌, ◌++◌, Option, none, some}
+use Rattle.std.specs.Prelude.{ℕ, List, [], ◌∷◌, ◌++◌}
+use Rattle.basis.specs.Names.{String, Option, none, some}
 use Rattle.lanes.specs.Operations.{Operation, PUNPCKLBW, PUNPCKLWD, PUNPCKLDQ, PACKSSWB, PACKUSWB, PACKSSDW, PCMPGTB, PCMPGTW, PCMPGTD, PUNPCKHBW, PUNPCKHWD, PUNPCKHDQ, MOVE, PCMPEQB, PCMPEQW, PCMPEQD, PSRLW, PSRLD, PSRLQ, PSRAW, PSRAD, PSLLW, PSLLD, PSLLQ, PMULLW, PMULHW, PMADDWD, PSUBUSB, PSUBUSW, PADDUSB, PADDUSW, PSUBSB, PSUBSW, PADDSB, PADDSW, PAND, PANDN, POR, PXOR, PSUBB, PSUBW, PSUBD, PADDB, PADDW, PADDD, MASKMOVQ, PAVGB, PAVGW, PEXTRW, PINSRW, PMAXSW, PMAXUB, PMINSW, PMINUB, PMOVMSKB, PMULHUW, PSADBW, PSHUFW, KEEP}
 use Rattle.singles.specs.Siblings.{Sibling, PF2IW, PI2FW, PSWAPD, PAVGUSB, PFCMPGT, PFMAX}
 use Rattle.codec.specs.Forms.{Form, alone, mmreg1·imm8/2/4/6, mmreg1·imm8/2/6, reg32←mmreg2+imm8, mmreg1·reg32/mem16+imm8, mmreg1←mmreg2/mem64+imm8, reg32←mmreg2, edi·mmreg1·mmreg2, mem8/0/1/2/3, alone/7, reg32←imm32, reg32·imm8/0, reg32·alone, rel8off, mem64←mmreg1, mmreg1·mmreg2/mem64+suffix, reg32/mem32←mmreg1, mmreg1←reg32/mem32, mmreg2/mem64←mmreg1, mmreg1·mmreg2/mem32, mmreg1·mmreg2/mem64, mmreg1←mmreg2/mem64}

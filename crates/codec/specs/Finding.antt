@@ -1,5 +1,5 @@
 -- Reading with a lent table, as plain numbers: the refusal, or 0 with the entry of the opcode bytes, the instruction and the position after it.
-use Rattle.basis.specs.Names.{ℕ, List, cond, eqb, get_or, drop}
+use Rattle.std.specs.Prelude.{ℕ, List, cond, eqb, get_or, drop}
 use Rattle.codec.specs.Table.{form_in, entry_of_first}
 use Rattle.codec.specs.Opcodes.{escape}
 use Rattle.codec.specs.Operands.{no_operand}

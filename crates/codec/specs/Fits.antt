@@ -1,5 +1,5 @@
 -- Which records have bytes: each field fits its place, and one that has no place is 0.
-use Rattle.basis.specs.Names.{ℕ, ◌^◌, List, [], ◌∷◌, Bool, true, not, ◌&&◌, cond, eqb, ltb}
+use Rattle.std.specs.Prelude.{ℕ, ◌^◌, List, [], ◌∷◌, Bool, true, not, ◌&&◌, cond, eqb, ltb}
 use Rattle.codec.specs.Forms.{Form, is_absent, has_operand, allows, immediate_size, accepts}
 use Rattle.codec.specs.Opcodes.{form_for, escape}
 use Rattle.codec.specs.Operands.{has_sib, displacement_size}

@@ -1,5 +1,5 @@
 -- The forms of instructions: the operands in the manuals' notation, with what each is used for; and what a form says of the bytes after the opcode.
-use Rattle.basis.specs.Names.{ℕ, List, [], ◌∷◌, Bool, true, false, not, ◌&&◌, ◌||◌, eqb}
+use Rattle.std.specs.Prelude.{ℕ, List, [], ◌∷◌, Bool, true, false, not, ◌&&◌, ◌||◌, eqb}
 use Rattle.codec.specs.declared.Kind.{Kind}
 use Rattle.codec.specs.declared.Kind.TheVariants.{Ordinary, Emms, Silent, Loop}
 

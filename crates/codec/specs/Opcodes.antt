@@ -1,5 +1,6 @@
 -- The opcode bytes: the prefixes, 0F, and what the lists say of the byte after 0F, of a suffix, and of another first byte.
-use Rattle.basis.specs.Names.{ℕ, ◌+◌, List, [], ◌∷◌, Bool, true, ◌&&◌, cond, Option, none, some, eqb, leb, ltb}
+use Rattle.std.specs.Prelude.{ℕ, ◌+◌, List, [], ◌∷◌, Bool, true, ◌&&◌, cond, eqb, leb, ltb}
+use Rattle.basis.specs.Names.{Option, none, some}
 use Rattle.lanes.specs.Operations.{Operation, KEEP}
 use Rattle.codec.specs.Forms.{Form, absent, has_suffix}
 use Rattle.codec.specs.Contents.{lines, Suffixed, maximum, siblings, OneByte, loops}

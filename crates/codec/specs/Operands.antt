@@ -1,5 +1,5 @@
 -- Where an operand is: the fields of the ModRM and SIB bytes, and which parts a mode has.
-use Rattle.basis.specs.Names.{ℕ, ◌+◌, ◌*◌, ◌/◌, ◌%◌, Bool, not, ◌&&◌, ◌||◌, cond, eqb}
+use Rattle.std.specs.Prelude.{ℕ, ◌+◌, ◌*◌, ◌/◌, ◌%◌, Bool, not, ◌&&◌, ◌||◌, cond, eqb}
 use Rattle.codec.specs.declared.Operand.{Operand}
 
 -- a ModRM byte is mod, reg and rm, and an SIB byte scale, index and base, of 2, 3 and 3 bits

@@ -1,5 +1,5 @@
 -- Reading bytes from left to right: what is still to be read, and what it gives on the bytes that are left.
-use Rattle.basis.specs.Names.{ℕ, ◌+◌, List, [], ◌∷◌, cond, leb, length, take, drop}
+use Rattle.std.specs.Prelude.{ℕ, ◌+◌, List, [], ◌∷◌, cond, leb, length, take, drop}
 use Rattle.words.specs.Number.{number}
 use Rattle.codec.specs.Refusals.{code_ends}
 use Rattle.codec.specs.declared.Instruction.{Instruction}

@@ -1,5 +1,5 @@
 -- What reading an instruction gives: its bytes from left to right, the first refusal that is met, and the limit of the code.
-use Rattle.basis.specs.Names.{ℕ, List, cond, eqb, ltb, length, drop}
+use Rattle.std.specs.Prelude.{ℕ, List, cond, eqb, ltb, length, drop}
 use Rattle.codec.specs.Refusals.{code_too_long, prefixed, not_listed, not_allowed}
 use Rattle.codec.specs.Forms.{Form, is_among, is_absent, has_operand, allows, immediate_size, accepts}
 use Rattle.codec.specs.Opcodes.{form_at, form_of_first, escape, prefixes}

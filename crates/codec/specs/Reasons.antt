@@ -1,6 +1,6 @@
 -- When each refusal of reading is due, of the rest of a code from the position on: in document 01's words, but for 6, whose words are a theorem
 -- (proofs/Sixes.antt).
-use Rattle.basis.specs.Names.{ℕ, ◌+◌, ◌≤◌, ◌<◌, ◌≡◌, ◌⊎◌, true, false, List, [], ◌∷◌, ◌++◌, eqb, length, drop}
+use Rattle.std.specs.Prelude.{ℕ, ◌+◌, ◌≤◌, ◌<◌, ◌≡◌, ◌⊎◌, true, false, List, [], ◌∷◌, ◌++◌, eqb, length, drop}
 use Rattle.words.specs.Number.{AllBytes}
 use Rattle.codec.specs.Refusals.{code_too_long, code_ends, prefixed, not_listed, not_allowed}
 use Rattle.codec.specs.Forms.{is_among, is_absent, has_operand, allows, mmreg1·mmreg2/mem64+suffix}

@@ -1,5 +1,5 @@
 -- The refusal numbers of reading and writing, from document 01's table of them.
-use Rattle.basis.specs.Names.{ℕ}
+use Rattle.std.specs.Prelude.{ℕ}
 
 -- the code is longer than 4,096 bytes
 abbrev pub code_too_long : ℕ

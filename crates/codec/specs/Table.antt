@@ -1,6 +1,6 @@
 -- The code's table: for each second byte an entry, a number of four bytes. From the highest they are the form's number, the size of the operand in
 -- memory, the lane width, and the operation's number.
-use Rattle.basis.specs.Names.{ℕ, zero, suc, ◌+◌, ◌*◌, ◌/◌, ◌^◌, List, [], ◌∷◌, eqb, get_or}
+use Rattle.std.specs.Prelude.{ℕ, zero, suc, ◌+◌, ◌*◌, ◌/◌, ◌^◌, List, [], ◌∷◌, eqb, get_or}
 use Rattle.lanes.specs.Operations.{described}
 use Rattle.codec.specs.Forms.{Form, mmreg1·mmreg2/mem64, forms, memory_size}
 use Rattle.codec.specs.Opcodes.{find, form_at, operation_at, form_of_first}

@@ -1,5 +1,5 @@
 -- The bytes of a record, and what the writer answers and leaves in its buffer.
-use Rattle.basis.specs.Names.{ℕ, List, [], ◌∷◌, ◌++◌, cond, leb, length, drop}
+use Rattle.std.specs.Prelude.{ℕ, List, [], ◌∷◌, ◌++◌, cond, leb, length, drop}
 use Rattle.words.specs.Number.{bytes}
 use Rattle.codec.specs.Refusals.{no_bytes, buffer_ends}
 use Rattle.codec.specs.Answers.{Written, wrote, refused_with}

@@ -1,5 +1,5 @@
 // Which parts an instruction has: the fields of its ModRM and SIB bytes, the sizes of its displacement and its immediate.
-ghost use Rattle.basis.specs.Names.{◌≡◌, ◌≤◌, ◌<◌};
+ghost use Rattle.std.specs.Prelude.{◌≡◌, ◌≤◌, ◌<◌};
 ghost use Rattle.codec.specs.Forms.{alone/7, mmreg1·mmreg2/mem64+suffix, has_operand, is_among, allows, immediate_size, accepts};
 ghost use Rattle.codec.specs.Table.{form_of};
 ghost use Rattle.codec.specs.Operands.{has_sib, displacement_size};

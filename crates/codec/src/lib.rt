@@ -1,7 +1,7 @@
 // MMX instruction bytes to records and back: the records, the answers, and the table, the reader and the writer for other crates.
 #![tactic(auto)]
 
-ghost use Rattle.basis.specs.Names.{◌≡◌};
+ghost use Rattle.std.specs.Prelude.{◌≡◌};
 ghost use Rattle.codec.specs.Answers.{paper_of_reading, paper_of_writing};
 ghost use Rattle.codec.specs.Table.{opcode_table};
 ghost use Rattle.codec.specs.Reads.{read_at};

@@ -1,5 +1,5 @@
 // The table of second bytes, the first bytes of loops, and what is looked up.
-ghost use Rattle.basis.specs.Names.{◌≡◌, ◌≤◌, get_or};
+ghost use Rattle.std.specs.Prelude.{◌≡◌, ◌≤◌, get_or};
 ghost use Rattle.codec.specs.Opcodes.{form_of_first, form_for};
 ghost use Rattle.codec.specs.Table.{form_of};
 

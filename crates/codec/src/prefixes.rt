@@ -1,5 +1,5 @@
 // The first byte: 0F, or why one that starts no instruction is refused, the prefixes by 4, every other by 5.
-ghost use Rattle.basis.specs.Names.{◌≡◌};
+ghost use Rattle.std.specs.Prelude.{◌≡◌};
 ghost use Rattle.codec.specs.Reads.{refusal_of};
 
 use crate::refusals::{NOT_LISTED, PREFIXED};

@@ -1,5 +1,5 @@
 // The reader: one function for each part of an instruction, from left to right, each handing on the position after it.
-ghost use Rattle.basis.specs.Names.{◌≡◌, ◌+◌, ◌*◌, ◌≤◌, length, take, drop};
+ghost use Rattle.std.specs.Prelude.{◌≡◌, ◌+◌, ◌*◌, ◌≤◌, length, take, drop};
 ghost use Rattle.words.specs.Number.{number};
 ghost use Rattle.codec.specs.Opcodes.{escape};
 ghost use Rattle.codec.specs.Table.{entry_of_first, form_in};

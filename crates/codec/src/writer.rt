@@ -1,5 +1,6 @@
 // The writer: whether a record has bytes, how many, and one function for each part that puts them, from left to right.
-ghost use Rattle.basis.specs.Names.{◌≡◌, true, ◌&&◌, ◌+◌, ◌≤◌, length, sets};
+ghost use Rattle.std.specs.Prelude.{◌≡◌, true, ◌&&◌, ◌+◌, ◌≤◌, length};
+ghost use Rattle.basis.specs.Names.{sets};
 ghost use Rattle.words.specs.Number.{bytes};
 ghost use Rattle.codec.specs.Forms.{immediate_size, accepts};
 ghost use Rattle.codec.specs.Opcodes.{form_for, opcode_bytes};

@@ -1,5 +1,5 @@
 // The second byte 0F with each ModRM and SIB byte, and behind them each suffix.
-ghost use Rattle.basis.specs.Names.{◌<◌, ◌≤◌};
+ghost use Rattle.std.specs.Prelude.{◌<◌, ◌≤◌};
 
 use crate::{ESCAPE, NOTHING, REGISTERS, Tally, try_code};
 use codec::modes::{BYTE_DISPLACEMENT, LONG_DISPLACEMENT, NO_BASE, NO_DISPLACEMENT, SIB};

@@ -1,5 +1,5 @@
 // Which answer the first line of a text gives.
-ghost use Rattle.basis.specs.Names.{◌<◌, ◌≤◌};
+ghost use Rattle.std.specs.Prelude.{◌<◌, ◌≤◌};
 
 // The answers: a refusal is its own number.
 pub(crate) const DONE: usize = 0;

@@ -1,5 +1,5 @@
 // Likely code: instructions of the table and siblings, with operands that may lie in the memory, and as often those of loops.
-ghost use Rattle.basis.specs.Names.{◌≤◌, length};
+ghost use Rattle.std.specs.Prelude.{◌≤◌, length};
 
 use crate::dice::{any_byte, is_half, is_rare, roll};
 use crate::put::{put, put_small};

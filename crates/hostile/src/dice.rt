@@ -1,5 +1,5 @@
 // A fixed generator: every run rolls the same numbers.
-ghost use Rattle.basis.specs.Names.{◌<◌};
+ghost use Rattle.std.specs.Prelude.{◌<◌};
 
 // What it starts from.
 pub(crate) const SEED: u64 = 0x0123_4567_89ab_cdef;

@@ -1,5 +1,5 @@
 // Three sorts of files: plain random bytes; right headings with random contents; and the same with likely code.
-ghost use Rattle.basis.specs.Names.{◌<◌, ◌≤◌, length};
+ghost use Rattle.std.specs.Prelude.{◌<◌, ◌≤◌, length};
 
 use crate::code::put_instructions;
 use crate::dice::{is_half, is_rare, roll};

@@ -1,6 +1,6 @@
 // Plays 10,000 generated files, and prints how many of each sort gave each answer. All answers occur but eight: 11 and 12 are the writer's, 15 to 18
 // no page's, and 20 and 21 need a floor. The last line counts what must never be: a text that is none of these, or a byte changed behind the text.
-ghost use Rattle.basis.specs.Names.{◌<◌};
+ghost use Rattle.std.specs.Prelude.{◌<◌};
 
 use answers::{ANSWERS, DONE, NONE, SPENT, answer_of};
 use files::{ROOM, Sort};

@@ -1,5 +1,5 @@
 // Bytes put into a file, one after another.
-ghost use Rattle.basis.specs.Names.{◌≤◌, length};
+ghost use Rattle.std.specs.Prelude.{◌≤◌, length};
 
 use crate::dice::any_byte;
 

@@ -1,7 +1,8 @@
 -- PADD on whole registers. In a lane, exclusive or with the top bit adds it, wrapped: so the top bits of all lanes but the highest are taken out
 -- before the addition and put back after it. Without them no lane below the highest has a sum that reaches 2 ^ w, and nothing is carried into another
 -- lane.
-use Rattle.basis.specs.Names.{◌≡◌, ℕ, ◌+◌, ◌-◌, ◌*◌, ◌/◌, ◌%◌, ◌^◌, ◌≤◌, ◌<◌, bit_and, bit_xor}
+use Rattle.std.specs.Prelude.{◌≡◌, ℕ, ◌+◌, ◌-◌, ◌*◌, ◌/◌, ◌%◌, ◌^◌, ◌≤◌, ◌<◌}
+use Rattle.basis.specs.Names.{bit_and, bit_xor}
 use Rattle.basis.proofs.Names.{sym, ap, ap₂, ◌∙◌, mod-lt, mod-eq_of_lt, div-add-mod', div_self, add-mul, mul-add, zero-mul, add-mul-mod_self_right, arith, rules, and_mask, and_mod, and_shr, and_zero_r, xor_add_and, xor_shr, xor_self, xor_lt, pow_pos, shr_lt}
 use Rattle.lanes.specs.Lane.{lane}
 use Rattle.lanes.specs.Signed.{wrap}

@@ -1,5 +1,6 @@
 -- PADDS on whole registers: the wrapped sum, and where it has another sign than both its numbers, the end of the range on their side.
-use Rattle.basis.specs.Names.{◌≡◌, refl, true, false, ℕ, ◌+◌, ◌-◌, ◌*◌, ◌/◌, ◌%◌, ◌^◌, ◌≤◌, ◌<◌, bit_and, bit_xor, ℤ, sub_ℕ, ◌+ℤ◌}
+use Rattle.std.specs.Prelude.{◌≡◌, refl, true, false, ℕ, ◌+◌, ◌-◌, ◌*◌, ◌/◌, ◌%◌, ◌^◌, ◌≤◌, ◌<◌, ℤ, ◌+ℤ◌}
+use Rattle.basis.specs.Names.{bit_and, bit_xor, sub_ℕ}
 use Rattle.basis.proofs.Names.{sym, ap, ap₂, ◌∙◌, zero-mul, one-mul, add-mul, mod-lt, arith, rules, and_shr, xor_shr, xor_lt, pow_pos}
 use Rattle.lanes.specs.Lane.{lane, register}
 use Rattle.lanes.specs.Signed.{wrap, clamp_signed}

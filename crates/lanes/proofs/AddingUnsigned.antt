@@ -1,5 +1,6 @@
 -- PADDUS on whole registers: the wrapped sum, and ones in the lanes that carry.
-use Rattle.basis.specs.Names.{◌≡◌, refl, true, false, ℕ, ◌+◌, ◌-◌, ◌*◌, ◌/◌, ◌%◌, ◌^◌, ◌≤◌, ◌<◌, bit_and, bit_or, ℤ, sub_ℕ}
+use Rattle.std.specs.Prelude.{◌≡◌, refl, true, false, ℕ, ◌+◌, ◌-◌, ◌*◌, ◌/◌, ◌%◌, ◌^◌, ◌≤◌, ◌<◌, ℤ}
+use Rattle.basis.specs.Names.{bit_and, bit_or, sub_ℕ}
 use Rattle.basis.proofs.Names.{sym, ap, ap₂, ◌∙◌, dite, zero-mul, one-mul, mod-lt, mod-eq_of_lt, div-eq_of_lt, dec_le, arith, rules, and_shr, or_shr, or_lt, high, pow_pos}
 use Rattle.lanes.specs.Lane.{lane}
 use Rattle.lanes.specs.Signed.{wrap, clamp_unsigned}

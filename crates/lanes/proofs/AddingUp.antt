@@ -1,5 +1,6 @@
 -- PSAD: the lanes of a register added up, one a turn, and the distances of two registers' lanes.
-use Rattle.basis.specs.Names.{◌≡◌, refl, ℕ, zero, suc, ◌+◌, ◌-◌, ◌*◌, ◌/◌, ◌^◌, ◌≤◌, ◌<◌, bit_and, bit_or}
+use Rattle.std.specs.Prelude.{◌≡◌, refl, ℕ, zero, suc, ◌+◌, ◌-◌, ◌*◌, ◌/◌, ◌^◌, ◌≤◌, ◌<◌}
+use Rattle.basis.specs.Names.{bit_and, bit_or}
 use Rattle.basis.proofs.Names.{ap, ap₂, ◌∙◌, dite, zero-le, lt_trans, lt-suc_self, div-add-mod', div-le_self, mul-le-mul_left, mul-one, add_comm, add-one, dec_le, arith, rules, le-ltb, lt-ltb, and_mask, or_zero_l, or_zero_r, pow_pos}
 use Rattle.lanes.specs.Lane.{lane, build}
 use Rattle.lanes.specs.Rules.{packed, pairwise, difference_unsigned, distance, total, distances}

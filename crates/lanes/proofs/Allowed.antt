@@ -1,5 +1,5 @@
 -- Any two answers that the contract of `operate`, or of a pick, allows at one input are equal: both are what the definition says.
-use Rattle.basis.specs.Names.{◌≡◌}
+use Rattle.std.specs.Prelude.{◌≡◌}
 use Rattle.basis.proofs.Names.{sym, ◌∙◌}
 use contract.Lifetimes.{Lfts}
 use borrow.Fn.Kinds.{Dens, res_t, ended_of}

@@ -1,5 +1,6 @@
 -- PAVG on whole registers: all bits of both, less half of those that differ.
-use Rattle.basis.specs.Names.{◌≡◌, refl, ℕ, ◌+◌, ◌-◌, ◌*◌, ◌/◌, ◌^◌, ◌≤◌, ◌<◌, bit_and, bit_or, bit_xor}
+use Rattle.std.specs.Prelude.{◌≡◌, refl, ℕ, ◌+◌, ◌-◌, ◌*◌, ◌/◌, ◌^◌, ◌≤◌, ◌<◌}
+use Rattle.basis.specs.Names.{bit_and, bit_or, bit_xor}
 use Rattle.basis.proofs.Names.{sym, ap, ap₂, ◌∙◌, arith, rules, or_add_and, or_lt, xor_add_and, xor_lt}
 use Rattle.lanes.specs.Lane.{lane}
 use Rattle.lanes.specs.Rules.{packed, pairwise, mean}

@@ -1,5 +1,6 @@
 -- The bitwise operations act lane by lane, at every width.
-use Rattle.basis.specs.Names.{◌≡◌, ℕ, ◌+◌, ◌-◌, ◌*◌, ◌/◌, ◌%◌, ◌^◌, ◌≤◌, ◌<◌, bit_and, bit_or, bit_xor}
+use Rattle.std.specs.Prelude.{◌≡◌, ℕ, ◌+◌, ◌-◌, ◌*◌, ◌/◌, ◌%◌, ◌^◌, ◌≤◌, ◌<◌}
+use Rattle.basis.specs.Names.{bit_and, bit_or, bit_xor}
 use Rattle.basis.proofs.Names.{sym, ap, ◌∙◌, subst, mod-lt, mod-eq_of_lt, div-add-mod', add-mul, one-mul, lt_of_le_of_lt, arith, and_le_l, and_shr, or_shr, xor_shr, and_mod, or_mod, xor_mod, and_mask, xor_add_and, pow_pos, pow-add, high, low, shr_lt}
 use Rattle.lanes.specs.Lane.{lane}
 use Rattle.lanes.specs.Rules.{and_not}

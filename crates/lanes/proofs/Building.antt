@@ -1,5 +1,5 @@
 -- Building a register lane by lane, for any rule whose lanes fit: what each turn of the loop asks and leaves; and a register known by its lanes.
-use Rattle.basis.specs.Names.{◌≡◌, refl, ℕ, suc, ◌+◌, ◌*◌, ◌/◌, ◌^◌, ◌≤◌, ◌<◌}
+use Rattle.std.specs.Prelude.{◌≡◌, refl, ℕ, suc, ◌+◌, ◌*◌, ◌/◌, ◌^◌, ◌≤◌, ◌<◌}
 use Rattle.basis.proofs.Names.{sym, ap, ap₂, ◌∙◌, le-div_iff_mul-le, le_trans, le_of_eq, add_comm, mul_comm, mul-suc, add-one, arith, rules}
 use Rattle.lanes.specs.Lane.{lane, build, register}
 use Rattle.lanes.specs.Rules.{packed, pairwise}

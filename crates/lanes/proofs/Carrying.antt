@@ -1,6 +1,6 @@
 -- The carry, once over the lane width. A lane of a sum is the two lanes and what is carried into it from below, added and wrapped; and nothing is
 -- carried into it where no lane below has a sum that reaches 2 ^ w: where no lane has, the lanes add up.
-use Rattle.basis.specs.Names.{◌≡◌, refl, ℕ, zero, suc, ◌+◌, ◌*◌, ◌/◌, ◌%◌, ◌^◌, ◌<◌}
+use Rattle.std.specs.Prelude.{◌≡◌, refl, ℕ, zero, suc, ◌+◌, ◌*◌, ◌/◌, ◌%◌, ◌^◌, ◌<◌}
 use Rattle.basis.proofs.Names.{sym, ap, ap₂, ◌∙◌, add-mul, add-mod, mod-add-mod, mod-lt, mod-eq_of_lt, lt_trans, div-eq_of_lt, div-add-mod', arith, high, pow_pos}
 use Rattle.lanes.specs.Lane.{lane, build}
 use Rattle.lanes.proofs.Registers.{lane_lt, build_lt, built_of_lanes, lanes_decide}

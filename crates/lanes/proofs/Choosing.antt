@@ -1,5 +1,6 @@
 -- A lane of ones or zeros chooses, bit by bit, between two lanes; and a register of such lanes between two registers.
-use Rattle.basis.specs.Names.{◌≡◌, refl, Bool, true, false, cond, ℕ, zero, suc, ◌+◌, ◌-◌, ◌*◌, ◌/◌, ◌%◌, ◌^◌, ◌<◌, bit_and, bit_or, bit_xor}
+use Rattle.std.specs.Prelude.{◌≡◌, refl, Bool, true, false, cond, ℕ, zero, suc, ◌+◌, ◌-◌, ◌*◌, ◌/◌, ◌%◌, ◌^◌, ◌<◌}
+use Rattle.basis.specs.Names.{bit_and, bit_or, bit_xor}
 use Rattle.basis.proofs.Names.{ap, ap₂, ◌∙◌, mod-lt, mod-eq_of_lt, div-add-mod', arith, bin_ind, differ, and_mask, and_zero_r, or_add_and, or_zero_r, xor_lt, xor_mod, xor_shr, xor_step, xor_zero_r}
 use Rattle.lanes.specs.Lane.{lane}
 use Rattle.lanes.specs.Rules.{packed, all_ones}

@@ -1,5 +1,6 @@
 -- A number of two lanes' bits, clamped to a lane, from its high and its low part, each a lane.
-use Rattle.basis.specs.Names.{◌≡◌, refl, true, cond, ℕ, ◌+◌, ◌-◌, ◌*◌, ◌/◌, ◌%◌, ◌^◌, ◌≤◌, ◌<◌, bit_and, bit_or, eqb, ℤ, sub_ℕ}
+use Rattle.std.specs.Prelude.{◌≡◌, refl, true, cond, ℕ, ◌+◌, ◌-◌, ◌*◌, ◌/◌, ◌%◌, ◌^◌, ◌≤◌, ◌<◌, eqb, ℤ}
+use Rattle.basis.specs.Names.{bit_and, bit_or, sub_ℕ}
 use Rattle.basis.proofs.Names.{sym, ap, ap₂, ◌∙◌, dite, ℕ_discrete, add-mul, one-mul, zero-mul, mul_assoc, mul-le-mul, zero-add, sub_self, sub-zero, mod-lt, div-add-mod', dec_le, arith, eq-eqb, ne_eqb, and_zero_r, or_zero_r, ones_lt, pow_pos, pow-add, shr_lt, shr-shr}
 use Rattle.lanes.specs.Signed.{signed, wrap, clamp_signed, clamp_unsigned}
 use Rattle.lanes.specs.Rules.{all_ones}

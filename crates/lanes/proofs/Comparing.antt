@@ -1,6 +1,7 @@
 -- PCMPEQ and PCMPGT on whole registers: a top bit says yes or no of its lane. It comes from the lanes' own top bits, and from a sum of the lanes
 -- without them, which stays in its lane.
-use Rattle.basis.specs.Names.{◌≡◌, refl, Bool, true, false, ℕ, zero, suc, ◌+◌, ◌-◌, ◌*◌, ◌/◌, ◌%◌, ◌^◌, ◌≤◌, ◌<◌, bit_and, bit_or, bit_xor, ltb, eqb, sub_ℕ, lt_z}
+use Rattle.std.specs.Prelude.{◌≡◌, refl, Bool, true, false, ℕ, zero, suc, ◌+◌, ◌-◌, ◌*◌, ◌/◌, ◌%◌, ◌^◌, ◌≤◌, ◌<◌, ltb, eqb}
+use Rattle.basis.specs.Names.{bit_and, bit_or, bit_xor, sub_ℕ, lt_z}
 use Rattle.basis.proofs.Names.{sym, ap, ap₂, ◌∙◌, dite, one-mul, zero-mul, add-zero, mod-lt, div-add-mod', dec_le, arith, rules, eq-eqb, ne_eqb, le-ltb, lt-ltb, and_le_l, and_le_r, and_shr, or_lt, or_shr, xor_add_and, xor_block, xor_lt, xor_self, xor_shr, xor_zero_r, pow_pos, ones_sub-lt}
 use Rattle.lanes.specs.Lane.{lane}
 use Rattle.lanes.specs.Signed.{signed}

@@ -1,6 +1,7 @@
 -- A subtraction is its addition from the other side, a - b = not (not a + b): wrapping, clamped without sign, and clamped with sign. In a
 -- lane, not x is 2 ^ w - 1 - x; the range of each clamp is its own mirror image.
-use Rattle.basis.specs.Names.{◌≡◌, refl, ℕ, suc, ◌+◌, ◌-◌, ◌*◌, ◌/◌, ◌%◌, ◌^◌, ◌≤◌, ◌<◌, bit_xor, ℤ, sub_ℕ, ◌+ℤ◌, ◌-ℤ◌}
+use Rattle.std.specs.Prelude.{◌≡◌, refl, ℕ, suc, ◌+◌, ◌-◌, ◌*◌, ◌/◌, ◌%◌, ◌^◌, ◌≤◌, ◌<◌, ℤ, ◌+ℤ◌, ◌-ℤ◌}
+use Rattle.basis.specs.Names.{bit_xor, sub_ℕ}
 use Rattle.basis.proofs.Names.{sym, ap, ap₂, ◌∙◌, dite, mod-eq_of_lt, add-mod_right, dec_le, arith, rules, pow_pos, ones_sub-lt}
 use Rattle.lanes.specs.Lane.{lane}
 use Rattle.lanes.specs.Signed.{signed, wrap, clamp_signed, clamp_unsigned}

@@ -1,5 +1,5 @@
 -- The ends of the signed range, in every lane the one on the lane's side: the top bits, and all bits but the top bit, added.
-use Rattle.basis.specs.Names.{◌≡◌, ℕ, ◌+◌, ◌-◌, ◌/◌, ◌^◌, ◌≤◌, ◌<◌}
+use Rattle.std.specs.Prelude.{◌≡◌, ℕ, ◌+◌, ◌-◌, ◌/◌, ◌^◌, ◌≤◌, ◌<◌}
 use Rattle.basis.proofs.Names.{ap₂, ◌∙◌, arith, rules, pow_pos}
 use Rattle.lanes.specs.Lane.{lane, register, top_bit}
 use Rattle.lanes.specs.inner.EveryLane.{repeated, rests, range_end}

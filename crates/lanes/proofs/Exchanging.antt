@@ -1,5 +1,6 @@
 -- Lanes that change places with the next lane up: what differs between the two is turned over in both, where a mask has ones.
-use Rattle.basis.specs.Names.{◌≡◌, Bool, false, cond, ℕ, zero, suc, ◌+◌, ◌*◌, ◌/◌, ◌%◌, ◌^◌, ◌≤◌, ◌<◌, bit_and, bit_xor, eqb}
+use Rattle.std.specs.Prelude.{◌≡◌, Bool, false, cond, ℕ, zero, suc, ◌+◌, ◌*◌, ◌/◌, ◌%◌, ◌^◌, ◌≤◌, ◌<◌, eqb}
+use Rattle.basis.specs.Names.{bit_and, bit_xor}
 use Rattle.basis.proofs.Names.{sym, ap, ap₂, ◌∙◌, dite, ℕ_discrete, add_comm, mul-suc, mul-zero, mul-mod_left, mod-lt, arith, rules, eq-eqb, ne_eqb, and_zero_r, xor_comm, xor_lt, xor_zero_r, pow_pos, shl-shr, shr-shr}
 use Rattle.lanes.specs.Lane.{lane, register}
 use Rattle.lanes.specs.Rules.{packed, all_ones}

@@ -1,5 +1,6 @@
 -- Every lane of every rule fits its width: what is wrapped does, and so do ones, lanes, what a shift leaves of them, means and high products.
-use Rattle.basis.specs.Names.{ℕ, ◌+◌, ◌*◌, ◌/◌, ◌%◌, ◌^◌, ◌<◌, min, Bool, true, false, cond, eqb, ltb, ℤ, pos, negsuc, lt_z}
+use Rattle.std.specs.Prelude.{ℕ, ◌+◌, ◌*◌, ◌/◌, ◌%◌, ◌^◌, ◌<◌, min, Bool, true, false, cond, eqb, ltb, ℤ, pos, negsuc}
+use Rattle.basis.specs.Names.{lt_z}
 use Rattle.basis.proofs.Names.{mod-lt, le_of_lt, lt_of_le_of_lt, mul-le-mul_left, div-lt_iff_lt-mul, arith, pow_pos, digits_lt}
 use Rattle.lanes.specs.Lane.{lane, top_bit}
 use Rattle.lanes.specs.Signed.{signed, wrap}

@@ -1,5 +1,6 @@
 -- Both registers' numbers of two lanes' bits, in turn, each clamped from its two parts.
-use Rattle.basis.specs.Names.{◌≡◌, ℕ, ◌+◌, ◌-◌, ◌*◌, ◌/◌, ◌%◌, ◌^◌, ◌≤◌, ◌<◌, bit_and, bit_or, bit_xor, eqb, ℤ}
+use Rattle.std.specs.Prelude.{◌≡◌, ℕ, ◌+◌, ◌-◌, ◌*◌, ◌/◌, ◌%◌, ◌^◌, ◌≤◌, ◌<◌, eqb, ℤ}
+use Rattle.basis.specs.Names.{bit_and, bit_or, bit_xor}
 use Rattle.basis.proofs.Names.{ap, ap₂, ◌∙◌, mul-one, mod-eq_of_lt, rules, or_lt, xor_lt, ones_sub-lt, shr_lt}
 use Rattle.lanes.specs.Lane.{lane, register}
 use Rattle.lanes.specs.Signed.{clamp_signed, clamp_unsigned}

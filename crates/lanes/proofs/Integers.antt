@@ -1,6 +1,7 @@
 -- Integers as differences of two natural numbers, which is how the code holds them: sum, difference, product, order, the clamps and the
 -- low bits of `sub_ℕ m n` (the integer m - n), in natural numbers. Each by the two cases of a difference.
-use Rattle.basis.specs.Names.{◌≡◌, refl, ℕ, zero, suc, ◌+◌, ◌-◌, ◌*◌, ◌/◌, ◌%◌, ◌^◌, ◌≤◌, ◌<◌, leb, ltb, ℤ, pos, negsuc, sub_ℕ, ◌+ℤ◌, ◌-ℤ◌, ◌*ℤ◌, le_z, lt_z}
+use Rattle.std.specs.Prelude.{◌≡◌, refl, ℕ, zero, suc, ◌+◌, ◌-◌, ◌*◌, ◌/◌, ◌%◌, ◌^◌, ◌≤◌, ◌<◌, leb, ltb, ℤ, pos, negsuc, ◌+ℤ◌, ◌-ℤ◌, ◌*ℤ◌}
+use Rattle.basis.specs.Names.{sub_ℕ, le_z, lt_z}
 use Rattle.basis.proofs.Names.{sym, ap, ap₂, ◌∙◌, subst, dite, add-mul, mul-add, one-mul, mod-lt, mod-eq_of_lt, add-mul-mod_self_right, div-lt_iff_lt-mul, div-add-mod', dec_le, arith, le-ltb, lt-ltb, le-leb, lt-leb, neg_ℤ, pow_pos, low}
 use Rattle.lanes.specs.Signed.{wrap, clamp, clamp_unsigned}
 

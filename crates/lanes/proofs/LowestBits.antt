@@ -1,5 +1,5 @@
 -- The lowest bits of all lanes: all ones, divided by a lane's ones. One bit down, they are the top bits of all lanes but the highest.
-use Rattle.basis.specs.Names.{◌≡◌, ℕ, zero, suc, ◌+◌, ◌-◌, ◌*◌, ◌/◌, ◌%◌, ◌^◌, ◌≤◌, ◌<◌}
+use Rattle.std.specs.Prelude.{◌≡◌, ℕ, zero, suc, ◌+◌, ◌-◌, ◌*◌, ◌/◌, ◌%◌, ◌^◌, ◌≤◌, ◌<◌}
 use Rattle.basis.proofs.Names.{sym, ap, ◌∙◌, ⊎_elim, add-mul, mul-add, mul-one, one-mul, zero-mul, mul-zero, mul_comm, mul-div_cancel, mod_self, zero-mod, eq-or-lt_of_le, arith, rules, pow_pos, pow-lt, high}
 use Rattle.lanes.specs.Lane.{lane, build, register}
 use Rattle.lanes.specs.inner.EveryLane.{repeated, lowest_bits}

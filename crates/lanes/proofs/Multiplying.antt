@@ -1,5 +1,6 @@
 -- What the lanes of the signed multiplications are, from a product that 2 ^ 32 is added to; and of the unsigned one.
-use Rattle.basis.specs.Names.{◌≡◌, refl, ℕ, ◌+◌, ◌-◌, ◌*◌, ◌/◌, ◌%◌, ◌^◌, ◌<◌, ℤ, pos, negsuc, sub_ℕ, ◌+ℤ◌, shr_z}
+use Rattle.std.specs.Prelude.{◌≡◌, refl, ℕ, ◌+◌, ◌-◌, ◌*◌, ◌/◌, ◌%◌, ◌^◌, ◌<◌, ℤ, pos, negsuc, ◌+ℤ◌}
+use Rattle.basis.specs.Names.{sub_ℕ, shr_z}
 use Rattle.basis.proofs.Names.{sym, ap, ap₂, ◌∙◌, mod-lt, arith, rules, pow_pos, field}
 use Rattle.lanes.specs.Lane.{lane}
 use Rattle.lanes.specs.Signed.{wrap}

@@ -1,5 +1,5 @@
 -- What `operate` leaves by number: an operation's number is its place in the list of operations, and past the list the destination is kept.
-use Rattle.basis.specs.Names.{◌≡◌, refl, ℕ, zero, suc, ◌+◌, ◌≤◌, List, [], ◌∷◌, map, length}
+use Rattle.std.specs.Prelude.{◌≡◌, refl, ℕ, zero, suc, ◌+◌, ◌≤◌, List, [], ◌∷◌, map, length}
 use Rattle.basis.proofs.Names.{sym, ap, arith, rules, get_or-eq_default}
 use Rattle.lanes.specs.Operations.{Operation, KEEP, described, operate, operations, operation_of}
 

@@ -1,5 +1,5 @@
 -- Packs on whole registers: of what stands in turn, the even lanes go to the low half, and the odd lanes to the high half.
-use Rattle.basis.specs.Names.{◌≡◌, refl, cond, ℕ, ◌+◌, ◌*◌, ◌/◌, ◌%◌, ◌^◌, ◌<◌, eqb, ltb, ℤ}
+use Rattle.std.specs.Prelude.{◌≡◌, refl, cond, ℕ, ◌+◌, ◌*◌, ◌/◌, ◌%◌, ◌^◌, ◌<◌, eqb, ltb, ℤ}
 use Rattle.basis.proofs.Names.{sym, ap, ap₂, ◌∙◌, dite, one-mul, mod-lt, div-eq_of_lt, div-lt_iff_lt-mul, le-div_iff_mul-le, dec_lt, arith, rules, le-ltb, lt-ltb}
 use Rattle.lanes.specs.Lane.{lane}
 use Rattle.lanes.specs.Signed.{signed, wrap}

@@ -1,6 +1,7 @@
 -- The low parts, or the high parts, of two registers' lanes of twice the width, in turn: the high parts of the one and the low parts of the other
 -- change places.
-use Rattle.basis.specs.Names.{◌≡◌, refl, Bool, cond, ℕ, zero, suc, ◌+◌, ◌-◌, ◌*◌, ◌/◌, ◌%◌, ◌^◌, ◌≤◌, ◌<◌, bit_xor, eqb}
+use Rattle.std.specs.Prelude.{◌≡◌, refl, Bool, cond, ℕ, zero, suc, ◌+◌, ◌-◌, ◌*◌, ◌/◌, ◌%◌, ◌^◌, ◌≤◌, ◌<◌, eqb}
+use Rattle.basis.specs.Names.{bit_xor}
 use Rattle.basis.proofs.Names.{sym, ap, ◌∙◌, dite, ℕ_discrete, add-mul, mul_comm, mul-one, mul-div_cancel, mod-lt, mod-eq_of_lt, arith, rules, eq-eqb, ne_eqb, xor_lt, xor_zero_r, pow_pos, pow_mono, ones_lt}
 use Rattle.lanes.specs.Lane.{lane}
 use Rattle.lanes.specs.Rules.{packed, all_ones, unpack}

@@ -1,5 +1,6 @@
 -- The picks: a word by its place, a word in another's place, the words in another order, the top bits side by side, and a choice by top bits.
-use Rattle.basis.specs.Names.{◌≡◌, refl, ℕ, zero, suc, ◌+◌, ◌-◌, ◌*◌, ◌/◌, ◌%◌, ◌^◌, ◌≤◌, ◌<◌, bit_and, bit_xor, cond, eqb}
+use Rattle.std.specs.Prelude.{◌≡◌, refl, ℕ, zero, suc, ◌+◌, ◌-◌, ◌*◌, ◌/◌, ◌%◌, ◌^◌, ◌≤◌, ◌<◌, cond, eqb}
+use Rattle.basis.specs.Names.{bit_and, bit_xor}
 use Rattle.basis.proofs.Names.{sym, ap, ap₂, ◌∙◌, dite, ℕ_discrete, one-mul, zero-mul, div-one, mul-mod_left, mul-le-mul_left, mod-lt, mod-eq_of_lt, dec_le, arith, rules, eq-eqb, ne_eqb, xor_lt, xor_zero_r, pow_pos, pow_mono, shl_exact, shl-shr, high, digits_lt}
 use Rattle.lanes.specs.Lane.{lane, build, register, top_bit}
 use Rattle.lanes.specs.Rules.{packed, pairwise, all_ones, greater, blend, extract, insert, top_bits, shuffle}

@@ -1,5 +1,5 @@
 -- The code's shifts and powers of two, as the definitions write them.
-use Rattle.basis.specs.Names.{◌≡◌, ℕ, ◌+◌, ◌-◌, ◌*◌, ◌/◌, ◌%◌, ◌^◌, ◌≤◌, ◌<◌}
+use Rattle.std.specs.Prelude.{◌≡◌, ℕ, ◌+◌, ◌-◌, ◌*◌, ◌/◌, ◌%◌, ◌^◌, ◌≤◌, ◌<◌}
 use Rattle.basis.proofs.Names.{sym, ap, ◌∙◌, one-mul, two-pow-succ, mod-eq_of_lt, le_trans, lt_of_le_of_lt, div-le_self, arith, pow-lt, pow_mono, pow-add, shl_exact, digits_lt}
 
 -- 1 << (w - 1)

@@ -1,5 +1,6 @@
 -- PMAX and PMIN on whole registers: signed, the mask of PCMPGT chooses; unsigned, what one lane has beyond the other is added, or taken away.
-use Rattle.basis.specs.Names.{◌≡◌, refl, Bool, ℕ, ◌+◌, ◌-◌, ◌*◌, ◌/◌, ◌^◌, ◌≤◌, ◌<◌, bit_and, bit_xor, ℤ, lt_z}
+use Rattle.std.specs.Prelude.{◌≡◌, refl, Bool, ℕ, ◌+◌, ◌-◌, ◌*◌, ◌/◌, ◌^◌, ◌≤◌, ◌<◌, ℤ}
+use Rattle.basis.specs.Names.{bit_and, bit_xor, lt_z}
 use Rattle.basis.proofs.Names.{sym, ap, ap₂, ◌∙◌, dite, dec_le, arith, rules, le-ltb, lt-ltb, pow_pos}
 use Rattle.lanes.specs.Lane.{lane}
 use Rattle.lanes.specs.Signed.{signed, wrap, clamp_unsigned}

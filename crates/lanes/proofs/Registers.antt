@@ -1,6 +1,6 @@
 -- The laws of lanes, once over the width: what the lanes of a built number, of a number's low bits and of a number shifted down are, that a lane
 -- above a number is 0, and that lanes decide a number. By division with rest at powers of two.
-use Rattle.basis.specs.Names.{◌≡◌, refl, ℕ, zero, suc, ◌+◌, ◌-◌, ◌*◌, ◌/◌, ◌%◌, ◌^◌, ◌≤◌, ◌<◌}
+use Rattle.std.specs.Prelude.{◌≡◌, refl, ℕ, zero, suc, ◌+◌, ◌-◌, ◌*◌, ◌/◌, ◌%◌, ◌^◌, ◌≤◌, ◌<◌}
 use Rattle.basis.proofs.Names.{sym, ap, ap₂, ◌∙◌, ⊎_elim, zero-div, zero-mod, div-eq_of_lt, div-add-mod', add-mul, mul-add, mul-one, div-one, mul-suc, mul-zero, mul_comm, mul_assoc, mul_right_comm, zero-mul, add_comm, mod-eq_of_lt, mod-lt, mod-one, mul-add-mod_self_right, le_of_suc-le-suc, eq-or-lt_of_le, mul-le-mul_left, lt-suc_self, lt_trans, not-suc-le-zero, le_of_eq, le_trans, div-mul-le_self, arith, pow_pos, pow_mono, pow-add, high, field, shr-shr, mod-mod-pow, mod-pow-add, digits_lt}
 use Rattle.lanes.specs.Lane.{lane, build, register}
 

@@ -1,6 +1,7 @@
 -- A number in every lane: the lowest bits of all lanes, times that number; all bits but the top bit are one. As a mask, ones in the low bits of
 -- every lane keep these.
-use Rattle.basis.specs.Names.{◌≡◌, ℕ, ◌-◌, ◌*◌, ◌/◌, ◌%◌, ◌^◌, ◌≤◌, ◌<◌, bit_and}
+use Rattle.std.specs.Prelude.{◌≡◌, ℕ, ◌-◌, ◌*◌, ◌/◌, ◌%◌, ◌^◌, ◌≤◌, ◌<◌}
+use Rattle.basis.specs.Names.{bit_and}
 use Rattle.basis.proofs.Names.{ap, ◌∙◌, one-mul, arith, rules, and_mask, pow_pos, pow_mono}
 use Rattle.lanes.specs.Lane.{lane, register}
 use Rattle.lanes.specs.inner.EveryLane.{repeated, lowest_bits, rests}

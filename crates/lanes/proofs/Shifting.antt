@@ -1,5 +1,6 @@
 -- PSLL, PSRL and PSRA on whole registers: the bits that would move into another lane are left out before the shift, or after it.
-use Rattle.basis.specs.Names.{◌≡◌, ℕ, suc, ◌+◌, ◌-◌, ◌*◌, ◌/◌, ◌%◌, ◌^◌, ◌≤◌, ◌<◌, min, bit_and, bit_xor, ℤ, shr_z}
+use Rattle.std.specs.Prelude.{◌≡◌, ℕ, suc, ◌+◌, ◌-◌, ◌*◌, ◌/◌, ◌%◌, ◌^◌, ◌≤◌, ◌<◌, min, ℤ}
+use Rattle.basis.specs.Names.{bit_and, bit_xor, shr_z}
 use Rattle.basis.proofs.Names.{sym, ap, ap₂, ◌∙◌, dite, one-mul, zero-mul, add-zero, min-eq_left, min-eq_right, le_of_lt, mul-mod_left, div-eq_of_lt, mod-eq_of_lt, dec_le, arith, rules, lt-ltb, le-ltb, xor_zero_r, xor_lt, pow_pos, shl-shr, mod-pow-add, ones_lt, ones_split, ones_sub-lt, high}
 use Rattle.lanes.specs.Lane.{lane, build, register}
 use Rattle.lanes.specs.Signed.{signed, wrap}

@@ -1,6 +1,7 @@
 -- The lanes' top bits: in one lane; of all lanes, each at the low end of its lane; and those times a lane of ones, which are ones in the lanes below
 -- zero.
-use Rattle.basis.specs.Names.{◌≡◌, refl, ℕ, ◌+◌, ◌-◌, ◌*◌, ◌/◌, ◌%◌, ◌^◌, ◌≤◌, ◌<◌, bit_and, sub_ℕ}
+use Rattle.std.specs.Prelude.{◌≡◌, refl, ℕ, ◌+◌, ◌-◌, ◌*◌, ◌/◌, ◌%◌, ◌^◌, ◌≤◌, ◌<◌}
+use Rattle.basis.specs.Names.{bit_and, sub_ℕ}
 use Rattle.basis.proofs.Names.{sym, ap, ap₂, ◌∙◌, dite, one-mul, zero-mul, div-eq_of_lt, dec_le, arith, rules, le-ltb, lt-ltb, pow_pos, shr_lt, high}
 use Rattle.lanes.specs.Lane.{lane, register, top_bit}
 use Rattle.lanes.specs.Signed.{signed}

@@ -1,5 +1,6 @@
 -- A signed lane with its top bit turned over is its number plus half the range: signed sums, clamps and comparisons become unsigned ones.
-use Rattle.basis.specs.Names.{◌≡◌, refl, ℕ, suc, ◌+◌, ◌-◌, ◌^◌, ◌≤◌, ◌<◌, bit_xor, sub_ℕ}
+use Rattle.std.specs.Prelude.{◌≡◌, refl, ℕ, suc, ◌+◌, ◌-◌, ◌^◌, ◌≤◌, ◌<◌}
+use Rattle.basis.specs.Names.{bit_xor, sub_ℕ}
 use Rattle.basis.proofs.Names.{sym, ap, ◌∙◌, dite, one-mul, zero-mul, add-zero, zero-add, add_comm, dec_le, arith, le-ltb, lt-ltb, xor_comm, xor_shifted, xor_block, xor_zero_r, pow_pos}
 use Rattle.lanes.specs.Signed.{signed, wrap, clamp, clamp_signed, clamp_unsigned}
 use Rattle.lanes.proofs.Integers.{is_pos, same, wrap_ge, wrap_below, clamp_below, clamp_above, clamp-within, unsigned_below, unsigned_above, unsigned_within}

@@ -1,6 +1,6 @@
 -- From an unpack to the unpack at half the width: in every four lanes, two of the destination stand before two of the source, and the middle two
 -- change places.
-use Rattle.basis.specs.Names.{◌≡◌, cond, ℕ, ◌+◌, ◌*◌, ◌/◌, ◌%◌, ◌<◌, eqb}
+use Rattle.std.specs.Prelude.{◌≡◌, cond, ℕ, ◌+◌, ◌*◌, ◌/◌, ◌%◌, ◌<◌, eqb}
 use Rattle.basis.proofs.Names.{sym, ap, ap₂, ◌∙◌, arith, rules}
 use Rattle.lanes.specs.Lane.{lane}
 use Rattle.lanes.specs.Rules.{packed, unpack}

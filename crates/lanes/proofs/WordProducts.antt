@@ -1,5 +1,6 @@
 -- The signed product of two words in the code's signed numbers: what it computes from words fits there, and with 2 ^ 32 is never below zero.
-use Rattle.basis.specs.Names.{◌≡◌, refl, ℕ, zero, suc, ◌+◌, ◌-◌, ◌*◌, ◌/◌, ◌%◌, ◌^◌, ◌≤◌, ◌<◌, bit_xor, ℤ, pos, negsuc, sub_ℕ, ◌+ℤ◌, ◌-ℤ◌, ◌*ℤ◌}
+use Rattle.std.specs.Prelude.{◌≡◌, refl, ℕ, zero, suc, ◌+◌, ◌-◌, ◌*◌, ◌/◌, ◌%◌, ◌^◌, ◌≤◌, ◌<◌, ℤ, pos, negsuc, ◌+ℤ◌, ◌-ℤ◌, ◌*ℤ◌}
+use Rattle.basis.specs.Names.{bit_xor, sub_ℕ}
 use Rattle.basis.proofs.Names.{sym, ◌∙◌, mul-le-mul, mod-lt, le_trans, arith, rules, lt-ltb, T, nat_abs, neg_ℤ, pow_pos, mag, non_neg}
 use Rattle.lanes.specs.Lane.{lane}
 use Rattle.lanes.specs.Signed.{signed}

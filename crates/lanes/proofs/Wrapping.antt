@@ -1,6 +1,7 @@
 -- PMADDWD wraps only when all four words are 8000h: any other two products have a sum between -2^31 and 2^31. With their top bits turned over, words
 -- are u and v, and u * v is at most 2^15 (u + v), since both are below 2^16; only where all are 0 is it no less.
-use Rattle.basis.specs.Names.{◌≡◌, refl, Bool, true, false, ℕ, ◌+◌, ◌*◌, ◌^◌, ◌≤◌, ◌<◌, bit_xor, leb, ℤ, sub_ℕ, ◌+ℤ◌, ◌*ℤ◌, lt_z}
+use Rattle.std.specs.Prelude.{◌≡◌, refl, Bool, true, false, ℕ, ◌+◌, ◌*◌, ◌^◌, ◌≤◌, ◌<◌, leb, ℤ, ◌+ℤ◌, ◌*ℤ◌}
+use Rattle.basis.specs.Names.{bit_xor, sub_ℕ, lt_z}
 use Rattle.basis.proofs.Names.{ap₂, ◌∙◌, mul-le-mul, arith, leb-true, leb-false, lt-ltb}
 use Rattle.lanes.specs.Rules.{product}
 use Rattle.lanes.proofs.Integers.{same, plus, times, lt_same}

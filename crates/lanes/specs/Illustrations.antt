@@ -1,6 +1,6 @@
 -- Illustrations of manuals 004 and 000, for what document 01's plates leave out, and examples of our own where their numbers tell too little or are
 -- none.
-use Rattle.basis.specs.Names.{ℕ, Bool, true, ◌&&◌, List, [], ◌∷◌, eqb}
+use Rattle.std.specs.Prelude.{ℕ, Bool, true, ◌&&◌, List, [], ◌∷◌, eqb}
 use Rattle.lanes.specs.Operations.{Operation, PUNPCKLWD, PACKSSWB, PACKSSDW, PCMPGTW, PUNPCKHBW, PUNPCKHWD, PUNPCKHDQ, MOVE, PCMPEQB, PSRLW, PSRLQ, PSRAD, PSLLD, PMULLW, PMULHW, PMADDWD, PSUBUSB, PSUBUSW, PADDUSB, PADDUSW, PSUBSB, PSUBSW, PANDN, PSUBB, MASKMOVQ, PAVGB, PAVGW, PEXTRW, PINSRW, PMAXSW, PMAXUB, PMINSW, PMINUB, PMOVMSKB, PMULHUW, PSADBW, PSHUFW, KEEP, operate, operate_three}
 
 -- an operation, its destination, its source, and what it leaves; or with a third number before that

@@ -1,5 +1,5 @@
 -- The lanes of a register: a register is a number below 2 ^ 64, and its lanes of w bits are counted from the low end.
-use Rattle.basis.specs.Names.{ℕ, zero, suc, ◌+◌, ◌-◌, ◌*◌, ◌/◌, ◌%◌, ◌^◌}
+use Rattle.std.specs.Prelude.{ℕ, zero, suc, ◌+◌, ◌-◌, ◌*◌, ◌/◌, ◌%◌, ◌^◌}
 
 -- lane i of x
 unfoldable pub lane : ℕ → ℕ → ℕ → ℕ

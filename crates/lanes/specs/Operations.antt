@@ -1,6 +1,7 @@
 -- The packed operations by the manuals' headings, those of 004 in the order of document 01's table of opcode bytes, those of 000 in its own, with MOVE,
 -- which leaves the source, and KEEP, which leaves the destination: the number, lane width and rule of each.
-use Rattle.basis.specs.Names.{ℕ, List, [], ◌∷◌, get_or, bit_and, bit_or, bit_xor}
+use Rattle.std.specs.Prelude.{ℕ, List, [], ◌∷◌, get_or}
+use Rattle.basis.specs.Names.{bit_and, bit_or, bit_xor}
 use Rattle.lanes.specs.Signed.{clamp_signed, clamp_unsigned}
 use Rattle.lanes.specs.Rules.{packed, pairwise, sum, difference, sum_signed, difference_signed, sum_unsigned, difference_unsigned, equal, greater, product_low, product_high, product_sum, pack, unpack_low, unpack_high, and_not, shift, left, right, right_signed, blend, mean, extract, insert, maximum_signed, maximum_unsigned, minimum_signed, minimum_unsigned, top_bits, product_high_unsigned, distances, shuffle}
 

@@ -1,6 +1,7 @@
 -- What each family of packed instructions leaves, once over the lane width w, in the order of document 01's section of that name; then those of
 -- manual 000, in its order.
-use Rattle.basis.specs.Names.{ℕ, zero, suc, ◌+◌, ◌-◌, ◌*◌, ◌/◌, ◌%◌, ◌^◌, min, Bool, cond, ltb, eqb, ℤ, pos, ◌+ℤ◌, ◌-ℤ◌, ◌*ℤ◌, lt_z, shr_z, bit_and}
+use Rattle.std.specs.Prelude.{ℕ, zero, suc, ◌+◌, ◌-◌, ◌*◌, ◌/◌, ◌%◌, ◌^◌, min, Bool, cond, ltb, eqb, ℤ, pos, ◌+ℤ◌, ◌-ℤ◌, ◌*ℤ◌}
+use Rattle.basis.specs.Names.{lt_z, shr_z, bit_and}
 use Rattle.lanes.specs.Lane.{lane, build, register, top_bit}
 use Rattle.lanes.specs.Signed.{signed, wrap, clamp_signed, clamp_unsigned}
 

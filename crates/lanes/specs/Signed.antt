@@ -1,5 +1,6 @@
 -- A lane read as a signed number, and an integer put into a lane: wrapped, or clamped to what the lane holds.
-use Rattle.basis.specs.Names.{ℕ, ◌-◌, ◌%◌, ◌^◌, cond, ltb, ℤ, pos, negsuc, sub_ℕ, le_z}
+use Rattle.std.specs.Prelude.{ℕ, ◌-◌, ◌%◌, ◌^◌, cond, ltb, ℤ, pos, negsuc}
+use Rattle.basis.specs.Names.{sub_ℕ, le_z}
 
 -- two's complement: from 2 ^ (w - 1) on, a lane of w bits stands for itself less 2 ^ w
 unfoldable pub signed : ℕ → ℕ → ℤ

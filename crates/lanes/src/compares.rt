@@ -1,5 +1,5 @@
 // PCMPEQ and PCMPGT, all lanes at once: all ones or all zeros.
-ghost use Rattle.basis.specs.Names.{◌≡◌};
+ghost use Rattle.std.specs.Prelude.{◌≡◌};
 ghost use Rattle.lanes.specs.Rules.{packed, pairwise, equal, greater};
 ghost use Rattle.lanes.specs.inner.Widths.{Fills};
 

@@ -1,5 +1,5 @@
 // PSAD: the distances of all lanes at once, then their sum.
-ghost use Rattle.basis.specs.Names.{◌≡◌, ◌/◌};
+ghost use Rattle.std.specs.Prelude.{◌≡◌, ◌/◌};
 ghost use Rattle.lanes.specs.Lane.{lane};
 ghost use Rattle.lanes.specs.Rules.{total, distances};
 ghost use Rattle.lanes.specs.inner.Widths.{Fills};

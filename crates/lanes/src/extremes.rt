@@ -1,5 +1,5 @@
 // PMAX and PMIN, all lanes at once.
-ghost use Rattle.basis.specs.Names.{◌≡◌};
+ghost use Rattle.std.specs.Prelude.{◌≡◌};
 ghost use Rattle.lanes.specs.Rules.{packed, pairwise, maximum_signed, maximum_unsigned, minimum_signed, minimum_unsigned};
 ghost use Rattle.lanes.specs.inner.Widths.{Fills};
 

@@ -1,5 +1,5 @@
 // The lanes' widths, and registers by what stands in every lane.
-ghost use Rattle.basis.specs.Names.{◌≡◌, ◌+◌, ◌-◌, ◌^◌, ◌<◌, ◌≤◌};
+ghost use Rattle.std.specs.Prelude.{◌≡◌, ◌+◌, ◌-◌, ◌^◌, ◌<◌, ◌≤◌};
 ghost use Rattle.lanes.specs.Lane.{register, top_bit};
 ghost use Rattle.lanes.specs.inner.Widths.{Fills};
 ghost use Rattle.lanes.specs.inner.EveryLane.{repeated, lowest_bits, rests, range_end};

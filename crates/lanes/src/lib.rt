@@ -12,7 +12,7 @@ mod products;
 mod shifts;
 mod sums;
 
-ghost use Rattle.basis.specs.Names.{◌≡◌, ◌≤◌};
+ghost use Rattle.std.specs.Prelude.{◌≡◌, ◌≤◌};
 ghost use Rattle.lanes.specs.Operations.{operate, operation_of};
 
 use compares::{equals, exceeds};

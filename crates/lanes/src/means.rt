@@ -1,5 +1,5 @@
 // PAVG, all lanes at once.
-ghost use Rattle.basis.specs.Names.{◌≡◌};
+ghost use Rattle.std.specs.Prelude.{◌≡◌};
 ghost use Rattle.lanes.specs.Rules.{packed, pairwise, mean};
 ghost use Rattle.lanes.specs.inner.Widths.{Fills};
 

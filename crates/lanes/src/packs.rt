@@ -1,5 +1,5 @@
 // PACK and PUNPCK, all lanes at once.
-ghost use Rattle.basis.specs.Names.{◌≡◌, ◌+◌};
+ghost use Rattle.std.specs.Prelude.{◌≡◌, ◌+◌};
 ghost use Rattle.lanes.specs.Rules.{packed, pack, unpack_low, unpack_high};
 ghost use Rattle.lanes.specs.Signed.{clamp_signed, clamp_unsigned};
 ghost use Rattle.lanes.specs.inner.Widths.{Fills};

@@ -1,5 +1,5 @@
 // PEXTRW, PINSRW and PSHUFW, which go by the places of words; PMOVMSKB and MASKMOVQ, which go by the top bits of bytes.
-ghost use Rattle.basis.specs.Names.{◌≡◌, ◌+◌, ◌*◌, ◌/◌, ◌^◌, ◌<◌};
+ghost use Rattle.std.specs.Prelude.{◌≡◌, ◌+◌, ◌*◌, ◌/◌, ◌^◌, ◌<◌};
 ghost use Rattle.lanes.specs.Rules.{packed, blend, extract, insert, top_bits, shuffle};
 
 use crate::compares::negatives;

@@ -1,5 +1,6 @@
 // PMULLW, PMULHW and PMADDWD: signed products of words; PMULHUW: unsigned ones.
-ghost use Rattle.basis.specs.Names.{◌≡◌, ◌+◌, ◌*◌, ◌^◌, ◌<◌, sub_ℕ};
+ghost use Rattle.std.specs.Prelude.{◌≡◌, ◌+◌, ◌*◌, ◌^◌, ◌<◌};
+ghost use Rattle.basis.specs.Names.{sub_ℕ};
 ghost use Rattle.lanes.specs.Lane.{lane};
 ghost use Rattle.lanes.specs.Signed.{signed};
 ghost use Rattle.lanes.specs.Rules.{packed, pairwise, product, product_low, product_high, product_sum, product_high_unsigned};

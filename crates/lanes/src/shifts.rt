@@ -1,5 +1,5 @@
 // PSLL, PSRL and PSRA, all lanes at once: the count is the whole source.
-ghost use Rattle.basis.specs.Names.{◌≡◌};
+ghost use Rattle.std.specs.Prelude.{◌≡◌};
 ghost use Rattle.lanes.specs.Rules.{packed, shift, left, right, right_signed};
 ghost use Rattle.lanes.specs.inner.Widths.{Fills};
 

@@ -1,5 +1,5 @@
 // PADD and PSUB: the plain ones wrap in their lane, S and US forms clamp.
-ghost use Rattle.basis.specs.Names.{◌≡◌};
+ghost use Rattle.std.specs.Prelude.{◌≡◌};
 ghost use Rattle.lanes.specs.Rules.{packed, pairwise, sum, difference, sum_signed, difference_signed, sum_unsigned, difference_unsigned};
 ghost use Rattle.lanes.specs.inner.Widths.{Fills};
 

@@ -1,6 +1,6 @@
 -- What reading, step, run and footprint hand back agrees: one number for one refusal, whichever of them was asked.
-use Rattle.basis.specs.Names.{◌≡◌, List, ℕ}
-use Rattle.basis.proofs.Names.{sym, ap, subst, ◌∙◌, false≢true, ◌↔◌}
+use Rattle.std.specs.Prelude.{◌≡◌, List, ℕ, ◌↔◌}
+use Rattle.basis.proofs.Names.{sym, ap, subst, ◌∙◌, false≢true}
 use Rattle.reorder.specs.Result.{Result, done, refused, map_result}
 use Rattle.reorder.specs.Run.{stopped}
 use Rattle.reorder.specs.Footprint as places

@@ -1,6 +1,6 @@
 -- Any two answers that a public contract allows at one input are equal, and so is what they leave in the lent memory: each contract is one
 -- equation, and the paper's answer gives back the code's, with the memory.
-use Rattle.basis.specs.Names.{◌≡◌, refl, List, ℕ}
+use Rattle.std.specs.Prelude.{◌≡◌, refl, List, ℕ}
 use Rattle.basis.proofs.Names.{sym, ap, ◌∙◌}
 use contract.Lifetimes.{Lfts}
 use borrow.Fn.Kinds.{Dens, res_t, ended_of}

@@ -1,6 +1,6 @@
 -- Calls of the program's functions: what was handed in, what was handed back and what is then in the lent memory. That the contract was met is what
 -- the proof of each function shows of every call; and such calls can be had.
-use Rattle.basis.specs.Names.{◌≡◌, refl, Bool, List, [], ℕ}
+use Rattle.std.specs.Prelude.{◌≡◌, refl, Bool, List, [], ℕ}
 use Rattle.basis.proofs.Names.{sym, ap, ap₂, ◌∙◌}
 use contract.Lifetimes.{Lfts}
 use borrow.Fn.Kinds.{Dens, ended_of}

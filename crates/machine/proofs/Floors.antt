@@ -1,5 +1,5 @@
 -- No byte below a floor is changed in the memory that is lent: by a call of Machine::run, and by a step that meets its contract.
-use Rattle.basis.specs.Names.{◌≡◌, refl, List, ℕ, take}
+use Rattle.std.specs.Prelude.{◌≡◌, refl, List, ℕ, take}
 use Rattle.basis.proofs.Names.{sym, ap, ◌∙◌}
 use Rattle.reorder.specs.Run.{Answer, state_reached}
 use Rattle.manual.specs.State.{State}

@@ -1,6 +1,6 @@
 -- The example block by the program's test: the pairs that meet in its run, an order that keeps them, to which demand 3 applies, and one that does
 -- not. Computed.
-use Rattle.basis.specs.Names.{◌≡◌, refl, Bool, true, false, cond, List, [], ◌∷◌, ◌++◌, ℕ, zero, suc}
+use Rattle.std.specs.Prelude.{◌≡◌, refl, Bool, true, false, cond, List, [], ◌∷◌, ◌++◌, ℕ, zero, suc}
 use Rattle.basis.proofs.Names.{arith}
 use Rattle.lanes.specs.Lane.{lane, build, register}
 use Rattle.lanes.specs.Signed.{clamp, clamp_unsigned}

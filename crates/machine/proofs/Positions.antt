@@ -1,7 +1,8 @@
 -- The footprint of the step at a position, with nothing assumed of it: its ranges say which bytes it reads and writes, and the program's test of
 -- two is true exactly where they meet.
-use Rattle.basis.specs.Names.{◌≡◌, true, List, Memᴰ as In, ℕ, ◌+◌, ◌≤◌, ◌<◌, length}
-use Rattle.basis.proofs.Names.{subst, ◌↔◌}
+use Rattle.std.specs.Prelude.{◌≡◌, true, List, ℕ, ◌+◌, ◌≤◌, ◌<◌, length, ◌↔◌}
+use Rattle.basis.specs.Names.{Memᴰ as In}
+use Rattle.basis.proofs.Names.{subst}
 use Rattle.reorder.specs.Result.{Result, done, refused, and_then, provided}
 use Rattle.reorder.specs.Footprint as places
 use Rattle.reorder.specs.Run.{Fetched, position_reached, state_reached}

@@ -1,6 +1,7 @@
 -- Demand 3 of the program itself, of a block without a jump: over calls of Machine::run, Machine::footprint and meets, by what they hand back; and
 -- such calls can be had.
-use Rattle.basis.specs.Names.{◌≡◌, refl, Bool, true, List, [], map, flatten, ℕ, suc, ◌≤◌, ◌<◌}
+use Rattle.std.specs.Prelude.{◌≡◌, refl, Bool, true, List, [], map, ℕ, suc, ◌≤◌, ◌<◌}
+use Rattle.basis.specs.Names.{flatten}
 use Rattle.basis.proofs.Names.{sym, ap, ap₂, ◌∙◌, false≢true, arith}
 use Rattle.reorder.specs.Result.{Result, done, refused, map_result}
 use Rattle.reorder.specs.Order.{NewOrder, Keeps}

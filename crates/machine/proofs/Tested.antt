@@ -1,5 +1,5 @@
 -- Demand 3 with the test that the program computes: of a block without a jump, the order need keep the pairs that it finds to meet, and no other.
-use Rattle.basis.specs.Names.{◌≡◌, true, List, ℕ}
+use Rattle.std.specs.Prelude.{◌≡◌, true, List, ℕ}
 use Rattle.reorder.specs.Order.{NewOrder, Keeps}
 use Rattle.reorder.specs.Run.{finished}
 use Rattle.reorder.specs.Block.{rearranged}

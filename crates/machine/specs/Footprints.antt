@@ -1,6 +1,7 @@
 -- A footprint in the form that the program hands out: registers as masks, memory bytes as a range, the zero mark; and the test whether two of them
 -- meet.
-use Rattle.basis.specs.Names.{Bool, true, false, not, ◌&&◌, ◌||◌, List, [], ◌∷◌, ◌++◌, ℕ, ◌+◌, ◌^◌, bit_and, bit_or, eqb, ltb, length, get_or}
+use Rattle.std.specs.Prelude.{Bool, true, false, not, ◌&&◌, ◌||◌, List, [], ◌∷◌, ◌++◌, ℕ, ◌+◌, ◌^◌, eqb, ltb, length, get_or}
+use Rattle.basis.specs.Names.{bit_and, bit_or}
 use Rattle.reorder.specs.Result.{Result, done, refused, map_result}
 use Rattle.reorder.specs.Footprint as places
 use Rattle.codec.specs.declared.Kind.{Kind}

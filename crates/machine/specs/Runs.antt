@@ -1,5 +1,5 @@
 -- The paper's answer for what a run hands back.
-use Rattle.basis.specs.Names.{List, ℕ}
+use Rattle.std.specs.Prelude.{List, ℕ}
 use Rattle.reorder.specs.Run.{Answer, finished, spent, stopped}
 use Rattle.manual.specs.State.{State}
 use Rattle.machine.specs.declared.End.{End}

@@ -1,5 +1,5 @@
 -- The machine that a page starts from: registers from the bytes of its fields, marks from its marks byte.
-use Rattle.basis.specs.Names.{List, [], ◌∷◌, ℕ, ◌*◌, ◌/◌, ◌%◌, ◌^◌, Bool, eqb}
+use Rattle.std.specs.Prelude.{List, [], ◌∷◌, ℕ, ◌*◌, ◌/◌, ◌%◌, ◌^◌, Bool, eqb}
 use Rattle.words.specs.Buffer.{loaded}
 use Rattle.manual.specs.declared.Marks.{Marks}
 use Rattle.machine.specs.declared.Machine.{Machine}

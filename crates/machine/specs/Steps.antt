@@ -1,5 +1,5 @@
 -- The paper's answer for what a step hands back.
-use Rattle.basis.specs.Names.{List, ℕ}
+use Rattle.std.specs.Prelude.{List, ℕ}
 use Rattle.manual.specs.State.{State}
 use Rattle.manual.specs.Steps.{Outcome, completed, refused_with}
 use Rattle.machine.specs.declared.Taken.{Taken}

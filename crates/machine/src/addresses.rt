@@ -1,6 +1,5 @@
 // The address of an operand in memory: base, index times scale, and displacement, in sums that wrap at 2^32.
-ghost use Rattle.std.specs.Prelude.{◌≢◌};
-ghost use Rattle.basis.specs.Names.{◌≡◌, ◌*◌, ◌^◌, ◌%◌, ◌<◌};
+ghost use Rattle.std.specs.Prelude.{◌≢◌, ◌≡◌, ◌*◌, ◌^◌, ◌%◌, ◌<◌};
 ghost use Rattle.codec.specs.inner.Fields.{Registers};
 ghost use Rattle.manual.specs.Addresses.{signed_byte, displacement_of, base_of, index_of, address_of, register_part, address};
 

@@ -1,5 +1,5 @@
 // The footprint of the step at a position: what each way reads and writes, after the tests of the step.
-ghost use Rattle.basis.specs.Names.{◌≡◌, ◌/◌, ◌^◌};
+ghost use Rattle.std.specs.Prelude.{◌≡◌, ◌/◌, ◌^◌};
 ghost use Rattle.codec.specs.inner.Fields.{Registers};
 ghost use Rattle.machine.specs.State.{state_of};
 ghost use Rattle.machine.specs.Footprints.{masked_at, paper_of_footprint};

@@ -1,5 +1,5 @@
 // The instructions of loops: what remains of one to be done, where a jump leads, and their footprints.
-ghost use Rattle.basis.specs.Names.{◌≡◌, not, cond, ◌+◌, ◌/◌, ◌%◌, ◌^◌, ◌<◌, get_or};
+ghost use Rattle.std.specs.Prelude.{◌≡◌, not, cond, ◌+◌, ◌/◌, ◌%◌, ◌^◌, ◌<◌, get_or};
 ghost use Rattle.reorder.specs.Result.{done, map_result};
 ghost use Rattle.codec.specs.inner.Fields.{Registers};
 ghost use Rattle.manual.specs.Jumps.{jumped, onward_by};

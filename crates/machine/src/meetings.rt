@@ -1,5 +1,5 @@
 // Whether two footprints meet: by a place that one writes and the other reads or writes, or by their kinds.
-ghost use Rattle.basis.specs.Names.{◌≡◌};
+ghost use Rattle.std.specs.Prelude.{◌≡◌};
 ghost use Rattle.manual.specs.Kinds.{kinds_meet};
 ghost use Rattle.machine.specs.Footprints.{overlap, share, meet};
 

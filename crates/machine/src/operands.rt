@@ -1,5 +1,5 @@
 // Where an operand is that r/m names, or MASKMOVQ's at EDI: in a register, or in memory at an address that is tested.
-ghost use Rattle.basis.specs.Names.{◌≡◌, true, ◌/◌, ◌^◌};
+ghost use Rattle.std.specs.Prelude.{◌≡◌, true, ◌/◌, ◌^◌};
 ghost use Rattle.codec.specs.inner.Fields.{Registers};
 ghost use Rattle.machine.specs.inner.Spots.{other_of, spot_of};
 ghost use Rattle.machine.specs.inner.Ways.{has_other, way_of};

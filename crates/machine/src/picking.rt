@@ -1,5 +1,5 @@
 // The work of the instructions that pick lanes: PINSRW, PSHUFW, PEXTRW, PMOVMSKB and MASKMOVQ. What they leave is computed when the work is made.
-ghost use Rattle.basis.specs.Names.{◌≡◌, ◌/◌, ◌^◌, get_or};
+ghost use Rattle.std.specs.Prelude.{◌≡◌, ◌/◌, ◌^◌, get_or};
 ghost use Rattle.codec.specs.inner.Fields.{Registers};
 ghost use Rattle.machine.specs.inner.Picks.{picked_of, picked_work, extracted_of, extract_work, mask_work};
 

@@ -1,5 +1,5 @@
 // Where an operand in memory starts, summed up while its SIB byte and its displacement are read.
-ghost use Rattle.basis.specs.Names.{◌≡◌, ◌+◌, ◌*◌, ◌/◌, ◌%◌, ◌^◌, ◌≤◌, ◌<◌, length};
+ghost use Rattle.std.specs.Prelude.{◌≡◌, ◌+◌, ◌*◌, ◌/◌, ◌%◌, ◌^◌, ◌≤◌, ◌<◌, length};
 ghost use Rattle.codec.specs.Operands.{displacement_size};
 ghost use Rattle.manual.specs.Addresses.{base_of, index_of, register_part};
 ghost use Rattle.machine.specs.inner.Pointers.{Unless, Displaced, Points};

@@ -1,6 +1,6 @@
 // Instructions read and gathered at once. One that is to be refused has no answer here, nor have those of loops, the odd forms of manual 000 and EMMS
 // as the code's last two bytes: they are left to the reader.
-ghost use Rattle.basis.specs.Names.{◌≡◌, ◌/◌, ◌%◌, ◌^◌, ◌≤◌, ◌<◌, length, get_or};
+ghost use Rattle.std.specs.Prelude.{◌≡◌, ◌/◌, ◌%◌, ◌^◌, ◌≤◌, ◌<◌, length, get_or};
 ghost use Rattle.words.specs.Buffer.{loaded};
 ghost use Rattle.codec.specs.Forms.{is_among};
 ghost use Rattle.codec.specs.Table.{form_of};

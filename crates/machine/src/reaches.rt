@@ -1,5 +1,5 @@
 // Where an operand is, in masks and a range.
-ghost use Rattle.basis.specs.Names.{◌≡◌, true, ◌/◌, ◌^◌, ◌<◌};
+ghost use Rattle.std.specs.Prelude.{◌≡◌, true, ◌/◌, ◌^◌, ◌<◌};
 ghost use Rattle.codec.specs.inner.Fields.{Registers};
 ghost use Rattle.manual.specs.Locations.{places_of};
 ghost use Rattle.machine.specs.State.{state_of};

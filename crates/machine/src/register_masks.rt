@@ -1,5 +1,5 @@
 // Register sets as masks: one register, and those that an address is made of.
-ghost use Rattle.basis.specs.Names.{◌≡◌, ◌^◌, ◌<◌};
+ghost use Rattle.std.specs.Prelude.{◌≡◌, ◌^◌, ◌<◌};
 ghost use Rattle.codec.specs.inner.Fields.{Registers};
 ghost use Rattle.manual.specs.Addresses.{base_of, index_of, registers_of};
 ghost use Rattle.machine.specs.Footprints.{mask};

@@ -1,6 +1,6 @@
 // Runs of a machine by value over a floor, below which no byte of the memory is written: from a position on, from the code's start, and of one
 // instruction.
-ghost use Rattle.basis.specs.Names.{◌≡◌, ◌≤◌, length};
+ghost use Rattle.std.specs.Prelude.{◌≡◌, ◌≤◌, length};
 ghost use Rattle.codec.specs.Reads.{longest_code};
 ghost use Rattle.manual.specs.State.{longest_memory};
 ghost use Rattle.manual.specs.Steps.{step_at};

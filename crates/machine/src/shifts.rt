@@ -1,5 +1,5 @@
 // The operations of the shifts by an immediate, 71 to 73.
-ghost use Rattle.basis.specs.Names.{◌≡◌};
+ghost use Rattle.std.specs.Prelude.{◌≡◌};
 ghost use Rattle.lanes.specs.Operations.{operation_of};
 ghost use Rattle.codec.specs.inner.Entries.{of_width, shift_of};
 

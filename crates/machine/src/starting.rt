@@ -1,5 +1,5 @@
 // The machine that a page starts from.
-ghost use Rattle.basis.specs.Names.{◌≡◌, ◌<◌};
+ghost use Rattle.std.specs.Prelude.{◌≡◌, ◌<◌};
 ghost use Rattle.machine.specs.Starts.{nth, eight, start_of};
 
 use crate::Machine;

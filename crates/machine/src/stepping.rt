@@ -1,5 +1,5 @@
 // One step over lent registers: its work is gathered, and then done.
-ghost use Rattle.basis.specs.Names.{◌≡◌, ◌≤◌, length};
+ghost use Rattle.std.specs.Prelude.{◌≡◌, ◌≤◌, length};
 ghost use Rattle.codec.specs.Table.{opcode_table};
 ghost use Rattle.codec.specs.Reads.{longest_code};
 ghost use Rattle.manual.specs.State.{longest_memory};

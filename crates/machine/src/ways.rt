@@ -1,5 +1,5 @@
 // The ways that instructions go, by the numbers of their forms: sorted here for the step and for the footprint.
-ghost use Rattle.basis.specs.Names.{◌≡◌, ◌<◌};
+ghost use Rattle.std.specs.Prelude.{◌≡◌, ◌<◌};
 ghost use Rattle.machine.specs.inner.Ways.{is_unstopped, is_integer, has_other, way_of, suffix_way};
 
 use codec::forms::{

@@ -1,6 +1,6 @@
 -- A run stays within its bounds: its position within the code, its count within the budget, its refusal's number of at most two digits; and it
 -- changes nothing that is frozen. By its turns: so does each step. Over floor 0 neither 20 nor 21 is given.
-use Rattle.basis.specs.Names.{◌≡◌, refl, ◌⊎◌, Bool, true, false, cond, List, ℕ, zero, suc, ◌+◌, ◌≤◌, ◌<◌, eqb, ltb, length, drop}
+use Rattle.std.specs.Prelude.{◌≡◌, refl, ◌⊎◌, Bool, true, false, cond, List, ℕ, zero, suc, ◌+◌, ◌≤◌, ◌<◌, eqb, ltb, length, drop}
 use Rattle.basis.proofs.Names.{sym, ap, subst, ◌∙◌, inl, inr, ⊎_elim, arith, ltb-true, length-drop}
 use Rattle.reorder.specs.Run.{Answer, finished, spent, stopped, run_from}
 use Rattle.codec.specs.Refusals.{code_too_long, not_allowed}

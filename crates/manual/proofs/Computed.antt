@@ -1,5 +1,6 @@
 -- The examples hold: the definitions compute them.
-use Rattle.basis.specs.Names.{◌≡◌, refl, true, false, [], ◌∷◌, flatten, map, to_bits, of_int}
+use Rattle.std.specs.Prelude.{◌≡◌, refl, true, false, [], ◌∷◌, map}
+use Rattle.basis.specs.Names.{flatten, to_bits, of_int}
 use Rattle.basis.proofs.Names.{arith, T}
 use Rattle.lanes.specs.Lane.{lane, top_bit, build, register}
 use Rattle.lanes.specs.Signed.{signed, wrap, clamp, clamp_signed, clamp_unsigned}

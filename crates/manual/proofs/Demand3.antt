@@ -1,5 +1,6 @@
 -- Demand 3, from the reordering theorem: the machine obeys the laws of places, reading is local, and a run goes on behind what is no jump.
-use Rattle.basis.specs.Names.{◌≡◌, refl, true, false, List, [], ◌∷◌, map, flatten, Memᴰ as In, ℕ, suc, ◌+◌, ◌-◌, ◌<◌, ltb, length, get_or, take, drop}
+use Rattle.std.specs.Prelude.{◌≡◌, refl, true, false, List, [], ◌∷◌, map, ℕ, suc, ◌+◌, ◌-◌, ◌<◌, ltb, length, get_or, take, drop}
+use Rattle.basis.specs.Names.{flatten, Memᴰ as In}
 use Rattle.basis.proofs.Names.{sym, ap, ap₂, subst, subst₂, ◌∙◌, false≢true, Memᴰ-head as here, Memᴰ-tail as later, not-true, zero-add, arith}
 use Rattle.reorder.specs.Result.{Result, done, and_then, provided}
 use Rattle.reorder.specs.Order.{NewOrder, Keeps}

@@ -1,6 +1,7 @@
 -- What an effect of each shape comes to over a floor, once the control marks are passed, said by its operands' numbers: by cases on where the
 -- operands are.
-use Rattle.basis.specs.Names.{◌≡◌, refl, Bool, true, false, cond, List, [], ◌∷◌, ◌++◌, ℕ, zero, suc, ◌+◌, ◌/◌, ◌%◌, length, get_or, take, sets}
+use Rattle.std.specs.Prelude.{◌≡◌, refl, Bool, true, false, cond, List, [], ◌∷◌, ◌++◌, ℕ, zero, suc, ◌+◌, ◌/◌, ◌%◌, length, get_or, take}
+use Rattle.basis.specs.Names.{sets}
 use Rattle.basis.proofs.Names.{sym, ap, ap₂, ◌∙◌, append-nil, add-one, arith, take_all}
 use Rattle.words.specs.Number.{number, bytes}
 use Rattle.words.specs.inner.Bytewise.{gets}

@@ -1,5 +1,6 @@
 -- The edges of steps and runs: each a block, run from a state over eight bytes of memory, and how it ends.
-use Rattle.basis.specs.Names.{Bool, true, false, not, ◌&&◌, List, [], ◌∷◌, ◌++◌, map, flatten, ℕ, eqb, get_or, replicate}
+use Rattle.std.specs.Prelude.{Bool, true, false, not, ◌&&◌, List, [], ◌∷◌, ◌++◌, map, ℕ, eqb, get_or, replicate}
+use Rattle.basis.specs.Names.{flatten}
 use Rattle.words.specs.Number.{number}
 use Rattle.reorder.specs.Run.{Answer, finished, spent, stopped}
 use Rattle.manual.specs.State.{State}

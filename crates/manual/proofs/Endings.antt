@@ -1,6 +1,6 @@
 -- How a run of a block ends: done means at the code's end, spent means the whole budget; a larger budget changes no run that was not spent, and
 -- without a jump a budget of as many as the longest code's bytes is never spent.
-use Rattle.basis.specs.Names.{◌≡◌, refl, true, List, ℕ, ◌≤◌, ◌<◌, length, drop}
+use Rattle.std.specs.Prelude.{◌≡◌, refl, true, List, ℕ, ◌≤◌, ◌<◌, length, drop}
 use Rattle.basis.proofs.Names.{subst, zero-add, arith, ltb-false}
 use Rattle.reorder.specs.Run.{Answer, finished, spent, stopped, run_from, run}
 use Rattle.reorder.specs.Block.{rearranged}

@@ -1,7 +1,8 @@
 -- Each refusal of a step is given exactly when there is its reason: the tests stand in the order of documents 01 and 02, the operand test, the floor's
 -- and that of the halves as the last; a jump passes all of these, and is tested for where it goes.
-use Rattle.basis.specs.Names.{◌≡◌, refl, Bool, true, false, cond, List, [], ◌∷◌, ◌++◌, ◌&&◌, Memᴰ as In, ℕ, zero, suc, ◌+◌, leb, length}
-use Rattle.basis.proofs.Names.{sym, ap, ap₂, subst, ◌∙◌, ◌↔◌, inl, inr, ⊎_elim, false≢true, and-false, Memᴰ-head as here, Memᴰ-tail as there, leb-false, lt-leb, eqb-true, arith}
+use Rattle.std.specs.Prelude.{◌≡◌, refl, Bool, true, false, cond, List, [], ◌∷◌, ◌++◌, ◌&&◌, ℕ, zero, suc, ◌+◌, leb, length, ◌↔◌}
+use Rattle.basis.specs.Names.{Memᴰ as In}
+use Rattle.basis.proofs.Names.{sym, ap, ap₂, subst, ◌∙◌, inl, inr, ⊎_elim, false≢true, and-false, Memᴰ-head as here, Memᴰ-tail as there, leb-false, lt-leb, eqb-true, arith}
 use Rattle.reorder.specs.Result.{Result, done, refused, and_then, map_result, case_of}
 use Rattle.reorder.specs.Plan.{looks, leaves as plan-leaves, perform}
 use Rattle.codec.specs.Answers as decoded

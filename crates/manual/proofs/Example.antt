@@ -1,5 +1,5 @@
 -- A block of five instructions, an order that keeps the pairs which meet in its run, and an order that does not.
-use Rattle.basis.specs.Names.{Bool, true, false, List, [], ◌∷◌, ◌++◌, ℕ, replicate}
+use Rattle.std.specs.Prelude.{Bool, true, false, List, [], ◌∷◌, ◌++◌, ℕ, replicate}
 use Rattle.manual.specs.State.{State}
 use Rattle.manual.proofs.Marking.{clear}
 

@@ -1,5 +1,5 @@
 -- A floor keeps the bytes below it: no step and no run changes one, whatever the block does. And a step over it is the step over floor 0, or refused.
-use Rattle.basis.specs.Names.{◌≡◌, refl, ◌⊎◌, Bool, true, false, cond, ◌&&◌, List, [], ◌∷◌, ◌++◌, ℕ, zero, suc, ◌+◌, ◌<◌, ◌≤◌, leb, length, get_or, take, drop}
+use Rattle.std.specs.Prelude.{◌≡◌, refl, ◌⊎◌, Bool, true, false, cond, ◌&&◌, List, [], ◌∷◌, ◌++◌, ℕ, zero, suc, ◌+◌, ◌<◌, ◌≤◌, leb, length, get_or, take, drop}
 use Rattle.basis.proofs.Names.{sym, ap, ◌∙◌, inl, inr, false≢true, arith, and-true, le-leb, leb-true, take-set-le}
 use Rattle.words.proofs.Laws.{and_both}
 use Rattle.reorder.specs.Result.{Result, done, refused, case_of, and_then, map_result}

@@ -1,6 +1,6 @@
 -- The table of footprints: for each form of instruction, which places its step reads and writes; footprints over floors, and of instructions in a
 -- run.
-use Rattle.basis.specs.Names.{true, false, List, [], ◌∷◌, ◌++◌, ℕ, replicate}
+use Rattle.std.specs.Prelude.{true, false, List, [], ◌∷◌, ◌++◌, ℕ, replicate}
 use Rattle.reorder.specs.Result.{Result, done, refused}
 use Rattle.reorder.specs.Footprint.{Footprint}
 use Rattle.codec.specs.declared.Kind.{Kind}

@@ -1,5 +1,6 @@
 -- Refusal 22: what an instruction computes is refused exactly where one of PF2IW, PFCMPGT and PFMAX reads an unsupported half.
-use Rattle.basis.specs.Names.{◌≡◌, refl, Bool, true, false, cond, ◌||◌, List, [], ◌∷◌, map, Memᴰ as In, ℕ, eqb}
+use Rattle.std.specs.Prelude.{◌≡◌, refl, Bool, true, false, cond, ◌||◌, List, [], ◌∷◌, map, ℕ, eqb}
+use Rattle.basis.specs.Names.{Memᴰ as In}
 use Rattle.basis.proofs.Names.{sym, ap, subst, ◌∙◌, false≢true, Memᴰ-head as here, Memᴰ-tail as there}
 use Rattle.singles.specs.Siblings.{Sibling, PF2IW, PI2FW, PSWAPD, PAVGUSB, PFCMPGT, PFMAX, leave, has_unsupported, refuses}
 use Rattle.singles.proofs.Failing.{fails_where, leaves_where}

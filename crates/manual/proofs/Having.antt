@@ -1,6 +1,7 @@
 -- A completed step's footprint has only places that the machine has: registers below 8, since the instruction was read, and bytes of the memory,
 -- since its operands were tested.
-use Rattle.basis.specs.Names.{◌≡◌, refl, ◌⊎◌, Bool, true, false, cond, ◌&&◌, Option, none, some, List, [], ◌∷◌, ◌++◌, map, Memᴰ as In, ℕ, zero, suc, ◌+◌, ◌≤◌, ◌<◌, ◌%◌, eqb, ltb, length, drop}
+use Rattle.std.specs.Prelude.{◌≡◌, refl, ◌⊎◌, Bool, true, false, cond, ◌&&◌, List, [], ◌∷◌, ◌++◌, map, ℕ, zero, suc, ◌+◌, ◌≤◌, ◌<◌, ◌%◌, eqb, ltb, length, drop}
+use Rattle.basis.specs.Names.{Option, none, some, Memᴰ as In}
 use Rattle.basis.proofs.Names.{sym, ap, subst, ◌∙◌, ⊎_elim, false≢true, Memᴰ-head as here, Memᴰ-tail as there, leb-true, ltb-true, mod-lt, arith}
 use Rattle.words.proofs.Laws.{and_both}
 use Rattle.reorder.specs.Result.{Result, done, refused, and_then, map_result, provided}

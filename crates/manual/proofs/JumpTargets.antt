@@ -1,7 +1,8 @@
 -- Refusal 19 in the customer's words: 75 and a byte stand there, the zero mark is clear, and the position after them plus the signed byte is before 0
 -- or past the code's end. A jump is read exactly where these two bytes stand.
-use Rattle.basis.specs.Names.{◌≡◌, refl, ◌⊎◌, Bool, true, false, cond, List, [], ◌∷◌, ℕ, ◌+◌, ◌≤◌, eqb, ltb, length, drop, ℤ, pos, sub_ℕ, ◌+ℤ◌, lt_z}
-use Rattle.basis.proofs.Names.{sym, ap, ap₂, subst, ◌∙◌, ◌↔◌, inl, inr, false≢true, add-zero, arith, dec_le, eqb-true, le-leb, lt-leb, le-ltb, lt-ltb, ltb-true, ltb-false}
+use Rattle.std.specs.Prelude.{◌≡◌, refl, ◌⊎◌, Bool, true, false, cond, List, [], ◌∷◌, ℕ, ◌+◌, ◌≤◌, eqb, ltb, length, drop, ℤ, pos, ◌+ℤ◌, ◌↔◌}
+use Rattle.basis.specs.Names.{sub_ℕ, lt_z}
+use Rattle.basis.proofs.Names.{sym, ap, ap₂, subst, ◌∙◌, inl, inr, false≢true, add-zero, arith, dec_le, eqb-true, le-leb, lt-leb, le-ltb, lt-ltb, ltb-true, ltb-false}
 use Rattle.lanes.specs.Signed.{signed}
 use Rattle.lanes.proofs.Integers.{is_pos, plus, lt_same}
 use Rattle.codec.specs.Opcodes.{escape, form_at, form_of_first}

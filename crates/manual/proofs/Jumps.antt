@@ -1,6 +1,6 @@
 -- Where a run goes on: behind every instruction that is no jump, and at the target of a jump where the zero mark is clear; refused by 19 exactly
 -- where that target is before 0 or past the end.
-use Rattle.basis.specs.Names.{◌≡◌, refl, Bool, true, false, not, cond, ◌&&◌, ℕ, ◌+◌, ◌-◌, ◌<◌, ◌≤◌, leb}
+use Rattle.std.specs.Prelude.{◌≡◌, refl, Bool, true, false, not, cond, ◌&&◌, ℕ, ◌+◌, ◌-◌, ◌<◌, ◌≤◌, leb}
 use Rattle.basis.proofs.Names.{ap, ◌∙◌, inl, inr, false≢true, arith, eq-eqb, ne_eqb, leb-true, leb-false, le-leb, lt-leb}
 use Rattle.reorder.specs.Result.{Result, done, refused}
 use Rattle.reorder.proofs.Cutting.{GoesOn}

@@ -1,5 +1,6 @@
 -- The machine obeys the laws of places, since its places are entries of lists and the zero mark; and its plans go by the address registers alone.
-use Rattle.basis.specs.Names.{◌≡◌, refl, Bool, true, false, cond, Option, none, some, List, [], ◌∷◌, ◌++◌, Memᴰ as In, ℕ, get_or}
+use Rattle.std.specs.Prelude.{◌≡◌, refl, Bool, true, false, cond, List, [], ◌∷◌, ◌++◌, ℕ, get_or}
+use Rattle.basis.specs.Names.{Option, none, some, Memᴰ as In}
 use Rattle.basis.proofs.Names.{sym, ap, Memᴰ-head as here, Memᴰ-append_left, Memᴰ-append_right, Memᴰ-map, arith, length-set, get_or-set_other, set_comm}
 use Rattle.reorder.specs.Result.{and_then, map_result}
 use Rattle.reorder.proofs.Places.{Laws, Local}

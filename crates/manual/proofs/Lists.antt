@@ -1,5 +1,5 @@
 -- What is set in a list is seen alike in another list as long; by induction on both.
-use Rattle.basis.specs.Names.{◌≡◌, refl, List, [], ◌∷◌, ℕ, zero, suc, length, get_or, set}
+use Rattle.std.specs.Prelude.{◌≡◌, refl, List, [], ◌∷◌, ℕ, zero, suc, length, get_or, set}
 use Rattle.basis.proofs.Names.{arith}
 
 -- where it is set

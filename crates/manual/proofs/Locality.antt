@@ -1,6 +1,6 @@
 -- Reading the rest of a code is local, as the codec's reading is: it takes at least one byte and none past the end, and depends on its
 -- own bytes alone.
-use Rattle.basis.specs.Names.{◌≡◌, List, ℕ}
+use Rattle.std.specs.Prelude.{◌≡◌, List, ℕ}
 use Rattle.basis.proofs.Names.{false≢true, ap}
 use Rattle.reorder.specs.Result.{done}
 use Rattle.reorder.specs.Run.{Fetched}

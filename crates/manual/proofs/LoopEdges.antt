@@ -1,5 +1,5 @@
 -- The edges of loops: counted and nested ones, one that never ends, where jumps may lead, sums that wrap, marks, readings, and blocks without a jump.
-use Rattle.basis.specs.Names.{Bool, true, false, not, ◌&&◌, List, [], ◌∷◌, ◌++◌, ℕ, eqb, get_or, replicate}
+use Rattle.std.specs.Prelude.{Bool, true, false, not, ◌&&◌, List, [], ◌∷◌, ◌++◌, ℕ, eqb, get_or, replicate}
 use Rattle.reorder.specs.Run.{Answer, finished, spent, stopped}
 use Rattle.manual.specs.declared.Marks.{Marks}
 use Rattle.manual.specs.State.{State, zeroed}

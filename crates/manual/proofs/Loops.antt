@@ -1,6 +1,6 @@
 -- The instructions of loops in the customer's words, for every state and every register: what each leaves, whatever the marks, and what it reads and
 -- writes.
-use Rattle.basis.specs.Names.{◌≡◌, refl, Bool, true, false, cond, List, [], ◌∷◌, ℕ, ◌+◌, ◌-◌, ◌%◌, ◌^◌, ◌<◌, ◌≤◌, eqb, leb, get_or}
+use Rattle.std.specs.Prelude.{◌≡◌, refl, Bool, true, false, cond, List, [], ◌∷◌, ℕ, ◌+◌, ◌-◌, ◌%◌, ◌^◌, ◌<◌, ◌≤◌, eqb, leb, get_or}
 use Rattle.basis.proofs.Names.{sym, ap, ap₂, ◌∙◌, zero-add, arith, dec_le, le-leb, lt-leb}
 use Rattle.reorder.specs.Result.{done}
 use Rattle.reorder.specs.Footprint.{Footprint}

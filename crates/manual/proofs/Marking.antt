@@ -1,5 +1,5 @@
 -- Marks as laws and tests make them, with given control marks and with none; and what holds past the test of the control marks.
-use Rattle.basis.specs.Names.{◌≡◌, refl, Bool, true, false, ℕ}
+use Rattle.std.specs.Prelude.{◌≡◌, refl, Bool, true, false, ℕ}
 use Rattle.reorder.specs.Result.{Result, refused}
 use Rattle.manual.specs.declared.Marks.{Marks}
 use Rattle.manual.specs.Refusals.{invalid_opcode, not_available, is_pending}

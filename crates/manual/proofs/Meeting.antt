@@ -1,7 +1,8 @@
 -- When two instructions meet: meeting is symmetric, prefetches and SFENCE meet none, EMMS meets every other, and two others meet exactly where one
 -- writes a place that the other reads or writes; so any two of ADD and DEC meet.
-use Rattle.basis.specs.Names.{◌≡◌, refl, ◌⊎◌, Bool, true, false, cond, ◌&&◌, [], ◌∷◌, Memᴰ as In, ℕ, eqb}
-use Rattle.basis.proofs.Names.{sym, ap, ap₂, ◌∙◌, subst, subst₂, ◌↔◌, inl, inr, false≢true, Memᴰ-head as here, Memᴰ-tail as later, Memᴰ-eq_of_singleton as eq_of_singleton, Memᴰ-not_nil as not-nil, eqb-true}
+use Rattle.std.specs.Prelude.{◌≡◌, refl, ◌⊎◌, Bool, true, false, cond, ◌&&◌, [], ◌∷◌, ℕ, eqb, ◌↔◌}
+use Rattle.basis.specs.Names.{Memᴰ as In}
+use Rattle.basis.proofs.Names.{sym, ap, ap₂, ◌∙◌, subst, subst₂, inl, inr, false≢true, Memᴰ-head as here, Memᴰ-tail as later, Memᴰ-eq_of_singleton as eq_of_singleton, Memᴰ-not_nil as not-nil, eqb-true}
 use Rattle.words.proofs.Laws.{and_both}
 use Rattle.reorder.specs.Result.{Result, done, refused}
 use Rattle.reorder.specs.Footprint as places

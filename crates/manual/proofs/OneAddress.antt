@@ -1,6 +1,7 @@
 -- All operands of an instruction that are in memory are one: at one address, which is in EDI for MASKMOVQ and for all others the one that r/m names,
 -- and of one size.
-use Rattle.basis.specs.Names.{◌≡◌, refl, Bool, true, false, not, cond, ◌&&◌, ◌||◌, List, [], ◌∷◌, map, Memᴰ as In, ℕ, ◌%◌, eqb}
+use Rattle.std.specs.Prelude.{◌≡◌, refl, Bool, true, false, not, cond, ◌&&◌, ◌||◌, List, [], ◌∷◌, map, ℕ, ◌%◌, eqb}
+use Rattle.basis.specs.Names.{Memᴰ as In}
 use Rattle.basis.proofs.Names.{sym, subst, ◌∙◌, ⊎_elim, false≢true, Memᴰ-head as here, Memᴰ-tail as there, eqb-false, eqb-true}
 use Rattle.words.proofs.Laws.{and_both}
 use Rattle.codec.specs.Forms.{File, mmx_file, integer_file, Slot, reg, rm, rm/mem, mem, edi, fixed, opcode, zero_slot, Form, memory_size}

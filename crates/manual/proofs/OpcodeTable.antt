@@ -1,6 +1,7 @@
 -- A second opinion on the lists of instructions: document 01's table of opcode bytes, manual 000's, and the AMD64 manual's loop instructions, each in
 -- its own order, with its words on operands. Each instruction has the effect that its row says, for every operand and immediate: by computation.
-use Rattle.basis.specs.Names.{◌≡◌, refl, Bool, cond, not, ◌&&◌, List, [], ◌∷◌, ◌++◌, map, flatten, ℕ, ◌+◌, ◌%◌, ◌^◌, bit_and, bit_or, bit_xor, eqb, leb, length}
+use Rattle.std.specs.Prelude.{◌≡◌, refl, Bool, cond, not, ◌&&◌, List, [], ◌∷◌, ◌++◌, map, ℕ, ◌+◌, ◌%◌, ◌^◌, eqb, leb, length}
+use Rattle.basis.specs.Names.{flatten, bit_and, bit_or, bit_xor}
 use Rattle.basis.proofs.Names.{zero-add}
 use Rattle.lanes.specs.Signed.{clamp_signed, clamp_unsigned}
 use Rattle.lanes.specs.Rules.{packed, pairwise, sum, difference, sum_signed, difference_signed, sum_unsigned, difference_unsigned, equal, greater, product_low, product_high, product_sum, pack, unpack_low, unpack_high, and_not, shift, left, right, right_signed, blend, mean, extract, insert, maximum_signed, maximum_unsigned, minimum_signed, minimum_unsigned, top_bits, product_high_unsigned, distances, shuffle}

@@ -1,6 +1,6 @@
 -- A block's run in parts: with more of its budget it is the run without that, continued; and without a jump, what is more after it was spent is the
 -- run of the rest of the code alone, its position and count counted from there on.
-use Rattle.basis.specs.Names.{◌≡◌, refl, true, List, ℕ, ◌+◌, length, drop}
+use Rattle.std.specs.Prelude.{◌≡◌, refl, true, List, ℕ, ◌+◌, length, drop}
 use Rattle.basis.proofs.Names.{subst, ◌∙◌, false≢true, arith, le-ltb, ltb-false, length-drop}
 use Rattle.reorder.specs.Run.{spent, run_from}
 use Rattle.reorder.specs.inner.Parts.{continued}

@@ -1,5 +1,5 @@
 -- The plates of document 01 and of manual 000, from bytes: a block of one instruction over MM0 and MM1, run whole.
-use Rattle.basis.specs.Names.{Bool, false, ◌&&◌, List, [], ◌∷◌, ℕ, eqb, get_or, replicate}
+use Rattle.std.specs.Prelude.{Bool, false, ◌&&◌, List, [], ◌∷◌, ℕ, eqb, get_or, replicate}
 use Rattle.reorder.specs.Run.{Answer, finished, spent, stopped}
 use Rattle.manual.specs.State.{State}
 use Rattle.manual.specs.Runs.{run_of}

@@ -1,7 +1,7 @@
 -- Reading from 0 onward: the positions that it comes to. It reaches an instruction exactly where it comes to a position at which that stands; so it
 -- reaches a jump exactly where it comes to 75 and a byte.
-use Rattle.basis.specs.Names.{◌≡◌, refl, Bool, true, false, not, ◌||◌, List, [], ◌∷◌, ℕ, zero, suc, ◌+◌, ◌≤◌, ltb, length, drop}
-use Rattle.basis.proofs.Names.{sym, ap, ◌∙◌, ◌↔◌, false≢true, drop-drop, arith, eqb-true, le-ltb, ltb-false, not-true}
+use Rattle.std.specs.Prelude.{◌≡◌, refl, Bool, true, false, not, ◌||◌, List, [], ◌∷◌, ℕ, zero, suc, ◌+◌, ◌≤◌, ltb, length, drop, ◌↔◌}
+use Rattle.basis.proofs.Names.{sym, ap, ◌∙◌, false≢true, drop-drop, arith, eqb-true, le-ltb, ltb-false, not-true}
 use Rattle.words.proofs.Laws.{and_both}
 use Rattle.reorder.specs.Result.{Result, done, refused, case_of}
 use Rattle.reorder.specs.Run.{Fetched}

@@ -1,7 +1,8 @@
 -- Refusal 22 in the customer's words: a half is unsupported of what PF2IW, PFMAX or PFCMPGT reads as a pair of single-precision numbers: the source, and
 -- of the latter two the destination. They are 0F 0F with the suffixes 1C, A4 and A0.
-use Rattle.basis.specs.Names.{◌≡◌, refl, true, ◌&&◌, List, [], ◌∷◌, map, Memᴰ as In, ℕ}
-use Rattle.basis.proofs.Names.{sym, ap, ap₂, subst, subst₂, ◌∙◌, ◌↔◌, false≢true, Memᴰ-head as here, Memᴰ-tail as there, arith}
+use Rattle.std.specs.Prelude.{◌≡◌, refl, true, ◌&&◌, List, [], ◌∷◌, map, ℕ, ◌↔◌}
+use Rattle.basis.specs.Names.{Memᴰ as In}
+use Rattle.basis.proofs.Names.{sym, ap, ap₂, subst, subst₂, ◌∙◌, false≢true, Memᴰ-head as here, Memᴰ-tail as there, arith}
 use Rattle.words.specs.Number.{AllBytes}
 use Rattle.words.proofs.Laws.{and_both}
 use Rattle.singles.specs.Siblings.{has_unsupported}

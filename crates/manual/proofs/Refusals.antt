@@ -1,5 +1,5 @@
 -- A refused step changes nothing; a refused run keeps what the earlier instructions did, since it stops at a step that is refused.
-use Rattle.basis.specs.Names.{◌≡◌, refl, ◌⊎◌, Bool, true, false, cond, List, ℕ, zero, suc, ◌-◌, ◌≤◌, ◌+◌, eqb, ltb, length}
+use Rattle.std.specs.Prelude.{◌≡◌, refl, ◌⊎◌, Bool, true, false, cond, List, ℕ, zero, suc, ◌-◌, ◌≤◌, ◌+◌, eqb, ltb, length}
 use Rattle.basis.proofs.Names.{sym, ap, ◌∙◌, inl, inr, false≢true, sub-zero, arith}
 use Rattle.reorder.specs.Result.{Result, done, refused, case_of}
 use Rattle.reorder.specs.Run.{Fetched, Answer, finished, spent, stopped, run_from, run}

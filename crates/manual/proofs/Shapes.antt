@@ -1,5 +1,5 @@
 -- The shapes of effects that the instructions have whose first byte is 0F.
-use Rattle.basis.specs.Names.{[], ◌∷◌, ℕ, get_or}
+use Rattle.std.specs.Prelude.{[], ◌∷◌, ℕ, get_or}
 use Rattle.reorder.specs.Result.{Result, done, map_result}
 use Rattle.codec.specs.declared.Kind.{Kind}
 use Rattle.codec.specs.declared.Kind.TheVariants.{Ordinary}

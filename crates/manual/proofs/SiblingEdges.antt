@@ -1,5 +1,5 @@
 -- 3DNow: a plate for each of the six, its readings, refusal 22 in each place and in its order, and the halves at the tables' borders.
-use Rattle.basis.specs.Names.{Bool, true, false, not, ◌&&◌, List, [], ◌∷◌, ◌++◌, ℕ, eqb, get_or, replicate}
+use Rattle.std.specs.Prelude.{Bool, true, false, not, ◌&&◌, List, [], ◌∷◌, ◌++◌, ℕ, eqb, get_or, replicate}
 use Rattle.words.specs.Number.{bytes, number}
 use Rattle.reorder.specs.Run.{Answer}
 use Rattle.manual.specs.State.{State}

@@ -1,7 +1,7 @@
 -- Refusal 14 in the customer's words: a byte of the operand that r/m names is outside the memory, and its base register is ESP or EBP. An index of
 -- EBP does not count, nor does mod 00 with 101; MASKMOVQ's operand and a register are never 14.
-use Rattle.basis.specs.Names.{◌≡◌, refl, ◌⊎◌, Bool, true, false, List, ℕ, ◌+◌, ◌<◌, eqb, length}
-use Rattle.basis.proofs.Names.{sym, ap, subst, ◌∙◌, ◌↔◌, inl, inr, false≢true, and-false, arith, eqb-true, eqb-false, eq-eqb, ne_eqb}
+use Rattle.std.specs.Prelude.{◌≡◌, refl, ◌⊎◌, Bool, true, false, List, ℕ, ◌+◌, ◌<◌, eqb, length, ◌↔◌}
+use Rattle.basis.proofs.Names.{sym, ap, subst, ◌∙◌, inl, inr, false≢true, and-false, arith, eqb-true, eqb-false, eq-eqb, ne_eqb}
 use Rattle.codec.specs.Operands.{has_sib}
 use Rattle.codec.specs.Forms.{memory_size}
 use Rattle.codec.specs.declared.Operand.{Operand}

@@ -1,7 +1,8 @@
 -- Refusal 21 in the customer's words: a store with a byte below the floor, so with its first one, and with all in the memory. The stores are 0F 7E,
 -- 7F and E7 where r/m names no register, and 0F F7, whatever its mask.
-use Rattle.basis.specs.Names.{◌≡◌, refl, Bool, true, false, ◌||◌, List, [], ◌∷◌, map, Memᴰ as In, ℕ, ◌+◌, ◌%◌, ◌<◌, ◌≤◌, eqb, length}
-use Rattle.basis.proofs.Names.{sym, ap, subst, subst₂, ◌∙◌, ◌↔◌, inr, false≢true, or-false, Memᴰ-head as here, Memᴰ-tail as there, Memᴰ-eq_of_singleton as eq_of_singleton, arith, dec_lt, eqb-true, ne_eqb}
+use Rattle.std.specs.Prelude.{◌≡◌, refl, Bool, true, false, ◌||◌, List, [], ◌∷◌, map, ℕ, ◌+◌, ◌%◌, ◌<◌, ◌≤◌, eqb, length, ◌↔◌}
+use Rattle.basis.specs.Names.{Memᴰ as In}
+use Rattle.basis.proofs.Names.{sym, ap, subst, subst₂, ◌∙◌, inr, false≢true, or-false, Memᴰ-head as here, Memᴰ-tail as there, Memᴰ-eq_of_singleton as eq_of_singleton, arith, dec_lt, eqb-true, ne_eqb}
 use Rattle.codec.specs.Forms.{File, mmx_file, integer_file, Slot, reg, rm, rm/mem, mem, edi, fixed, opcode, zero_slot, Form, absent, is_among}
 use Rattle.codec.specs.Contents.{Line, lines}
 use Rattle.codec.specs.Opcodes.{escape, form_at, used_form, form_for}

@@ -1,6 +1,6 @@
 -- A run is its steps: at its start it is refused by 1, 20 or 2 where its first step is; each turn of it is a step at its position, and the position
 -- after that is the one that the step gives.
-use Rattle.basis.specs.Names.{◌≡◌, refl, Bool, true, false, cond, List, ℕ, suc, ◌+◌, ◌≤◌, eqb, ltb, length, drop}
+use Rattle.std.specs.Prelude.{◌≡◌, refl, Bool, true, false, cond, List, ℕ, suc, ◌+◌, ◌≤◌, eqb, ltb, length, drop}
 use Rattle.basis.proofs.Names.{ap, ◌∙◌, arith, le-ltb}
 use Rattle.reorder.specs.Result.{Result, done, refused, case_of}
 use Rattle.reorder.specs.Run.{Fetched, Answer, stopped, run_from, run}

@@ -1,6 +1,7 @@
 -- The footprint says what a step uses: the step goes by what its footprint reads alone, and so does where it goes on; and it changes what it writes
 -- alone. For both are made from one plan.
-use Rattle.basis.specs.Names.{◌≡◌, refl, Bool, true, false, cond, ◌&&◌, ◌||◌, List, [], ◌∷◌, Memᴰ as In, ℕ, ◌+◌, eqb, leb, ltb, length, get_or, drop}
+use Rattle.std.specs.Prelude.{◌≡◌, refl, Bool, true, false, cond, ◌&&◌, ◌||◌, List, [], ◌∷◌, ℕ, ◌+◌, eqb, leb, ltb, length, get_or, drop}
+use Rattle.basis.specs.Names.{Memᴰ as In}
 use Rattle.basis.proofs.Names.{sym, ap, ap₂, ◌∙◌, subst, subst₂, false≢true, or-false, Memᴰ-head as here, eqb-true}
 use Rattle.words.proofs.Laws.{and_both}
 use Rattle.reorder.specs.Result.{Result, done, refused, case_of, and_then, map_result, provided}

@@ -1,5 +1,5 @@
 -- The numbers that an effect's value is made of are those of the operands that it takes, where all of them have their places.
-use Rattle.basis.specs.Names.{◌≡◌, refl, Bool, true, false, cond, List, [], ◌∷◌, ◌++◌, map, ℕ, zero, suc, ◌+◌, length, take, drop}
+use Rattle.std.specs.Prelude.{◌≡◌, refl, Bool, true, false, cond, List, [], ◌∷◌, ◌++◌, map, ℕ, zero, suc, ◌+◌, length, take, drop}
 use Rattle.basis.proofs.Names.{sym, ap, ap₂, subst, ◌∙◌, false≢true, take_at, drop_at}
 use Rattle.reorder.specs.Result.{Result, done, refused, and_then, map_result}
 use Rattle.reorder.specs.Plan.{looks}

@@ -1,5 +1,6 @@
 -- The zero mark is set by ADD and DEC, and kept by all else: no other instruction gives it.
-use Rattle.basis.specs.Names.{◌≡◌, refl, Bool, true, false, cond, ◌&&◌, List, [], ◌∷◌, ◌++◌, map, Memᴰ as In, ℕ, zero, suc, ◌+◌, ◌-◌, ◌%◌, ◌<◌, eqb, leb, ltb, length}
+use Rattle.std.specs.Prelude.{◌≡◌, refl, Bool, true, false, cond, ◌&&◌, List, [], ◌∷◌, ◌++◌, map, ℕ, zero, suc, ◌+◌, ◌-◌, ◌%◌, ◌<◌, eqb, leb, ltb, length}
+use Rattle.basis.specs.Names.{Memᴰ as In}
 use Rattle.basis.proofs.Names.{sym, ap, ◌∙◌, subst, ⊎_elim, false≢true, Memᴰ-head as here, Memᴰ-tail as there, Memᴰ-append_cases as append_cases, Memᴰ-eq_of_singleton as eq_of_singleton, Memᴰ-not_nil as not-nil, arith, leb-true, ltb-true}
 use Rattle.words.proofs.Laws.{and_both}
 use Rattle.reorder.specs.Result.{Result, done, refused, and_then, map_result}

@@ -1,5 +1,6 @@
 -- The address of an operand in memory: base plus index times scale plus displacement, in 32 bits.
-use Rattle.basis.specs.Names.{Bool, false, cond, ◌&&◌, ◌||◌, Option, none, some, List, [], ◌∷◌, ◌++◌, ℕ, ◌+◌, ◌*◌, ◌-◌, ◌^◌, ◌%◌, eqb, leb, get_or}
+use Rattle.std.specs.Prelude.{Bool, false, cond, ◌&&◌, ◌||◌, List, [], ◌∷◌, ◌++◌, ℕ, ◌+◌, ◌*◌, ◌-◌, ◌^◌, ◌%◌, eqb, leb, get_or}
+use Rattle.basis.specs.Names.{Option, none, some}
 use Rattle.codec.specs.Operands.{has_sib}
 use Rattle.codec.specs.declared.Operand.{Operand}
 

@@ -1,6 +1,6 @@
 -- The effect of an instruction: the operands it takes, the operands it gives, and a pure function between their values. From it come its step
 -- and its footprint.
-use Rattle.basis.specs.Names.{cond, List, [], ◌∷◌, ◌++◌, map, ℕ, get_or, take, drop}
+use Rattle.std.specs.Prelude.{cond, List, [], ◌∷◌, ◌++◌, map, ℕ, get_or, take, drop}
 use Rattle.words.specs.Number.{number, bytes}
 use Rattle.reorder.specs.Result.{Result, done, refused, and_then, map_result}
 use Rattle.reorder.specs.Plan.{Plan, looks, exec_by}

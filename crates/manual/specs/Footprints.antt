@@ -1,5 +1,5 @@
 -- The footprint of the step at a position, as lists of places, and when two footprints meet.
-use Rattle.basis.specs.Names.{List, ℕ, ◌+◌, length}
+use Rattle.std.specs.Prelude.{List, ℕ, ◌+◌, length}
 use Rattle.reorder.specs.Result.{Result, and_then, provided}
 use Rattle.reorder.specs.Footprint as places
 use Rattle.reorder.specs.Run.{position_reached, state_reached}

@@ -1,5 +1,5 @@
 -- What each instruction takes and gives: by its form's operands and its operation, as those of loops do, or as 3DNow's do, by their suffix.
-use Rattle.basis.specs.Names.{Bool, true, false, cond, List, [], ◌∷◌, map, ℕ, ◌+◌, ◌-◌, ◌^◌, ◌%◌, eqb, length, get_or}
+use Rattle.std.specs.Prelude.{Bool, true, false, cond, List, [], ◌∷◌, map, ℕ, ◌+◌, ◌-◌, ◌^◌, ◌%◌, eqb, length, get_or}
 use Rattle.lanes.specs.Operations.{Operation, operate, operate_three}
 use Rattle.singles.specs.Siblings.{leave}
 use Rattle.singles.specs.declared.answers.Answer.{Answer}

@@ -1,5 +1,5 @@
 -- Where a run goes on after an instruction: behind it, or at the target of a jump that is taken.
-use Rattle.basis.specs.Names.{Bool, cond, not, ◌&&◌, ℕ, ◌+◌, ◌-◌, eqb, leb}
+use Rattle.std.specs.Prelude.{Bool, cond, not, ◌&&◌, ℕ, ◌+◌, ◌-◌, eqb, leb}
 use Rattle.reorder.specs.Result.{Result, done, refused}
 use Rattle.codec.specs.Contents.{jump_if_not_zero}
 use Rattle.codec.specs.declared.Instruction.{Instruction}

@@ -1,5 +1,5 @@
 -- The kinds of instruction: what each does to the tag mark, whether the control marks stop it, and which kinds meet.
-use Rattle.basis.specs.Names.{◌≡◌, Bool, true, false}
+use Rattle.std.specs.Prelude.{◌≡◌, Bool, true, false}
 use Rattle.codec.specs.declared.Kind.{Kind}
 use Rattle.codec.specs.declared.Kind.TheVariants.{Ordinary, Emms, Silent, Loop}
 use Rattle.manual.specs.declared.Marks.{Marks}

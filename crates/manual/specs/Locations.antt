@@ -1,5 +1,6 @@
 -- Where an operand is: in a register, in memory, or in the zero mark; and which places it has there.
-use Rattle.basis.specs.Names.{Bool, cond, none, some, List, [], ◌∷◌, ℕ, zero, suc, ◌+◌, ◌%◌, eqb, leb, length}
+use Rattle.std.specs.Prelude.{Bool, cond, List, [], ◌∷◌, ℕ, zero, suc, ◌+◌, ◌%◌, eqb, leb, length}
+use Rattle.basis.specs.Names.{none, some}
 use Rattle.reorder.specs.Result.{Result, done, refused}
 use Rattle.codec.specs.Forms.{File, mmx_file, integer_file, Slot, reg, rm, rm/mem, mem, edi, fixed, opcode, zero_slot}
 use Rattle.codec.specs.declared.Operand.{Operand}

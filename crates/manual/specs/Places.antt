@@ -1,5 +1,5 @@
 -- The places that steps read and write: MMX registers, integer registers, single memory bytes, the zero mark.
-use Rattle.basis.specs.Names.{Bool, true, cond, List, map, ℕ, eqb, leb, get_or, set}
+use Rattle.std.specs.Prelude.{Bool, true, cond, List, map, ℕ, eqb, leb, get_or, set}
 use Rattle.codec.specs.Fits.{all}
 use Rattle.manual.specs.State.{State, with_mmx, with_integer, with_memory, with_zero}
 

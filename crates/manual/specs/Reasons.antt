@@ -1,6 +1,7 @@
 -- When each refusal of a step over a floor is due, in the customer's words: 1, then 20, then 2 to 6 by the reading, then 7, 8, 9 where the control
 -- marks stop the instruction, then 10 or 14, then 21, then 22; and 19 for a jump.
-use Rattle.basis.specs.Names.{◌≡◌, ◌⊎◌, Bool, true, false, List, Memᴰ as In, ℕ, ◌+◌, ◌<◌, length}
+use Rattle.std.specs.Prelude.{◌≡◌, ◌⊎◌, Bool, true, false, List, ℕ, ◌+◌, ◌<◌, length}
+use Rattle.basis.specs.Names.{Memᴰ as In}
 use Rattle.singles.specs.Siblings.{Sibling, PF2IW, PI2FW, PSWAPD, PAVGUSB, PFCMPGT, PFMAX, has_unsupported}
 use Rattle.codec.specs.Forms.{has_suffix}
 use Rattle.codec.specs.Opcodes.{suffixed_of, form_for}

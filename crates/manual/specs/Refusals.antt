@@ -1,5 +1,5 @@
 -- The refusal numbers of steps, runs and footprints, from document 01's table of them and document 02's Req 04, 07, 08 and 10 (2 to 6 are the reader's).
-use Rattle.basis.specs.Names.{ℕ}
+use Rattle.std.specs.Prelude.{ℕ}
 
 -- the memory is longer than 32,768 bytes
 abbrev pub memory_too_long : ℕ

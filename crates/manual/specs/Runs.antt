@@ -1,5 +1,5 @@
 -- The run with its budget, over a floor; and whether reading from 0 onward reaches a jump.
-use Rattle.basis.specs.Names.{Bool, not, ◌&&◌, cond, List, ℕ, ltb, length}
+use Rattle.std.specs.Prelude.{Bool, not, ◌&&◌, cond, List, ℕ, ltb, length}
 use Rattle.reorder.specs.Result.{Result}
 use Rattle.reorder.specs.Run.{Fetched, Answer, stopped, run}
 use Rattle.reorder.specs.Block.{reaches}

@@ -1,5 +1,5 @@
 -- The state: registers, marks and the bytes of the lent memory; the limits of that memory and of a floor in it, and what no step changes.
-use Rattle.basis.specs.Names.{Bool, List, ℕ, ltb, length, set}
+use Rattle.std.specs.Prelude.{Bool, List, ℕ, ltb, length, set}
 use Rattle.manual.specs.declared.Marks.{Marks}
 
 pub record State : Type 0 where

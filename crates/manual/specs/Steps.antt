@@ -1,5 +1,5 @@
 -- One step at a position of the code, over a floor.
-use Rattle.basis.specs.Names.{cond, List, ℕ, ◌+◌, length}
+use Rattle.std.specs.Prelude.{cond, List, ℕ, ◌+◌, length}
 use Rattle.reorder.specs.Result.{Result, done, refused, case_of}
 use Rattle.reorder.specs.Run.{Fetched}
 use Rattle.codec.specs.Reads.{read_at}

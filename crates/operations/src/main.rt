@@ -1,7 +1,7 @@
 // Performs each packed operation on numbers of a fixed generator, and prints its name and a number that all results went into, a line for each
 // operation; then the same of the functions beside `lanes::operate`. With three bytes on standard input, a line's number and a count of rounds (low
 // byte first), it performs that line's alone.
-ghost use Rattle.basis.specs.Names.{◌+◌, ◌<◌, ◌≤◌};
+ghost use Rattle.std.specs.Prelude.{◌+◌, ◌<◌, ◌≤◌};
 
 use libc::{STDIN_FILENO, STDOUT_FILENO};
 

@@ -1,6 +1,6 @@
 -- Any two answers that the contract of a public function allows at one input are equal: both are what the definition says. Of a part of the
 -- file it is the part's bytes that are equal.
-use Rattle.basis.specs.Names.{◌≡◌}
+use Rattle.std.specs.Prelude.{◌≡◌}
 use Rattle.basis.proofs.Names.{sym, ◌∙◌}
 use contract.Lifetimes.{Lfts}
 use borrow.Fn.Kinds.{Dens, res_t, ended_of}

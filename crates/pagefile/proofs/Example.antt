@@ -1,6 +1,6 @@
 -- The definition computes to the customer's example: its parts, and no marks; to a file of all five fields; and files that break one rule each to
 -- the refusal, without parts.
-use Rattle.basis.specs.Names.{◌≡◌, refl, List, [], ◌∷◌, ◌++◌, map, ℕ, replicate}
+use Rattle.std.specs.Prelude.{◌≡◌, refl, List, [], ◌∷◌, ◌++◌, map, ℕ, replicate}
 use Rattle.pagefile.specs.Fields.{may_hold}
 use Rattle.pagefile.specs.Parsing.{size, holds, remaining, well_formed, contents_of, well_formed_with, refused_with, page_of}
 

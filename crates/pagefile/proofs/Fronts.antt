@@ -1,5 +1,5 @@
 -- What the tests of a field at the front tell: they all hold, and the field takes its heading and its contents; or it takes no byte.
-use Rattle.basis.specs.Names.{◌≡◌, refl, Bool, true, false, ◌&&◌, List, [], ◌⊎◌, ℕ, ◌+◌, ◌-◌, ◌≤◌, eqb, leb, length, get_or, take, drop}
+use Rattle.std.specs.Prelude.{◌≡◌, refl, Bool, true, false, ◌&&◌, List, [], ◌⊎◌, ℕ, ◌+◌, ◌-◌, ◌≤◌, eqb, leb, length, get_or, take, drop}
 use Rattle.basis.proofs.Names.{inl, inr, arith, eqb-true, leb-true, eq-eqb, le-leb}
 use Rattle.words.proofs.Laws.{and_both}
 use Rattle.pagefile.specs.Fields.{may_hold}

@@ -1,7 +1,7 @@
 -- A file is well formed exactly if it is made of fields as a page file is, and its parts are what these fields hold: tag by tag, what
 -- remains of the file is the bytes of the fields that remain.
-use Rattle.basis.specs.Names.{◌≡◌, refl, Bool, true, false, cond, List, [], ◌∷◌, ◌++◌, ◌⊎◌, ℕ, zero, suc, ◌+◌, ◌-◌, ◌≤◌, ◌<◌, eqb, leb, length, get_or, drop}
-use Rattle.basis.proofs.Names.{sym, ap, subst, ◌∙◌, false≢true, inl, inr, ◌↔◌, eq-or-lt_of_le, arith, eq-eqb, ne_eqb, eqb-true, leb-true, le-leb, length-append, get_or-drop}
+use Rattle.std.specs.Prelude.{◌≡◌, refl, Bool, true, false, cond, List, [], ◌∷◌, ◌++◌, ◌⊎◌, ℕ, zero, suc, ◌+◌, ◌-◌, ◌≤◌, ◌<◌, eqb, leb, length, get_or, drop, ◌↔◌}
+use Rattle.basis.proofs.Names.{sym, ap, subst, ◌∙◌, false≢true, inl, inr, eq-or-lt_of_le, arith, eq-eqb, ne_eqb, eqb-true, leb-true, le-leb, length-append, get_or-drop}
 use Rattle.words.specs.Number.{AllBytes}
 use Rattle.words.proofs.Laws.{and_both}
 use Rattle.pagefile.specs.Fields.{Field, written, Ascending, concatenated, MadeOf, held}

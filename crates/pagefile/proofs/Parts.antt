@@ -1,5 +1,5 @@
 -- The parts of a file, by what the code has found: whether it is well formed, where a tag's field starts, and where that ends.
-use Rattle.basis.specs.Names.{◌≡◌, refl, Bool, true, false, not, List, [], ℕ, ◌+◌, ◌-◌, ◌≤◌, ◌<◌, eqb, length, get_or, take, drop}
+use Rattle.std.specs.Prelude.{◌≡◌, refl, Bool, true, false, not, List, [], ℕ, ◌+◌, ◌-◌, ◌≤◌, ◌<◌, eqb, length, get_or, take, drop}
 use Rattle.basis.proofs.Names.{sym, ap, ◌∙◌, arith, eq-eqb, ne_eqb, eqb-true, eqb-false, le-leb, lt-leb, not-true, not-false, length-drop, get_or-eq_default, drop-drop}
 use Rattle.pagefile.specs.Parsing.{size, remaining, well_formed, contents_of, malformed, well_formed_with, refused_with, page_of}
 use Rattle.pagefile.proofs.Fronts.{holds_sized}

@@ -1,5 +1,5 @@
 -- Where a field ends that starts at a place of the file, by the tests that the code makes there: what remains from the place on is `drop at file`.
-use Rattle.basis.specs.Names.{◌≡◌, refl, Bool, true, false, List, ℕ, ◌+◌, ◌-◌, ◌≤◌, ◌<◌, length, get_or, take, drop}
+use Rattle.std.specs.Prelude.{◌≡◌, refl, Bool, true, false, List, ℕ, ◌+◌, ◌-◌, ◌≤◌, ◌<◌, length, get_or, take, drop}
 use Rattle.basis.proofs.Names.{sym, ap, ◌∙◌, and-false, add-zero, add-sub_cancel_left, add-one, arith, rules, ne_eqb, lt-leb, length-drop, get_or-drop, drop-drop}
 use Rattle.words.specs.Number.{number}
 use Rattle.words.specs.Buffer.{loaded}

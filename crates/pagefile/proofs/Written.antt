@@ -1,5 +1,5 @@
 -- A field that stands at the front is written there, and the other way round: its length's bytes give its length, and its length its bytes.
-use Rattle.basis.specs.Names.{◌≡◌, refl, true, List, [], ◌∷◌, ◌++◌, ◌⊎◌, ℕ, zero, suc, ◌+◌, ◌≤◌, length, get_or, drop}
+use Rattle.std.specs.Prelude.{◌≡◌, refl, true, List, [], ◌∷◌, ◌++◌, ◌⊎◌, ℕ, zero, suc, ◌+◌, ◌≤◌, length, get_or, drop}
 use Rattle.basis.proofs.Names.{sym, ap, ◌∙◌, inl, inr, mod-eq_of_lt, arith, length-append, take-append-drop, length-take-le, take-append_seam, drop-append_seam}
 use Rattle.words.specs.Number.{AllBytes, bytes}
 use Rattle.words.proofs.Numbers.{number-bytes, bytes-number}

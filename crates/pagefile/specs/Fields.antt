@@ -1,5 +1,5 @@
 -- What a page file is: fields, each a tag, a length of two bytes and contents; tags 01 to 05, ascending, each at most once.
-use Rattle.basis.specs.Names.{◌≡◌, Bool, true, cond, ◌&&◌, List, [], ◌∷◌, ◌++◌, ℕ, ◌<◌, ◌≤◌, eqb, ltb, length, get_or}
+use Rattle.std.specs.Prelude.{◌≡◌, Bool, true, cond, ◌&&◌, List, [], ◌∷◌, ◌++◌, ℕ, ◌<◌, ◌≤◌, eqb, ltb, length, get_or}
 use Rattle.words.specs.Number.{bytes}
 
 pub record Field : Type 0 where

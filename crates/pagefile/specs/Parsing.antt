@@ -1,6 +1,6 @@
 -- How a page file is parsed: each tag's field, from 01 to 05, is taken off the front of what remains, where it stands there. The file is well
 -- formed where nothing remains in the end.
-use Rattle.basis.specs.Names.{Bool, cond, ◌&&◌, List, [], ℕ, zero, suc, ◌+◌, ◌-◌, eqb, leb, length, get_or, take, drop}
+use Rattle.std.specs.Prelude.{Bool, cond, ◌&&◌, List, [], ℕ, zero, suc, ◌+◌, ◌-◌, eqb, leb, length, get_or, take, drop}
 use Rattle.words.specs.Number.{number}
 use Rattle.pagefile.specs.Fields.{may_hold}
 use Rattle.pagefile.specs.declared.Page.{Page}

@@ -1,7 +1,7 @@
 // The page file: whether it is well formed, and which part of it holds the code, the memory and the registers.
 #![tactic(auto)]
 
-ghost use Rattle.basis.specs.Names.{◌≡◌, ◌+◌, ◌<◌, ◌≤◌, length, drop};
+ghost use Rattle.std.specs.Prelude.{◌≡◌, ◌+◌, ◌<◌, ◌≤◌, length, drop};
 ghost use Rattle.pagefile.specs.Fields.{may_hold};
 ghost use Rattle.pagefile.specs.Parsing.{size, remaining, well_formed, contents_of, code_of, memory_of, mmx_of, integers_of, page_of, paper_of_page};
 

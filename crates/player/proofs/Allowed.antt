@@ -1,6 +1,6 @@
 -- Any two answers that the contract of `play` allows at one input are equal, and so is what they leave in the lent buffer: both are what the
 -- definition says.
-use Rattle.basis.specs.Names.{◌≡◌}
+use Rattle.std.specs.Prelude.{◌≡◌}
 use Rattle.basis.proofs.Names.{sym, ap, ◌∙◌}
 use contract.Lifetimes.{Lfts}
 use borrow.Fn.Kinds.{Dens, res_t, ended_of}

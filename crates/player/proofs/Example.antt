@@ -1,6 +1,6 @@
 -- The customer's example: the bytes of its file, and the whole text that is printed of it. Then a page of all five fields whose first instruction is
 -- refused, so that its text shows what the fields hold; and the refusals of files.
-use Rattle.basis.specs.Names.{◌≡◌, refl, true, false, List, [], ◌∷◌, ◌++◌, map, ℕ, ltb, length, replicate, take}
+use Rattle.std.specs.Prelude.{◌≡◌, refl, true, false, List, [], ◌∷◌, ◌++◌, map, ℕ, ltb, length, replicate, take}
 use Rattle.basis.proofs.Names.{ap}
 use Rattle.words.specs.Buffer.{loaded}
 use Rattle.reorder.proofs.Permutation.{from}

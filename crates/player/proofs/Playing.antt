@@ -1,5 +1,5 @@
 -- What is printed of a page, piece by piece: each text is the definition's in the case that the code has reached.
-use Rattle.basis.specs.Names.{◌≡◌, refl, List, ◌++◌, ℕ, ◌-◌, ◌≤◌, ◌<◌, length, take, drop}
+use Rattle.std.specs.Prelude.{◌≡◌, refl, List, ◌++◌, ℕ, ◌-◌, ◌≤◌, ◌<◌, length, take, drop}
 use Rattle.basis.proofs.Names.{sym, sub-zero, lt-ltb, le-ltb, take-append_seam, take-length}
 use Rattle.manual.specs.State.{State, longest_memory}
 use Rattle.manual.specs.Runs.{run_of}

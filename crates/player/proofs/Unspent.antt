@@ -1,5 +1,5 @@
 -- No run of a page without a jump is spent: the longest code has no more instructions than the budget. So a larger one would print the same.
-use Rattle.basis.specs.Names.{◌≡◌, refl, true, List, ℕ, ◌≤◌}
+use Rattle.std.specs.Prelude.{◌≡◌, refl, true, List, ℕ, ◌≤◌}
 use Rattle.basis.proofs.Names.{arith}
 use Rattle.reorder.specs.Run.{Answer, finished, spent, stopped}
 use Rattle.reorder.proofs.Parting.{Ended}

@@ -1,5 +1,5 @@
 -- No text is cut: every page's text has room in a buffer of `longest_report` bytes, since its run stays within its bounds.
-use Rattle.basis.specs.Names.{◌≡◌, refl, Bool, true, false, cond, List, ◌++◌, ℕ, ◌≤◌, ltb, length, get_or, drop}
+use Rattle.std.specs.Prelude.{◌≡◌, refl, Bool, true, false, cond, List, ◌++◌, ℕ, ◌≤◌, ltb, length, get_or, drop}
 use Rattle.basis.proofs.Names.{ap, ◌∙◌, arith, ltb-false}
 use Rattle.reorder.specs.Run.{Answer, finished, spent, stopped}
 use Rattle.codec.specs.Reads.{longest_code}

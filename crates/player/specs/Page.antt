@@ -1,5 +1,5 @@
 -- What is printed of a page file: its refusal, or the report of its code's run in the machine that it starts from.
-use Rattle.basis.specs.Names.{cond, List, ℕ, ltb, length}
+use Rattle.std.specs.Prelude.{cond, List, ℕ, ltb, length}
 use Rattle.reorder.specs.Run.{Answer, finished, spent, stopped}
 use Rattle.codec.specs.Refusals.{code_too_long}
 use Rattle.codec.specs.Reads.{longest_code}

@@ -1,7 +1,7 @@
 // From a page file to what is printed of it.
 #![tactic(auto)]
 
-ghost use Rattle.basis.specs.Names.{◌≡◌, ◌≤◌, length};
+ghost use Rattle.std.specs.Prelude.{◌≡◌, ◌≤◌, length};
 ghost use Rattle.printout.specs.Printing.{printing, printed};
 ghost use Rattle.player.specs.Page.{answer_text, run_in, well_formed_text, page_text};
 

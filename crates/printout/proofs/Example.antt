@@ -1,6 +1,7 @@
 -- The lines of a text, and what the definition computes to: the first line of each ending, the lines of each mark, and the memory's lines of
 -- three rows.
-use Rattle.basis.specs.Names.{◌≡◌, refl, true, false, List, [], ◌∷◌, ◌++◌, ℕ, String}
+use Rattle.std.specs.Prelude.{◌≡◌, refl, true, false, List, [], ◌∷◌, ◌++◌, ℕ}
+use Rattle.basis.specs.Names.{String}
 use Rattle.machine.specs.declared.End.TheVariants.{Done, Spent, Refused}
 use Rattle.printout.specs.Characters.{ascii, newline, digits, places, decimal}
 use Rattle.printout.specs.Lines.{answer, first_line, tags_line, zero_line, memory_line, byte_lines}

@@ -1,5 +1,5 @@
 -- How long each piece of the text is: a number as its digits are, a line of a register 5 characters more than its digits, a byte 3.
-use Rattle.basis.specs.Names.{◌≡◌, refl, Bool, true, false, List, [], ◌∷◌, ℕ, suc, ◌+◌, ◌*◌, length, take, drop}
+use Rattle.std.specs.Prelude.{◌≡◌, refl, Bool, true, false, List, [], ◌∷◌, ℕ, suc, ◌+◌, ◌*◌, length, take, drop}
 use Rattle.basis.proofs.Names.{mul-suc, arith, length-append, length-take, length-drop}
 use Rattle.machine.specs.declared.End.{End}
 use Rattle.machine.specs.declared.End.TheVariants.{Done, Spent, Refused}

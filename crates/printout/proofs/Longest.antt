@@ -1,5 +1,5 @@
 -- Every text of a page has room in a buffer of `longest_report` bytes, so none is cut: its numbers have no more digits than the largest of their kind.
-use Rattle.basis.specs.Names.{◌≡◌, refl, Bool, List, ◌++◌, ℕ, ◌^◌, ◌≤◌, ◌<◌, length, drop}
+use Rattle.std.specs.Prelude.{◌≡◌, refl, Bool, List, ◌++◌, ℕ, ◌^◌, ◌≤◌, ◌<◌, length, drop}
 use Rattle.basis.proofs.Names.{pow-suc, arith, le-leb}
 use Rattle.manual.specs.State.{longest_memory}
 use Rattle.machine.specs.declared.End.{End}

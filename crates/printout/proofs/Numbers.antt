@@ -1,5 +1,5 @@
 -- The digits of a number: how many there are, and one more from the end.
-use Rattle.basis.specs.Names.{◌≡◌, refl, Bool, true, false, cond, List, [], ◌∷◌, ℕ, zero, suc, ◌+◌, ◌-◌, ◌/◌, ◌%◌, ◌^◌, ◌≤◌, ◌<◌, ltb, length, set}
+use Rattle.std.specs.Prelude.{◌≡◌, refl, Bool, true, false, cond, List, [], ◌∷◌, ℕ, zero, suc, ◌+◌, ◌-◌, ◌/◌, ◌%◌, ◌^◌, ◌≤◌, ◌<◌, ltb, length, set}
 use Rattle.basis.proofs.Names.{◌∙◌, mod-lt, pow-suc, arith, rules, lt-ltb, le-ltb, length-append}
 use Rattle.printout.specs.Characters.{digit_of, digits, places}
 use Rattle.printout.specs.inner.Room.{put, Puts}

@@ -1,5 +1,5 @@
 -- Each text by what the code knows of it: an answer by its case, a number by its digits, and what remains of a text by its next piece.
-use Rattle.basis.specs.Names.{◌≡◌, Bool, true, false, List, [], ◌∷◌, ◌++◌, ℕ, suc, ◌+◌, ◌-◌, ◌*◌, ◌≤◌, ◌<◌, length, get_or, take, drop}
+use Rattle.std.specs.Prelude.{◌≡◌, Bool, true, false, List, [], ◌∷◌, ◌++◌, ℕ, suc, ◌+◌, ◌-◌, ◌*◌, ◌≤◌, ◌<◌, length, get_or, take, drop}
 use Rattle.basis.proofs.Names.{ap, add-sub_cancel_left, add-one, arith, length-drop, length-append, drop_of_length-le, drop-cons, drop-drop}
 use Rattle.machine.specs.declared.End.{End}
 use Rattle.machine.specs.declared.End.TheVariants.{Done, Spent, Refused}

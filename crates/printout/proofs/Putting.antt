@@ -1,5 +1,6 @@
 -- Texts that are put one after the other are one text: each starts where the one before it ends. And what remains of a text, put, gives the whole.
-use Rattle.basis.specs.Names.{◌≡◌, refl, List, [], ◌∷◌, ◌++◌, ℕ, suc, ◌+◌, length, set, sets}
+use Rattle.std.specs.Prelude.{◌≡◌, refl, List, [], ◌∷◌, ◌++◌, ℕ, suc, ◌+◌, length, set}
+use Rattle.basis.specs.Names.{sets}
 use Rattle.basis.proofs.Names.{sym, ap, ◌∙◌, add-zero, add-suc, suc-add, arith, rules, length-append, length-sets, set_comm}
 use Rattle.words.proofs.Laws.{sets-append}
 use Rattle.printout.specs.inner.Room.{put, Fits, Puts}

@@ -1,5 +1,5 @@
 -- What a buffer gets: nothing where it is shorter than the text, and the text where that was put at its start.
-use Rattle.basis.specs.Names.{◌≡◌, refl, Bool, true, false, not, cond, List, ◌++◌, ℕ, ◌+◌, ◌-◌, ◌*◌, ◌/◌, ◌≤◌, ◌<◌, leb, length, drop}
+use Rattle.std.specs.Prelude.{◌≡◌, refl, Bool, true, false, not, cond, List, ◌++◌, ℕ, ◌+◌, ◌-◌, ◌*◌, ◌/◌, ◌≤◌, ◌<◌, leb, length, drop}
 use Rattle.basis.proofs.Names.{sym, ap, subst, ◌∙◌, zero-add, arith, rules, leb-true, leb-false, le-leb, lt-leb, not-true, not-false, length-append, sets-eq}
 use Rattle.machine.specs.declared.End.{End}
 use Rattle.printout.specs.Characters.{places}

@@ -1,5 +1,6 @@
 -- Words and numbers as characters, each a byte.
-use Rattle.basis.specs.Names.{cond, List, [], ◌∷◌, ◌++◌, code, ℕ, zero, suc, ◌+◌, ◌-◌, ◌/◌, ◌%◌, ltb}
+use Rattle.std.specs.Prelude.{cond, List, [], ◌∷◌, ◌++◌, ℕ, zero, suc, ◌+◌, ◌-◌, ◌/◌, ◌%◌, ltb}
+use Rattle.basis.specs.Names.{code}
 use Prim.Native.String.{String, [] as none, ◌∷◌ as ◌then◌}
 
 -- the characters of a word

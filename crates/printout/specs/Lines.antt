@@ -1,5 +1,6 @@
 -- What the page program prints, line by line.
-use Rattle.basis.specs.Names.{Bool, cond, List, [], ◌∷◌, ◌++◌, code, ℕ, suc, ◌+◌, ◌*◌, ◌%◌, eqb, length, take, drop}
+use Rattle.std.specs.Prelude.{Bool, cond, List, [], ◌∷◌, ◌++◌, ℕ, suc, ◌+◌, ◌*◌, ◌%◌, eqb, length, take, drop}
+use Rattle.basis.specs.Names.{code}
 use Rattle.manual.specs.State.{longest_memory}
 use Rattle.machine.specs.declared.End.{End}
 use Rattle.machine.specs.declared.End.TheVariants.{Done, Spent, Refused}

@@ -1,5 +1,5 @@
 -- What a printing leaves in a lent buffer.
-use Rattle.basis.specs.Names.{cond, List, ◌++◌, ℕ, leb, length, drop}
+use Rattle.std.specs.Prelude.{cond, List, ◌++◌, ℕ, leb, length, drop}
 
 -- how many bytes it wrote, and the buffer
 pub record Printed : Type 0 where

@@ -1,5 +1,5 @@
 // How many characters the text has.
-ghost use Rattle.basis.specs.Names.{◌≡◌, ◌≤◌, leb, length};
+ghost use Rattle.std.specs.Prelude.{◌≡◌, ◌≤◌, leb, length};
 ghost use Rattle.printout.specs.Lines.{answer};
 ghost use Rattle.printout.specs.inner.Room.{report_length};
 

@@ -1,7 +1,7 @@
 // What the page program prints: the report of a run, or the refusal of a file, put at the start of a lent buffer.
 #![tactic(auto)]
 
-ghost use Rattle.basis.specs.Names.{◌≡◌, ◌++◌, length, replicate};
+ghost use Rattle.std.specs.Prelude.{◌≡◌, ◌++◌, length, replicate};
 ghost use Rattle.printout.specs.Lines.{first_line, mmx_lines, integer_lines, tags_line, zero_line, memory_line, byte_lines, report_text, longest_report, refusal_text};
 ghost use Rattle.printout.specs.Printing.{printing, printed};
 ghost use Rattle.printout.specs.inner.Room.{Fits, Puts};

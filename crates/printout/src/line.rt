@@ -1,5 +1,5 @@
 // The lines of the text, put at a place of a lent buffer.
-ghost use Rattle.basis.specs.Names.{◌≡◌, ◌++◌, ◌*◌, length};
+ghost use Rattle.std.specs.Prelude.{◌≡◌, ◌++◌, ◌*◌, length};
 ghost use Rattle.printout.specs.Characters.{newline, hex};
 ghost use Rattle.printout.specs.Lines.{answer, first_line, register_lines, mmx_lines, integer_lines, tags_line, zero_line, gap_after, byte_lines};
 ghost use Rattle.printout.specs.inner.Room.{Fits, Puts};

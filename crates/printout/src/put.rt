@@ -1,5 +1,5 @@
 // Characters, words and numbers, put at a place of a lent buffer. Each function answers the place after what it put.
-ghost use Rattle.basis.specs.Names.{◌≡◌, [], ◌∷◌, ◌++◌, ◌+◌, ◌<◌, ◌≤◌, length};
+ghost use Rattle.std.specs.Prelude.{◌≡◌, [], ◌∷◌, ◌++◌, ◌+◌, ◌<◌, ◌≤◌, length};
 ghost use Rattle.printout.specs.Characters.{newline, digit_of, digits, hex, places, decimal};
 ghost use Rattle.printout.specs.inner.Room.{Fits, Puts};
 

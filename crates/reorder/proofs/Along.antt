@@ -1,6 +1,7 @@
 -- Along a run that finishes: a run of k instructions comes to an instruction that completes; and without jumps to piece k of the code, in the state
 -- before it, and goes on behind it.
-use Rattle.basis.specs.Names.{◌≡◌, refl, Bool, true, false, cond, List, [], ◌∷◌, ◌++◌, flatten, ℕ, zero, suc, ◌+◌, ◌<◌, ◌≤◌, eqb, length, get_or, take, drop}
+use Rattle.std.specs.Prelude.{◌≡◌, refl, Bool, true, false, cond, List, [], ◌∷◌, ◌++◌, ℕ, zero, suc, ◌+◌, ◌<◌, ◌≤◌, eqb, length, get_or, take, drop}
+use Rattle.basis.specs.Names.{flatten}
 use Rattle.basis.proofs.Names.{sym, ap, ap₂, ◌∙◌, subst, false≢true, zero-add, add-zero, dec_lt, arith, length-append, take_at, take-length}
 use Rattle.reorder.specs.Result.{Result, done, refused, case_of, and_then}
 use Rattle.reorder.specs.Run.{Fetched, finished, spent, stopped, position_reached, run_from, run}

@@ -1,5 +1,6 @@
 -- A run without jumps that finishes is the row of its pieces: each step cuts one whole instruction off the code, and the way back.
-use Rattle.basis.specs.Names.{◌≡◌, refl, Bool, true, false, ◌||◌, List, [], ◌∷◌, ◌++◌, flatten, ℕ, zero, suc, ◌+◌, ◌<◌, ◌≤◌, ◌-◌, length, get_or, take, drop}
+use Rattle.std.specs.Prelude.{◌≡◌, refl, Bool, true, false, ◌||◌, List, [], ◌∷◌, ◌++◌, ℕ, zero, suc, ◌+◌, ◌<◌, ◌≤◌, ◌-◌, length, get_or, take, drop}
+use Rattle.basis.specs.Names.{flatten}
 use Rattle.basis.proofs.Names.{false≢true, sym, ap, ◌∙◌, subst, append-nil, add-zero, ℕ_discrete, arith, eq-eqb, ne_eqb, length-append, length-drop, take-append-drop, drop-drop, drop-length, drop_at, length-take-le, take-length}
 use Rattle.reorder.specs.Result.{Result, done, refused, and_then, case_of}
 use Rattle.reorder.specs.Run.{Fetched, Answer, finished, spent, stopped, run_from}

@@ -1,5 +1,5 @@
 -- How a run ends: done at the code's end, spent with its whole budget before it. By induction over a run's turns, said once.
-use Rattle.basis.specs.Names.{◌≡◌, refl, List, ℕ, zero, suc, ◌+◌, length, drop}
+use Rattle.std.specs.Prelude.{◌≡◌, refl, List, ℕ, zero, suc, ◌+◌, length, drop}
 use Rattle.basis.proofs.Names.{sym, subst, add-zero, ℕ_discrete, arith, eq-eqb, ne_eqb}
 use Rattle.reorder.specs.Result.{Result, done, refused}
 use Rattle.reorder.specs.Run.{Fetched, Answer, finished, spent, stopped, run_from}

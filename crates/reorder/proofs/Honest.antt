@@ -1,5 +1,6 @@
 -- A footprint is honest: a step goes by what it reads alone, and changes nothing but what it writes. For reading and writing are the plan's own.
-use Rattle.basis.specs.Names.{◌≡◌, refl, List, Memᴰ as In, ℕ}
+use Rattle.std.specs.Prelude.{◌≡◌, refl, List, ℕ}
+use Rattle.basis.specs.Names.{Memᴰ as In}
 use Rattle.basis.proofs.Names.{false≢true, ap, ◌∙◌, subst, Memᴰ-append_left, Memᴰ-append_right}
 use Rattle.reorder.specs.Result.{Result, done, refused, map_result}
 use Rattle.reorder.specs.Plan.{Plan, looks, leaves, perform, exec_by}

@@ -1,5 +1,6 @@
 -- Where an element of a list stands: by induction on the list.
-use Rattle.basis.specs.Names.{◌≡◌, refl, ◌⊎◌, List, [], ◌∷◌, ◌++◌, Memᴰ as In, ℕ, zero, suc, ◌<◌, length, get_or}
+use Rattle.std.specs.Prelude.{◌≡◌, refl, ◌⊎◌, List, [], ◌∷◌, ◌++◌, ℕ, zero, suc, ◌<◌, length, get_or}
+use Rattle.basis.specs.Names.{Memᴰ as In}
 use Rattle.basis.proofs.Names.{sym, ap, inl, inr, ⊎_elim, Memᴰ-head as here, Memᴰ-tail as later, arith}
 
 -- an element of p ++ k ∷ q is k, or one of p ++ q

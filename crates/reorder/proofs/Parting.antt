@@ -1,7 +1,7 @@
 -- A run in parts. With more of its budget it is the run without that, and where this was spent, a run with what is more from there on; so a larger
 -- budget changes no run that was not spent. Where no instruction jumps, what is more is the run of the rest of the code alone. And whether reading
 -- reaches some instruction, one after the other.
-use Rattle.basis.specs.Names.{◌≡◌, refl, Bool, false, ◌||◌, List, ℕ, zero, suc, ◌+◌, ◌-◌, ◌≤◌, eqb, length, drop}
+use Rattle.std.specs.Prelude.{◌≡◌, refl, Bool, false, ◌||◌, List, ℕ, zero, suc, ◌+◌, ◌-◌, ◌≤◌, eqb, length, drop}
 use Rattle.basis.proofs.Names.{sym, ap, ap₂, subst, ◌∙◌, false≢true, zero-add, add-zero, suc-add, arith, eq-eqb, ne_eqb, length-drop, drop-drop}
 use Rattle.reorder.specs.Result.{Result, done, refused, case_of}
 use Rattle.reorder.specs.Run.{Fetched, Answer, finished, spent, stopped, run_from, run}

@@ -1,5 +1,6 @@
 -- A new order of n things is a permutation of the numbers below n, and every such permutation is a new order.
-use Rattle.basis.specs.Names.{◌≡◌, refl, List, [], ◌∷◌, ◌++◌, Memᴰ as In, ℕ, zero, suc, ◌+◌, ◌<◌, ◌≤◌, length, get_or}
+use Rattle.std.specs.Prelude.{◌≡◌, refl, List, [], ◌∷◌, ◌++◌, ℕ, zero, suc, ◌+◌, ◌<◌, ◌≤◌, length, get_or}
+use Rattle.basis.specs.Names.{Memᴰ as In}
 use Rattle.basis.proofs.Names.{sym, ap, ◌∙◌, subst, ⊎_elim, Memᴰ-head as here, Memᴰ-tail as later, Memᴰ-append_right, zero-add, arith, length-append}
 use Rattle.reorder.specs.Order.{NewOrder, Keeps}
 use Rattle.reorder.proofs.Membership.{in_seam, in_wider, split, in_at, at_in}

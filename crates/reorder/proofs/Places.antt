@@ -1,5 +1,6 @@
 -- The laws that a machine's places and plans obey, and what follows for the state that a plan leaves: by induction on the places that are filled.
-use Rattle.basis.specs.Names.{◌≡◌, refl, List, [], ◌∷◌, Memᴰ as In, ℕ, get_or, drop}
+use Rattle.std.specs.Prelude.{◌≡◌, refl, List, [], ◌∷◌, ℕ, get_or, drop}
+use Rattle.basis.specs.Names.{Memᴰ as In}
 use Rattle.basis.proofs.Names.{sym, ap, ◌∙◌, Memᴰ-head as here, Memᴰ-tail as later}
 use Rattle.reorder.specs.Result.{Result}
 use Rattle.reorder.specs.Plan.{Plan, looks, puts, leaves}

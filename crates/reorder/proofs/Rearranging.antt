@@ -1,5 +1,6 @@
 -- The reordering theorem over code bytes: a block is its pieces, the row of pieces is reordered, and the new row is the new block's run.
-use Rattle.basis.specs.Names.{◌≡◌, refl, Bool, false, List, [], ◌∷◌, ◌++◌, map, flatten, Memᴰ as In, ℕ, zero, suc, ◌+◌, ◌<◌, ◌≤◌, length, get_or}
+use Rattle.std.specs.Prelude.{◌≡◌, refl, Bool, false, List, [], ◌∷◌, ◌++◌, map, ℕ, zero, suc, ◌+◌, ◌<◌, ◌≤◌, length, get_or}
+use Rattle.basis.specs.Names.{flatten, Memᴰ as In}
 use Rattle.basis.proofs.Names.{false≢true, sym, ap, ap₂, ◌∙◌, subst, subst₂, Memᴰ-head as here, Memᴰ-tail as later, add-zero, zero-add, add-suc, suc-add, arith, length-append, length-map, take_at, drop_at}
 use Rattle.reorder.specs.Result.{Result, done, refused, and_then}
 use Rattle.reorder.specs.Order.{NewOrder, Keeps}

@@ -1,6 +1,7 @@
 -- A row of instructions in a new order leaves the same state, over any machine that obeys the swap law: each instruction of the new order
 -- goes to the front past those that it does not meet.
-use Rattle.basis.specs.Names.{◌≡◌, refl, List, [], ◌∷◌, ◌++◌, map, Memᴰ as In, ℕ, zero, suc, ◌+◌, ◌<◌, length, get_or}
+use Rattle.std.specs.Prelude.{◌≡◌, refl, List, [], ◌∷◌, ◌++◌, map, ℕ, zero, suc, ◌+◌, ◌<◌, length, get_or}
+use Rattle.basis.specs.Names.{Memᴰ as In}
 use Rattle.basis.proofs.Names.{false≢true, sym, ap, ◌∙◌, subst, Memᴰ-head as here, Memᴰ-tail as later, Memᴰ-append_left, add-zero, zero-add, add-suc, suc-add, arith}
 use Rattle.reorder.specs.Result.{Result, done, refused, and_then, case_of}
 use Rattle.reorder.specs.Order.{NewOrder, Keeps}

@@ -1,5 +1,5 @@
 -- A value, provided that something else is not refused.
-use Rattle.basis.specs.Names.{◌≡◌, refl}
+use Rattle.std.specs.Prelude.{◌≡◌, refl}
 use Rattle.reorder.specs.Result.{Result, done, refused, map_result, provided}
 
 pub provided_done : {A B : Type 0} (o : Result A) (b : B) → provided o (done b) ≡ o

@@ -1,5 +1,5 @@
 -- A row of instructions, executed one after the other, over any state; and a row of the instructions' own bytes.
-use Rattle.basis.specs.Names.{List, [], ◌∷◌, ℕ, zero, suc, get_or}
+use Rattle.std.specs.Prelude.{List, [], ◌∷◌, ℕ, zero, suc, get_or}
 use Rattle.reorder.specs.Result.{Result, done, and_then, case_of}
 use Rattle.reorder.specs.Run.{Fetched}
 use Rattle.reorder.specs.Block.{pieces_of}

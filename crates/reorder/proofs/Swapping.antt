@@ -1,5 +1,5 @@
 -- The swap law of plans: the first changes nothing that the second goes by, nor the second what the first goes by, and their targets are apart.
-use Rattle.basis.specs.Names.{◌≡◌, refl, ◌⊎◌, List, ℕ}
+use Rattle.std.specs.Prelude.{◌≡◌, refl, ◌⊎◌, List, ℕ}
 use Rattle.basis.proofs.Names.{false≢true, sym, ap, ◌∙◌, subst, inl, inr, Memᴰ-append_left, Memᴰ-append_right}
 use Rattle.reorder.specs.Result.{Result, done, refused, map_result}
 use Rattle.reorder.specs.Plan.{Plan, looks, leaves, perform, exec_by}

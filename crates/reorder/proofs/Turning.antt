@@ -1,5 +1,5 @@
 -- Whether an order turns round a pair that meets, by computation: where it turns none, it keeps them all.
-use Rattle.basis.specs.Names.{◌≡◌, Bool, true, false, ◌&&◌, ◌||◌, List, [], ◌∷◌, ℕ, zero, suc, ◌<◌, ltb, length, get_or}
+use Rattle.std.specs.Prelude.{◌≡◌, Bool, true, false, ◌&&◌, ◌||◌, List, [], ◌∷◌, ℕ, zero, suc, ◌<◌, ltb, length, get_or}
 use Rattle.basis.proofs.Names.{sym, ap, ap₂, ◌∙◌, or-true, false≢true, dec_lt, arith, lt-ltb}
 use Rattle.reorder.specs.Order.{Keeps}
 

@@ -1,6 +1,7 @@
 -- A block of code as the pieces that are its instructions' own bytes; the block with its instructions in a new order; whether reading reaches some
 -- instruction.
-use Rattle.basis.specs.Names.{Bool, false, ◌||◌, List, [], ◌∷◌, map, flatten, ℕ, zero, suc, length, get_or, take, drop}
+use Rattle.std.specs.Prelude.{Bool, false, ◌||◌, List, [], ◌∷◌, map, ℕ, zero, suc, length, get_or, take, drop}
+use Rattle.basis.specs.Names.{flatten}
 use Rattle.reorder.specs.Result.{Result, case_of}
 use Rattle.reorder.specs.Run.{Fetched}
 

@@ -1,5 +1,6 @@
 -- What a step reads and writes, and when two steps meet.
-use Rattle.basis.specs.Names.{◌⊎◌, List, ◌++◌, Memᴰ as In, ℕ}
+use Rattle.std.specs.Prelude.{◌⊎◌, List, ◌++◌, ℕ}
+use Rattle.basis.specs.Names.{Memᴰ as In}
 use Rattle.reorder.specs.Result.{Result, done, refused, and_then, map_result}
 use Rattle.reorder.specs.Plan.{Plan, looks}
 

@@ -1,5 +1,5 @@
 -- A new order of n things, and what it is for an order to keep pairs.
-use Rattle.basis.specs.Names.{◌≡◌, List, ℕ, ◌<◌, length, get_or}
+use Rattle.std.specs.Prelude.{◌≡◌, List, ℕ, ◌<◌, length, get_or}
 
 -- the list says which original thing stands at each place: n entries, and each number below n stands somewhere
 pub record NewOrder (n : ℕ) (order : List ℕ) : Type 0 where

@@ -1,5 +1,5 @@
 -- A plan: from which places a step takes its operands, what it makes of them, and where the result goes; and the step that a plan gives.
-use Rattle.basis.specs.Names.{List, [], ◌∷◌, ℕ, get_or, drop}
+use Rattle.std.specs.Prelude.{List, [], ◌∷◌, ℕ, get_or, drop}
 use Rattle.reorder.specs.Result.{Result, and_then, map_result}
 
 -- over places P and kinds of instruction K

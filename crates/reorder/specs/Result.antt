@@ -1,5 +1,5 @@
 -- What may be refused: a value, or the number of the refusal.
-use Rattle.basis.specs.Names.{ℕ}
+use Rattle.std.specs.Prelude.{ℕ}
 
 pub data Result (A : Type 0) : Type 0 where
   done : A → Result A

@@ -1,5 +1,5 @@
 -- A run over code bytes, for any reader of instructions and any machine that executes them.
-use Rattle.basis.specs.Names.{cond, List, ℕ, zero, suc, ◌+◌, eqb, length, drop}
+use Rattle.std.specs.Prelude.{cond, List, ℕ, zero, suc, ◌+◌, eqb, length, drop}
 use Rattle.reorder.specs.Result.{Result, case_of}
 
 -- what reading finds: the instruction, and how many bytes it has

@@ -1,5 +1,6 @@
 -- The tables over halves and the tables over the numbers that these stand for say the same.
-use Rattle.basis.specs.Names.{◌≡◌, refl, ℕ, ◌+◌, ◌-◌, ◌*◌, ◌/◌, ◌^◌, min, ◌<◌, Bool, true, false, not, cond, eqb, ltb, ℤ, Float, binary32, of_bits, to_unsigned, neg, lt}
+use Rattle.std.specs.Prelude.{◌≡◌, refl, ℕ, ◌+◌, ◌-◌, ◌*◌, ◌/◌, ◌^◌, min, ◌<◌, Bool, true, false, not, cond, eqb, ltb, ℤ, Float}
+use Rattle.basis.specs.Names.{binary32, of_bits, to_unsigned, neg, lt}
 use Rattle.basis.proofs.Names.{ap, ap₂, ◌∙◌, arith, rules, lt-ltb, ltb-true, ltb-false, pow_pos, nan, inf, up, down, down_pos, HasValue, div_same, fin}
 use Rattle.lanes.specs.Lane.{lane}
 use Rattle.singles.specs.Ranges.{exponent, zero_range, normal_range, unsupported_range, range_of, is_negative}

@@ -1,5 +1,5 @@
 -- Any two answers that the contract of a public function allows at one input are equal: both are what the definition says.
-use Rattle.basis.specs.Names.{◌≡◌, Float}
+use Rattle.std.specs.Prelude.{◌≡◌, Float}
 use Rattle.basis.proofs.Names.{sym, ap₂, ◌∙◌}
 use contract.Lifetimes.{Lfts}
 use borrow.Fn.Kinds.{Dens, res_t, ended_of}

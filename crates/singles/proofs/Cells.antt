@@ -1,5 +1,6 @@
 -- The cells of the tables, from what the code has learned of the classes. Rules for the functions of tables and answers.
-use Rattle.basis.specs.Names.{◌≡◌, refl, ℕ, Bool, true, false, cond, Float, lt}
+use Rattle.std.specs.Prelude.{◌≡◌, refl, ℕ, Bool, true, false, cond, Float}
+use Rattle.basis.specs.Names.{lt}
 use Rattle.basis.proofs.Names.{rules}
 use Rattle.singles.specs.Siblings.{join, both}
 use Rattle.singles.specs.inner.Numbers.{plus_zero, greater, maximum, rounded, word}

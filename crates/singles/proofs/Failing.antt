@@ -1,5 +1,5 @@
 -- Nothing is left exactly where a half that is read is unsupported.
-use Rattle.basis.specs.Names.{◌≡◌, refl, ℕ, Bool, true, false, ◌||◌}
+use Rattle.std.specs.Prelude.{◌≡◌, refl, ℕ, Bool, true, false, ◌||◌}
 use Rattle.basis.proofs.Names.{sym, ap₂, ◌∙◌, false≢true}
 use Rattle.lanes.specs.Lane.{lane}
 use Rattle.singles.specs.Ranges.{Range, zero_range, normal_range, unsupported_range, range_of}

@@ -1,6 +1,7 @@
 -- Numbers to signed words and back: what a number between the ends of the signed words is without its fraction, and a word as a number. Rules for the
 -- functions of words.
-use Rattle.basis.specs.Names.{◌≡◌, ℕ, suc, ◌+◌, ◌-◌, ◌*◌, ◌/◌, ◌%◌, ◌^◌, min, ◌≤◌, ◌<◌, Bool, true, false, not, ltb, pos, Float, binary32, of_bits, to_bits, of_int, to_unsigned, neg, lt}
+use Rattle.std.specs.Prelude.{◌≡◌, ℕ, suc, ◌+◌, ◌-◌, ◌*◌, ◌/◌, ◌%◌, ◌^◌, min, ◌≤◌, ◌<◌, Bool, true, false, not, ltb, pos, Float}
+use Rattle.basis.specs.Names.{binary32, of_bits, to_bits, of_int, to_unsigned, neg, lt}
 use Rattle.basis.proofs.Names.{sym, ap, ◌∙◌, subst, arith, rules, T, dite, dec_le, false≢true, true≢false, lt-ltb, le-ltb, ltb-true, ltb-false, div-lt_iff_lt-mul, le-div_iff_mul-le, lt_of_not-le, min-eq_left, nan, inf, up, down, is_nan, round, down_pos, HasValue, round_whole, whole_unique, neg-fits, round-fits, fin}
 use Rattle.lanes.specs.Signed.{signed}
 use Rattle.lanes.proofs.Integers.{is_lt}

@@ -1,5 +1,6 @@
 -- Halves as lanes, which of them are NaNs, and their classes. Rules for the functions of halves.
-use Rattle.basis.specs.Names.{◌≡◌, refl, ℕ, ◌/◌, ◌%◌, ◌^◌, ◌≤◌, ◌<◌, Bool, true, not, Float, binary32, of_bits}
+use Rattle.std.specs.Prelude.{◌≡◌, refl, ℕ, ◌/◌, ◌%◌, ◌^◌, ◌≤◌, ◌<◌, Bool, true, not, Float}
+use Rattle.basis.specs.Names.{binary32, of_bits}
 use Rattle.basis.proofs.Names.{sym, ◌∙◌, subst, rules, T, ne_eqb, lt-ltb, le-ltb, nan, inf, div, is_nan, nan_bits, nan_bits_above, nan_bits_is, fin}
 use Rattle.lanes.specs.Lane.{lane}
 use Rattle.lanes.proofs.Registers.{lane_first}

@@ -1,5 +1,6 @@
 -- The number of a normal half has the half's sign and, in units of 2 ^ -150, its magnitude; so numbers are ordered as their halves are.
-use Rattle.basis.specs.Names.{◌≡◌, refl, ℕ, suc, ◌+◌, ◌-◌, ◌*◌, ◌/◌, ◌%◌, ◌^◌, ◌≤◌, ◌<◌, Bool, true, false, not, eqb, ltb, ◌⊎◌, Float, binary32, of_bits, lt}
+use Rattle.std.specs.Prelude.{◌≡◌, refl, ℕ, suc, ◌+◌, ◌-◌, ◌*◌, ◌/◌, ◌%◌, ◌^◌, ◌≤◌, ◌<◌, Bool, true, false, not, eqb, ltb, ◌⊎◌, Float}
+use Rattle.basis.specs.Names.{binary32, of_bits, lt}
 use Rattle.basis.proofs.Names.{sym, ap, ap₂, ◌∙◌, subst, subst₂, inl, inr, dite, dec_le, arith, eqb-false, lt-ltb, le-ltb, add-mul, zero-mul, mul_assoc, mul_comm, mul_right_comm, mul-pos, mul-le-mul_left, mul-le-mul_right, mul-lt-mul_of_pos_right, le_of_mul-le-mul_right, eq-or-lt_of_le, le_of_eq, le_of_lt, le_trans, lt_of_lt_of_le, lt_of_not-le, pow_pos, pow_mono, pow-suc, pow-succ', nan, inf, up, down, below, odd, of_fields, down_pos, HasValue, odd_sign, fin}
 use Rattle.singles.specs.Ranges.{exponent, is_negative, magnitude}
 use Rattle.singles.specs.Tables.{exceeds_by, exceeds, units}

@@ -1,6 +1,6 @@
 -- Every cell of the tables, at both signs and at the ends of what it is for. The numbers are our own, but PAVGUSB's, which are 003's: for the others
 -- the manuals have none. Both halves of a register are examples.
-use Rattle.basis.specs.Names.{ℕ, Bool, true, false, ◌&&◌, List, [], ◌∷◌, eqb}
+use Rattle.std.specs.Prelude.{ℕ, Bool, true, false, ◌&&◌, List, [], ◌∷◌, eqb}
 use Rattle.singles.specs.Siblings.{Sibling, PF2IW, PI2FW, PSWAPD, PAVGUSB, PFCMPGT, PFMAX, leave}
 use Rattle.singles.specs.declared.answers.Answer.{Answer}
 use Rattle.singles.specs.declared.answers.Answer.TheVariants.{Leaves, Fails}

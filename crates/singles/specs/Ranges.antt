@@ -1,5 +1,5 @@
 -- 003, Table 1: a half of a register is a sign bit, eight bits of biased exponent and 23 of fraction, and is sorted by its exponent alone.
-use Rattle.basis.specs.Names.{ℕ, ◌/◌, ◌%◌, ◌^◌, Bool, cond, eqb, leb}
+use Rattle.std.specs.Prelude.{ℕ, ◌/◌, ◌%◌, ◌^◌, Bool, cond, eqb, leb}
 
 abbrev pub exponent : ℕ → ℕ
 exponent half = half / 2 ^ 23 % 2 ^ 8

@@ -1,6 +1,6 @@
 -- The instructions on pairs of single-precision numbers, and those that come with them: what each leaves of its destination and its source, and where
 -- it leaves nothing. Those of 000 stand before those of 003, each in the manual's order.
-use Rattle.basis.specs.Names.{ℕ, ◌+◌, ◌*◌, ◌^◌, Bool, true, false, ◌||◌}
+use Rattle.std.specs.Prelude.{ℕ, ◌+◌, ◌*◌, ◌^◌, Bool, true, false, ◌||◌}
 use Rattle.lanes.specs.Lane.{lane}
 use Rattle.lanes.specs.Operations.{PAVGB, operate}
 use Rattle.singles.specs.Ranges.{Range, zero_range, normal_range, unsupported_range, range_of}

@@ -1,6 +1,7 @@
 -- What the manuals' tables give for a half: 003's Tables 10 and 11, rows source 1, which is the destination, and columns source 2; 000's Table 3; and
 -- PI2FW, which has none.
-use Rattle.basis.specs.Names.{ℕ, ◌+◌, ◌-◌, ◌*◌, ◌/◌, ◌%◌, ◌^◌, Bool, true, false, cond, ltb, binary32, to_bits, of_int}
+use Rattle.std.specs.Prelude.{ℕ, ◌+◌, ◌-◌, ◌*◌, ◌/◌, ◌%◌, ◌^◌, Bool, true, false, cond, ltb}
+use Rattle.basis.specs.Names.{binary32, to_bits, of_int}
 use Rattle.lanes.specs.Signed.{signed}
 use Rattle.singles.specs.Ranges.{exponent, Range, zero_range, normal_range, unsupported_range, range_of, is_negative, magnitude}
 use Rattle.singles.specs.declared.tables.Half.{Half}

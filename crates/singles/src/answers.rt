@@ -1,5 +1,5 @@
 // What is left of two halves.
-ghost use Rattle.basis.specs.Names.{◌≡◌};
+ghost use Rattle.std.specs.Prelude.{◌≡◌};
 ghost use Rattle.singles.specs.Siblings.{both};
 
 use crate::halves::joined;

@@ -1,5 +1,5 @@
 // What a half is to the tables.
-ghost use Rattle.basis.specs.Names.{◌≡◌};
+ghost use Rattle.std.specs.Prelude.{◌≡◌};
 ghost use Rattle.singles.specs.inner.Numbers.{sort};
 
 #[derive(Drop)]

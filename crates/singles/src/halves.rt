@@ -1,5 +1,6 @@
 // The two halves of a register, and the single-precision numbers that they stand for.
-ghost use Rattle.basis.specs.Names.{◌≡◌, binary32, of_bits};
+ghost use Rattle.std.specs.Prelude.{◌≡◌};
+ghost use Rattle.basis.specs.Names.{binary32, of_bits};
 ghost use Rattle.lanes.specs.Lane.{lane};
 ghost use Rattle.singles.specs.Siblings.{join};
 

@@ -7,7 +7,7 @@ mod halves;
 mod tables;
 mod words;
 
-ghost use Rattle.basis.specs.Names.{◌≡◌};
+ghost use Rattle.std.specs.Prelude.{◌≡◌};
 ghost use Rattle.singles.specs.Siblings.{pf2iw, pi2fw, pswapd, pfcmpgt, pfmax};
 
 pub use answers::Answer;

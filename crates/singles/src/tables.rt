@@ -1,5 +1,5 @@
 // The manuals' tables, over the classes of halves.
-ghost use Rattle.basis.specs.Names.{◌≡◌, cond};
+ghost use Rattle.std.specs.Prelude.{◌≡◌, cond};
 ghost use Rattle.singles.specs.declared.tables.Half.TheVariants.{Made};
 ghost use Rattle.singles.specs.inner.Numbers.{greater, maximum, word};
 

@@ -1,5 +1,5 @@
 // Single-precision numbers to signed words, and signed words to single-precision numbers.
-ghost use Rattle.basis.specs.Names.{◌≡◌};
+ghost use Rattle.std.specs.Prelude.{◌≡◌};
 ghost use Rattle.singles.specs.Tables.{single_of};
 ghost use Rattle.singles.specs.inner.Numbers.{rounded};
 

@@ -1,7 +1,8 @@
 -- Each answer to a question is given exactly where it is due: so the pair is said not to meet exactly where it does not, by 01's rule; and swapping
 -- the two numbers changes nothing.
-use Rattle.basis.specs.Names.{◌≡◌, refl, ◌⊎◌, Bool, true, false, not, cond, ◌&&◌, ◌||◌, List, [], ◌∷◌, ◌++◌, Memᴰ as In, ℕ, zero, suc, ◌+◌, ◌<◌, ◌≤◌, eqb, leb, ltb, length}
-use Rattle.basis.proofs.Names.{sym, ap, ap₂, subst, subst₂, ◌∙◌, ◌↔◌, inl, inr, ⊎_elim, false≢true, Memᴰ-head as here, Memᴰ-tail as later, Memᴰ-not_nil as not-nil, Memᴰ-append_cases as append_cases, arith, dec_lt, dec_le, ℕ_discrete, eq-eqb, ne_eqb, le-leb, lt-leb, lt-ltb, le-ltb, or-true, not-true}
+use Rattle.std.specs.Prelude.{◌≡◌, refl, ◌⊎◌, Bool, true, false, not, cond, ◌&&◌, ◌||◌, List, [], ◌∷◌, ◌++◌, ℕ, zero, suc, ◌+◌, ◌<◌, ◌≤◌, eqb, leb, ltb, length, ◌↔◌}
+use Rattle.basis.specs.Names.{Memᴰ as In}
+use Rattle.basis.proofs.Names.{sym, ap, ap₂, subst, subst₂, ◌∙◌, inl, inr, ⊎_elim, false≢true, Memᴰ-head as here, Memᴰ-tail as later, Memᴰ-not_nil as not-nil, Memᴰ-append_cases as append_cases, arith, dec_lt, dec_le, ℕ_discrete, eq-eqb, ne_eqb, le-leb, lt-leb, lt-ltb, le-ltb, or-true, not-true}
 use Rattle.reorder.specs.Result.{Result, done}
 use Rattle.reorder.specs.Run.{Answer, finished, spent, stopped}
 use Rattle.reorder.specs.Footprint.{Footprint}

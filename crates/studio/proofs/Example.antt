@@ -1,5 +1,5 @@
 -- Questions with their answers: of the example block of demand 3, and of a block with EMMS, loop instructions and a jump. Computed.
-use Rattle.basis.specs.Names.{◌≡◌, refl, false, List, [], ◌∷◌, ℕ, replicate}
+use Rattle.std.specs.Prelude.{◌≡◌, refl, false, List, [], ◌∷◌, ℕ, replicate}
 use Rattle.lanes.specs.Lane.{lane, build, register}
 use Rattle.lanes.specs.Signed.{wrap, clamp, clamp_unsigned}
 use Rattle.lanes.specs.Rules.{packed, pairwise, sum_unsigned}

@@ -1,6 +1,7 @@
 -- All places: they are those that the machine has, and each is lower than all behind it.
-use Rattle.basis.specs.Names.{◌≡◌, List, [], ◌∷◌, Memᴰ as In, ℕ, zero, suc, ◌+◌, ◌-◌, ◌≤◌, ◌<◌}
-use Rattle.basis.proofs.Names.{sym, subst, subst₂, ◌↔◌, Memᴰ-head as here, Memᴰ-tail as later, add-sub_cancel_left, dec_lt, arith}
+use Rattle.std.specs.Prelude.{◌≡◌, List, [], ◌∷◌, ℕ, zero, suc, ◌+◌, ◌-◌, ◌≤◌, ◌<◌, ◌↔◌}
+use Rattle.basis.specs.Names.{Memᴰ as In}
+use Rattle.basis.proofs.Names.{sym, subst, subst₂, Memᴰ-head as here, Memᴰ-tail as later, add-sub_cancel_left, dec_lt, arith}
 use Rattle.manual.specs.Places.{Place, mmx, integer, byte, zero_mark}
 use Rattle.manual.proofs.Having.{HasPlace}
 use Rattle.studio.specs.Meetings.{all_places}

@@ -1,5 +1,6 @@
 -- When each answer to a question is due, in document 02's words, with 01's rule for what meets.
-use Rattle.basis.specs.Names.{◌≡◌, true, ◌⊎◌, List, Memᴰ as In, ℕ, ◌<◌, ◌≤◌}
+use Rattle.std.specs.Prelude.{◌≡◌, true, ◌⊎◌, List, ℕ, ◌<◌, ◌≤◌}
+use Rattle.basis.specs.Names.{Memᴰ as In}
 use Rattle.reorder.specs.Result.{done}
 use Rattle.reorder.specs.Run.{Answer, finished, spent, stopped}
 use Rattle.reorder.specs.Footprint.{Footprint}

@@ -1,5 +1,5 @@
 -- The refusal numbers of a studio's questions, from document 02's Req 02 and Req 07.
-use Rattle.basis.specs.Names.{ℕ}
+use Rattle.std.specs.Prelude.{ℕ}
 
 -- two equal instruction numbers, or one that is not below the count
 abbrev pub numbers_wrong : ℕ

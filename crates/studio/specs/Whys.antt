@@ -1,5 +1,5 @@
 -- Why two instructions of a block cannot change places: 30, then the run's own answer where it is not done, then 29, then where they meet, and how.
-use Rattle.basis.specs.Names.{cond, ◌||◌, List, ℕ, eqb, leb, ltb, length}
+use Rattle.std.specs.Prelude.{cond, ◌||◌, List, ℕ, eqb, leb, ltb, length}
 use Rattle.reorder.specs.Run.{Answer, finished, spent, stopped}
 use Rattle.manual.specs.State.{State}
 use Rattle.manual.specs.Runs.{run_of, reaches_jump}

@@ -1,5 +1,5 @@
 // A run that is taken in parts: it goes on from where it was spent, and between two parts the footprint of the step that it has come to is traced.
-ghost use Rattle.basis.specs.Names.{◌≡◌};
+ghost use Rattle.std.specs.Prelude.{◌≡◌};
 ghost use Rattle.machine.specs.Footprints.{paper_of_footprint, masked_at};
 ghost use Rattle.machine.specs.Runs.{paper_of_run};
 ghost use Rattle.machine.specs.State.{state_of};

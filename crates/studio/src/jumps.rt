@@ -1,5 +1,5 @@
 // Whether a block has a jump.
-ghost use Rattle.basis.specs.Names.{◌≡◌};
+ghost use Rattle.std.specs.Prelude.{◌≡◌};
 ghost use Rattle.manual.specs.Runs.{reaches_jump};
 
 use codec::refusals::LONGEST_CODE;

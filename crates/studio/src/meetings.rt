@@ -1,6 +1,6 @@
 // Where two instructions meet, the earlier first, and how. Places go by their numbers in document 02's order: the MMX registers are 0 to 7, the
 // integer registers 8 to 15, the memory bytes 16 and so on, and behind them is the zero mark.
-ghost use Rattle.basis.specs.Names.{◌≡◌, ◌+◌, ◌≤◌, min};
+ghost use Rattle.std.specs.Prelude.{◌≡◌, ◌+◌, ◌≤◌, min};
 ghost use Rattle.manual.specs.State.{longest_memory};
 ghost use Rattle.studio.specs.Meetings.{paper_of_place, paper_of_meeting};
 ghost use Rattle.studio.specs.inner.Meetings.{place_at, Least, in_mask, in_both, shared_at, named_by, lowest_in, meeting_in, meeting_by};

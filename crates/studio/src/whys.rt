@@ -1,5 +1,5 @@
 // Why two instructions of a block cannot change places.
-ghost use Rattle.basis.specs.Names.{◌≡◌, true, min, ◌≤◌};
+ghost use Rattle.std.specs.Prelude.{◌≡◌, true, min, ◌≤◌};
 ghost use Rattle.manual.specs.Runs.{has_no_jump};
 ghost use Rattle.machine.specs.State.{state_of};
 ghost use Rattle.studio.specs.Whys.{budget, paper_of_asked, asked, why_not};

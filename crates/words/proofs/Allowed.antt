@@ -1,6 +1,6 @@
 -- Any two answers that the contract of a public function allows at one input are equal, and so is what they leave in the lent buffer:
 -- both are what the definition says.
-use Rattle.basis.specs.Names.{◌≡◌, refl}
+use Rattle.std.specs.Prelude.{◌≡◌, refl}
 use Rattle.basis.proofs.Names.{sym, ◌∙◌}
 use contract.Lifetimes.{Lfts}
 use borrow.Fn.Kinds.{Dens, res_t, ended_of}

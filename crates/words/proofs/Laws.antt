@@ -1,5 +1,6 @@
 -- A load and a store go byte by byte: what a load reads is the bytes from its place on, what a store leaves is the buffer with its bytes put there.
-use Rattle.basis.specs.Names.{◌≡◌, refl, Bool, true, false, cond, ◌&&◌, List, [], ◌∷◌, ◌++◌, ℕ, zero, suc, ◌+◌, ◌≤◌, ◌<◌, ◌^◌, leb, length, get_or, set, take, drop, sets}
+use Rattle.std.specs.Prelude.{◌≡◌, refl, Bool, true, false, cond, ◌&&◌, List, [], ◌∷◌, ◌++◌, ℕ, zero, suc, ◌+◌, ◌≤◌, ◌<◌, ◌^◌, leb, length, get_or, set, take, drop}
+use Rattle.basis.specs.Names.{sets}
 use Rattle.basis.proofs.Names.{sym, ap, ◌∙◌, false≢true, add-zero, add-suc, suc-add, one-le-pow, add-one, arith, le-leb, leb-true, sets-eq, drop-cons}
 use Rattle.words.specs.Number.{AllBytes, number, bytes}
 use Rattle.words.specs.Buffer.{inside, loaded, stored}

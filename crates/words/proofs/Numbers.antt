@@ -1,5 +1,5 @@
 -- A number and its bytes: each is got back from the other, digit by digit to the base 256.
-use Rattle.basis.specs.Names.{◌≡◌, refl, List, [], ◌∷◌, ◌++◌, ℕ, zero, suc, ◌+◌, ◌*◌, ◌/◌, ◌%◌, ◌^◌, ◌≤◌, ◌<◌, length, take, drop}
+use Rattle.std.specs.Prelude.{◌≡◌, refl, List, [], ◌∷◌, ◌++◌, ℕ, zero, suc, ◌+◌, ◌*◌, ◌/◌, ◌%◌, ◌^◌, ◌≤◌, ◌<◌, length, take, drop}
 use Rattle.basis.proofs.Names.{sym, ap, ◌∙◌, subst, pow-suc, one-le-pow, mod-one, mod-eq_of_lt, le_trans, pow-le-pow_right, arith, mod-mul, length-take, get_or-drop}
 use Rattle.words.specs.Number.{AllBytes, number, bytes}
 

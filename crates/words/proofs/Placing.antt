@@ -1,5 +1,6 @@
 -- Rules for the functions: what the tests of a place tell, and the bytes that are got and put there one by one, turn by turn.
-use Rattle.basis.specs.Names.{◌≡◌, Bool, true, false, not, List, ℕ, suc, ◌+◌, ◌*◌, ◌-◌, ◌/◌, ◌%◌, ◌<◌, ◌≤◌, ◌^◌, leb, length, get_or, set, sets}
+use Rattle.std.specs.Prelude.{◌≡◌, Bool, true, false, not, List, ℕ, suc, ◌+◌, ◌*◌, ◌-◌, ◌/◌, ◌%◌, ◌<◌, ◌≤◌, ◌^◌, leb, length, get_or, set}
+use Rattle.basis.specs.Names.{sets}
 use Rattle.basis.proofs.Names.{sym, ◌∙◌, dec_le, add-zero, sub_self, sub-zero, pow-le-pow_right, arith, rules, le-leb, lt-leb, not-true, not-false}
 use mir.Syntax.{w8}
 use mir.Val.{Fits}

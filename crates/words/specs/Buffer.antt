@@ -1,5 +1,5 @@
 -- A number of up to 8 bytes in a buffer: what is read at a place, and what a store leaves.
-use Rattle.basis.specs.Names.{Bool, cond, ◌&&◌, List, ◌++◌, ℕ, ◌+◌, leb, length, take, drop}
+use Rattle.std.specs.Prelude.{Bool, cond, ◌&&◌, List, ◌++◌, ℕ, ◌+◌, leb, length, take, drop}
 use Rattle.words.specs.Number.{number, bytes}
 
 -- at most 8 bytes, and all of them in a buffer of so many (`room`)

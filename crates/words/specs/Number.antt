@@ -1,5 +1,5 @@
 -- A number and its bytes, the least significant first.
-use Rattle.basis.specs.Names.{List, [], ◌∷◌, ℕ, zero, suc, ◌+◌, ◌*◌, ◌/◌, ◌%◌, ◌<◌, get_or}
+use Rattle.std.specs.Prelude.{List, [], ◌∷◌, ℕ, zero, suc, ◌+◌, ◌*◌, ◌/◌, ◌%◌, ◌<◌, get_or}
 
 -- each is a byte (past the end stands 0)
 abbrev pub AllBytes : List ℕ → Type 0

@@ -2,7 +2,8 @@
 // are read as 0, and are not written.
 #![tactic(auto)]
 
-ghost use Rattle.basis.specs.Names.{◌≡◌, ◌+◌, ◌≤◌, length, sets};
+ghost use Rattle.std.specs.Prelude.{◌≡◌, ◌+◌, ◌≤◌, length};
+ghost use Rattle.basis.specs.Names.{sets};
 ghost use Rattle.words.specs.Number.{number, bytes};
 ghost use Rattle.words.specs.Buffer.{inside, loaded, stored};
 ghost use Rattle.words.specs.inner.Bytewise.{gets};

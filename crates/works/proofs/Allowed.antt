@@ -1,5 +1,5 @@
 -- Any two answers that a contract allows at one input are equal: both are what the definition says; and so is what they leave in what is lent.
-use Rattle.basis.specs.Names.{◌≡◌}
+use Rattle.std.specs.Prelude.{◌≡◌}
 use Rattle.basis.proofs.Names.{sym, ap, ◌∙◌}
 use contract.Lifetimes.{Lfts}
 use borrow.Fn.Kinds.{Dens, res_t, ended_of}

@@ -1,5 +1,5 @@
 -- The works of 3DNow's instructions, by their suffixes. Rules for the functions that make them.
-use Rattle.basis.specs.Names.{◌≡◌, refl, ℕ, eqb}
+use Rattle.std.specs.Prelude.{◌≡◌, refl, ℕ, eqb}
 use Rattle.basis.proofs.Names.{sym, ap, ap₂, ◌∙◌, rules, ne_eqb, eqb-true}
 use Rattle.lanes.specs.Operations.{described, MOVE, PAVGB}
 use Rattle.singles.specs.Siblings.{Sibling, PF2IW, PI2FW, PSWAPD, PAVGUSB, PFCMPGT, PFMAX, pf2iw, pi2fw, pswapd, pfcmpgt, pfmax, leave}

@@ -1,5 +1,5 @@
 -- What the code leaves is what its work leaves, by what is to be done.
-use Rattle.basis.specs.Names.{◌≡◌, Bool, true, false, List, ℕ, ◌%◌, ◌^◌, ◌<◌, ◌≤◌, eqb, get_or, set}
+use Rattle.std.specs.Prelude.{◌≡◌, Bool, true, false, List, ℕ, ◌%◌, ◌^◌, ◌<◌, ◌≤◌, eqb, get_or, set}
 use Rattle.basis.proofs.Names.{rules, ne_eqb, le-leb, lt-leb}
 use Rattle.lanes.specs.Operations.{operation_of, operate}
 use Rattle.words.specs.Buffer.{stored}

@@ -1,5 +1,6 @@
 -- The sign of a byte.
-use Rattle.basis.specs.Names.{◌≡◌, refl, ℕ, ◌+◌, ◌%◌, ◌^◌, ◌<◌, bit_xor}
+use Rattle.std.specs.Prelude.{◌≡◌, refl, ℕ, ◌+◌, ◌%◌, ◌^◌, ◌<◌}
+use Rattle.basis.specs.Names.{bit_xor}
 use Rattle.basis.proofs.Names.{◌∙◌, dite, dec_le, arith, rules, le-leb, lt-leb}
 use Rattle.lanes.proofs.TopBits.{turn_low, turn_high}
 use Rattle.manual.specs.Addresses.{signed_byte}

@@ -1,5 +1,5 @@
 -- Where a jump leads: back where 256 more than its signed byte is below 256, else forward. Rules without a sum that could wrap.
-use Rattle.basis.specs.Names.{◌≡◌, cond, ℕ, ◌+◌, ◌-◌, ◌≤◌, ◌<◌, leb}
+use Rattle.std.specs.Prelude.{◌≡◌, cond, ℕ, ◌+◌, ◌-◌, ◌≤◌, ◌<◌, leb}
 use Rattle.basis.proofs.Names.{ap, arith, rules, le-leb, lt-leb}
 use Rattle.reorder.specs.Result.{done, refused}
 use Rattle.manual.specs.Refusals.{jumps_outside}

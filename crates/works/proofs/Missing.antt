@@ -1,5 +1,6 @@
 -- Which refusal an operand has that misses the memory, by its base register. Rules for the functions of misses.
-use Rattle.basis.specs.Names.{◌≡◌, Bool, true, false, not, cond, ◌&&◌, none, some, ℕ, eqb}
+use Rattle.std.specs.Prelude.{◌≡◌, Bool, true, false, not, cond, ◌&&◌, ℕ, eqb}
+use Rattle.basis.specs.Names.{none, some}
 use Rattle.basis.proofs.Names.{◌∙◌, and-false, or-true, arith, rules, eq-eqb, ne_eqb}
 use Rattle.codec.specs.Operands.{has_sib}
 use Rattle.codec.specs.declared.Operand.{Operand}

@@ -1,6 +1,6 @@
 -- The control marks in their order, EM before TS before pending, and the table that goes with them; the bytes of an operand below the memory's
 -- length.
-use Rattle.basis.specs.Names.{◌≡◌, refl, Bool, true, false, ℕ, ◌+◌, ◌-◌, ◌≤◌, ◌<◌, leb, List, replicate}
+use Rattle.std.specs.Prelude.{◌≡◌, refl, Bool, true, false, ℕ, ◌+◌, ◌-◌, ◌≤◌, ◌<◌, leb, List, replicate}
 use Rattle.basis.proofs.Names.{sym, ◌∙◌, arith, rules, ne_eqb, le-leb, lt-leb, leb-true, leb-false}
 use Rattle.codec.specs.Table.{opcode_table}
 use Rattle.manual.specs.declared.Marks.{Marks}

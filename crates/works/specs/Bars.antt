@@ -1,5 +1,5 @@
 -- The control marks, by the one number that they refuse by, and the table that goes with it.
-use Rattle.basis.specs.Names.{cond, List, ℕ, eqb, replicate}
+use Rattle.std.specs.Prelude.{cond, List, ℕ, eqb, replicate}
 use Rattle.codec.specs.Table.{opcode_table}
 use Rattle.manual.specs.declared.Marks.{Marks}
 use Rattle.manual.specs.Refusals.{invalid_opcode, not_available, is_pending}

@@ -1,5 +1,5 @@
 -- Where a jump leads, as the paper's answer.
-use Rattle.basis.specs.Names.{ℕ}
+use Rattle.std.specs.Prelude.{ℕ}
 use Rattle.reorder.specs.Result.{Result, done, refused}
 use Rattle.works.specs.declared.jumps.Target.{Target}
 use Rattle.works.specs.declared.jumps.Target.TheVariants.{At, Refused}

@@ -1,5 +1,5 @@
 -- What remains of one of 3DNow's instructions, when its operands are gathered.
-use Rattle.basis.specs.Names.{cond, ℕ, eqb}
+use Rattle.std.specs.Prelude.{cond, ℕ, eqb}
 use Rattle.lanes.specs.Operations.{described, MOVE, PAVGB}
 use Rattle.singles.specs.Siblings.{Sibling, PF2IW, PI2FW, PSWAPD, PAVGUSB, PFCMPGT, PFMAX, leave}
 use Rattle.singles.specs.declared.answers.Answer.{Answer}

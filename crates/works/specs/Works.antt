@@ -1,5 +1,5 @@
 -- What remains to be done of an instruction, as plain numbers, and what doing it leaves.
-use Rattle.basis.specs.Names.{Bool, true, false, cond, List, ℕ, ◌%◌, ◌^◌, eqb, leb, get_or, set}
+use Rattle.std.specs.Prelude.{Bool, true, false, cond, List, ℕ, ◌%◌, ◌^◌, eqb, leb, get_or, set}
 use Rattle.lanes.specs.Operations.{operation_of, operate}
 use Rattle.words.specs.Buffer.{stored}
 use Rattle.manual.specs.Refusals.{below_floor}

@@ -1,5 +1,5 @@
 // The control marks, by the one number that they refuse by, and the table that goes with it.
-ghost use Rattle.basis.specs.Names.{◌≡◌};
+ghost use Rattle.std.specs.Prelude.{◌≡◌};
 ghost use Rattle.works.specs.Bars.{barred_by, open_table};
 
 use crate::refusals::{INVALID_OPCODE, IS_PENDING, NOT_AVAILABLE};

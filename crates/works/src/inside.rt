@@ -1,5 +1,5 @@
 // The test of an operand's bytes.
-ghost use Rattle.basis.specs.Names.{◌≡◌, ◌+◌, leb};
+ghost use Rattle.std.specs.Prelude.{◌≡◌, ◌+◌, leb};
 
 // Whether so many bytes from an address on are all below the memory's length.
 pub fn is_inside(room: usize, address: usize, size: usize) -> bool

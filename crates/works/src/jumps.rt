@@ -1,5 +1,5 @@
 // Where a jump leads.
-ghost use Rattle.basis.specs.Names.{◌≡◌, cond, ◌+◌, leb};
+ghost use Rattle.std.specs.Prelude.{◌≡◌, cond, ◌+◌, leb};
 ghost use Rattle.manual.specs.Jumps.{jumped};
 ghost use Rattle.works.specs.Jumps.{paper_of_target};
 

@@ -11,7 +11,7 @@ pub mod refusals;
 mod siblings;
 mod signs;
 
-ghost use Rattle.basis.specs.Names.{◌≡◌};
+ghost use Rattle.std.specs.Prelude.{◌≡◌};
 ghost use Rattle.works.specs.Works.{work_of, refused_work};
 
 pub use bars::{barred, table};

@@ -1,5 +1,5 @@
 // The refusal of an operand in memory that misses it: by its base register.
-ghost use Rattle.basis.specs.Names.{◌≡◌};
+ghost use Rattle.std.specs.Prelude.{◌≡◌};
 ghost use Rattle.manual.specs.Addresses.{base_of, address_of, is_stack_base};
 ghost use Rattle.manual.specs.Locations.{miss_of};
 

@@ -1,5 +1,5 @@
 // What remains of an instruction is done, over lent registers and a lent memory.
-ghost use Rattle.basis.specs.Names.{◌≡◌, ◌%◌, ◌^◌, ◌<◌, set};
+ghost use Rattle.std.specs.Prelude.{◌≡◌, ◌%◌, ◌^◌, ◌<◌, set};
 ghost use Rattle.works.specs.Works.{left, left_by};
 
 use crate::refusals::BELOW_FLOOR;

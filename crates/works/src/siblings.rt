@@ -1,5 +1,5 @@
 // What remains of one of 3DNow's instructions, by its suffix: an operation on its register, or it is refused.
-ghost use Rattle.basis.specs.Names.{◌≡◌};
+ghost use Rattle.std.specs.Prelude.{◌≡◌};
 ghost use Rattle.codec.specs.Opcodes.{suffixed_of};
 ghost use Rattle.works.specs.Siblings.{value_left, operation_left, answered_work, sibling_work, suffixed_work};
 

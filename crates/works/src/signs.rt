@@ -1,5 +1,5 @@
 // A byte with its sign.
-ghost use Rattle.basis.specs.Names.{◌≡◌, ◌%◌, ◌^◌};
+ghost use Rattle.std.specs.Prelude.{◌≡◌, ◌%◌, ◌^◌};
 ghost use Rattle.manual.specs.Addresses.{signed_byte};
 
 // A byte's top bit, and what extends the sign of a byte with that bit turned over.

@@ -1,5 +1,5 @@
 -- `table` meets its contract: the entries that the list asks for compute to the constant, number by number.
-use Rattle.basis.specs.Names.{refl}
+use Rattle.std.specs.Prelude.{refl}
 use Rattle.codec.specs.Table.{opcode_table}
 use Rattle.codec.specs.Opcodes.{form_at, operation_at}
 use Rattle.codec.proofs.table.Statement.{statement}

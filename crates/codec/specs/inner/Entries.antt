@@ -1,5 +1,5 @@
 -- What the code has of an entry: the operation that it names, and what is found after an opcode.
-use Rattle.basis.specs.Names.{ℕ, ◌/◌, ◌%◌, ◌^◌, List, Bool, true, false, ◌&&◌, cond, eqb, drop}
+use Rattle.std.specs.Prelude.{ℕ, ◌/◌, ◌%◌, ◌^◌, List, Bool, true, false, ◌&&◌, cond, eqb, drop}
 use Rattle.lanes.specs.Operations.{Operation, PSRLW, PSRLD, PSRLQ, PSRAW, PSRAD, PSLLW, PSLLD, PSLLQ, KEEP, operation_of}
 use Rattle.codec.specs.Refusals.{not_listed}
 use Rattle.codec.specs.Forms.{Form, mmreg1←mmreg2/mem64+imm8, mmreg1·mmreg2/mem64+suffix, is_any, accepts}

@@ -1,5 +1,5 @@
 -- What the code knows of an instruction's fields: they fit their places, and how many bytes they take.
-use Rattle.basis.specs.Names.{ℕ, ◌+◌, ◌≤◌, ◌<◌, ◌≡◌, length}
+use Rattle.std.specs.Prelude.{ℕ, ◌+◌, ◌≤◌, ◌<◌, ◌≡◌, length}
 use Rattle.codec.specs.Operands.{displacement_size}
 use Rattle.codec.specs.Writes.{sib_bytes}
 use Rattle.codec.specs.declared.Operand.{Operand}

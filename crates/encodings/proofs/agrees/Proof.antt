@@ -1,5 +1,5 @@
 -- `agrees` is safe and ends: its counter stays within the room, and what is left of it falls.
-use Rattle.basis.specs.Names.{◌≤◌, ◌-◌}
+use Rattle.std.specs.Prelude.{◌≤◌, ◌-◌}
 use Rattle.basis.proofs.Names.{rules}
 use Rattle.encodings.proofs.agrees.Statement.{statement}
 use Rattle.encodings.proofs.agrees.Tie as tie

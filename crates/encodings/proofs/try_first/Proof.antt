@@ -1,5 +1,5 @@
 -- `try_first` is safe and ends: the byte behind the first goes up to 255.
-use Rattle.basis.specs.Names.{◌≤◌, ◌-◌}
+use Rattle.std.specs.Prelude.{◌≤◌, ◌-◌}
 use Rattle.basis.proofs.Names.{rules}
 use Rattle.encodings.proofs.try_first.Statement.{statement}
 use Rattle.encodings.proofs.try_first.Tie as tie

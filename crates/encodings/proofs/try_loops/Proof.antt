@@ -1,5 +1,5 @@
 -- `try_loops` is safe and ends: the first byte goes up to 255.
-use Rattle.basis.specs.Names.{◌≤◌, ◌-◌}
+use Rattle.std.specs.Prelude.{◌≤◌, ◌-◌}
 use Rattle.basis.proofs.Names.{rules}
 use Rattle.encodings.proofs.try_loops.Statement.{statement}
 use Rattle.encodings.proofs.try_loops.Tie as tie

@@ -1,5 +1,5 @@
 -- `try_modrm` is safe and ends: the SIB byte goes up to 255.
-use Rattle.basis.specs.Names.{◌≤◌, ◌-◌}
+use Rattle.std.specs.Prelude.{◌≤◌, ◌-◌}
 use Rattle.basis.proofs.Names.{rules}
 use Rattle.encodings.proofs.try_modrm.Statement.{statement}
 use Rattle.encodings.proofs.try_modrm.Tie as tie

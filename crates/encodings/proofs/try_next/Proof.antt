@@ -1,5 +1,5 @@
 -- `try_next` is safe and ends: the immediate goes up to 255.
-use Rattle.basis.specs.Names.{◌≤◌, ◌-◌}
+use Rattle.std.specs.Prelude.{◌≤◌, ◌-◌}
 use Rattle.basis.proofs.Names.{rules}
 use Rattle.encodings.proofs.try_next.Statement.{statement}
 use Rattle.encodings.proofs.try_next.Tie as tie

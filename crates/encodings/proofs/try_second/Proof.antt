@@ -1,5 +1,5 @@
 -- `try_second` is safe and ends: the ModRM byte goes up to 255.
-use Rattle.basis.specs.Names.{◌≤◌, ◌-◌}
+use Rattle.std.specs.Prelude.{◌≤◌, ◌-◌}
 use Rattle.basis.proofs.Names.{rules}
 use Rattle.encodings.proofs.try_second.Statement.{statement}
 use Rattle.encodings.proofs.try_second.Tie as tie

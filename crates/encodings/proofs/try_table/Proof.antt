@@ -1,5 +1,5 @@
 -- `try_table` is safe and ends: the second byte goes up to 255.
-use Rattle.basis.specs.Names.{◌≤◌, ◌-◌}
+use Rattle.std.specs.Prelude.{◌≤◌, ◌-◌}
 use Rattle.basis.proofs.Names.{rules}
 use Rattle.encodings.proofs.try_table.Statement.{statement}
 use Rattle.encodings.proofs.try_table.Tie as tie

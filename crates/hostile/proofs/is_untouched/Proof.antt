@@ -1,5 +1,5 @@
 -- `is_untouched` is safe and ends: each turn looks at one byte more.
-use Rattle.basis.specs.Names.{◌-◌, ◌≤◌, length}
+use Rattle.std.specs.Prelude.{◌-◌, ◌≤◌, length}
 use Rattle.basis.proofs.Names.{rules}
 use Rattle.hostile.proofs.is_untouched.Statement.{statement}
 use Rattle.hostile.proofs.is_untouched.Tie as tie

@@ -1,5 +1,5 @@
 -- `tally` is safe and ends: each turn plays one file more, and the buffer keeps its length.
-use Rattle.basis.specs.Names.{◌≡◌, ◌-◌, ◌≤◌, length}
+use Rattle.std.specs.Prelude.{◌≡◌, ◌-◌, ◌≤◌, length}
 use Rattle.basis.proofs.Names.{rules}
 use Rattle.hostile.proofs.tally.Statement.{statement}
 use Rattle.hostile.proofs.tally.Tie as tie

@@ -1,5 +1,5 @@
 -- `write_table` is safe and ends: the answer goes up to their number.
-use Rattle.basis.specs.Names.{◌-◌, ◌≤◌}
+use Rattle.std.specs.Prelude.{◌-◌, ◌≤◌}
 use Rattle.basis.proofs.Names.{rules}
 use Rattle.hostile.proofs.write_table.Statement.{statement}
 use Rattle.hostile.proofs.write_table.Tie as tie

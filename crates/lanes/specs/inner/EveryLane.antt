@@ -1,6 +1,6 @@
 -- Registers by what stands in every lane: one number, the lowest bit, all bits but the top bit, the top bit of another register's lane, or the end of
 -- the signed range on that lane's side.
-use Rattle.basis.specs.Names.{ℕ, ◌+◌, ◌-◌, ◌^◌}
+use Rattle.std.specs.Prelude.{ℕ, ◌+◌, ◌-◌, ◌^◌}
 use Rattle.lanes.specs.Lane.{register, top_bit}
 
 -- x in every lane

@@ -1,5 +1,5 @@
 -- Rules of lanes that change places, and of two registers' lanes in turn.
-use Rattle.basis.specs.Names.{ℕ, ◌+◌, ◌*◌, ◌/◌, ◌%◌, ℤ}
+use Rattle.std.specs.Prelude.{ℕ, ◌+◌, ◌*◌, ◌/◌, ◌%◌, ℤ}
 use Rattle.lanes.specs.Lane.{lane}
 use Rattle.lanes.specs.Signed.{signed, wrap}
 use Rattle.lanes.specs.Rules.{unpack}

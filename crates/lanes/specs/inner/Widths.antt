@@ -1,5 +1,5 @@
 -- Which lanes lie in a register, and which widths fill it.
-use Rattle.basis.specs.Names.{◌≡◌, ℕ, ◌+◌, ◌*◌, ◌/◌, ◌≤◌}
+use Rattle.std.specs.Prelude.{◌≡◌, ℕ, ◌+◌, ◌*◌, ◌/◌, ◌≤◌}
 
 -- lane i lies in the register
 abbrev pub Within : ℕ → ℕ → Type 0

@@ -1,5 +1,5 @@
 -- What the code knows of an instruction of loops, and what it makes of one.
-use Rattle.basis.specs.Names.{◌≡◌, true, cond, List, ℕ, ◌/◌, ◌%◌, ◌^◌, ◌≤◌, eqb}
+use Rattle.std.specs.Prelude.{◌≡◌, true, cond, List, ℕ, ◌/◌, ◌%◌, ◌^◌, ◌≤◌, eqb}
 use Rattle.reorder.specs.Result.{Result, done, refused}
 use Rattle.codec.specs.declared.Instruction.{Instruction}
 use Rattle.codec.specs.declared.Kind.TheVariants.{Loop}

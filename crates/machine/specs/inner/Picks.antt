@@ -1,5 +1,5 @@
 -- The works of the instructions that pick lanes.
-use Rattle.basis.specs.Names.{cond, List, ℕ, eqb, length}
+use Rattle.std.specs.Prelude.{cond, List, ℕ, eqb, length}
 use Rattle.lanes.specs.Operations.{operate, operate_three, described, MOVE, PINSRW, PSHUFW, PEXTRW, PMOVMSKB, MASKMOVQ}
 use Rattle.words.specs.Buffer.{loaded}
 use Rattle.manual.specs.Refusals.{outside_memory}

@@ -1,5 +1,5 @@
 -- What the code knows of an operand in memory when it has read its bytes.
-use Rattle.basis.specs.Names.{◌≡◌, List, ℕ, ◌+◌, ◌%◌, ◌^◌, ◌≤◌, length, take, drop}
+use Rattle.std.specs.Prelude.{◌≡◌, List, ℕ, ◌+◌, ◌%◌, ◌^◌, ◌≤◌, length, take, drop}
 use Rattle.words.specs.Number.{number}
 use Rattle.codec.specs.Forms.{Form}
 use Rattle.codec.specs.Operands.{operand_of}

@@ -1,5 +1,5 @@
 -- What the code knows of an instruction that it has read and gathered at once.
-use Rattle.basis.specs.Names.{◌≡◌, true, cond, List, [], ℕ, ◌+◌, ◌/◌, ◌%◌, ◌^◌, ◌≤◌, ◌<◌, leb, length, get_or, drop}
+use Rattle.std.specs.Prelude.{◌≡◌, true, cond, List, [], ℕ, ◌+◌, ◌/◌, ◌%◌, ◌^◌, ◌≤◌, ◌<◌, leb, length, get_or, drop}
 use Rattle.reorder.specs.Result.{done}
 use Rattle.codec.specs.Opcodes.{escape}
 use Rattle.words.specs.Buffer.{loaded}

@@ -1,5 +1,6 @@
 -- The footprint as the program makes it, in masks and ranges: first where an operand is, then what each way reads and writes.
-use Rattle.basis.specs.Names.{◌≡◌, false, cond, List, [], ℕ, ◌^◌, bit_or, eqb}
+use Rattle.std.specs.Prelude.{◌≡◌, false, cond, List, [], ℕ, ◌^◌, eqb}
+use Rattle.basis.specs.Names.{bit_or}
 use Rattle.reorder.specs.Result.{Result, done, refused, map_result}
 use Rattle.reorder.specs.Footprint.{footprint_in}
 use Rattle.codec.specs.declared.Kind.TheVariants.{Ordinary, Emms, Silent}

@@ -1,5 +1,5 @@
 -- The run from a position on, as the loop of the code takes it.
-use Rattle.basis.specs.Names.{List, ℕ}
+use Rattle.std.specs.Prelude.{List, ℕ}
 use Rattle.reorder.specs.Run.{Answer, run_from}
 use Rattle.manual.specs.State.{State}
 use Rattle.manual.specs.Instructions.{execute}

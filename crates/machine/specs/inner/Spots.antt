@@ -1,5 +1,5 @@
 -- Where the code finds the operand that r/m names.
-use Rattle.basis.specs.Names.{◌≡◌, cond, List, [], ◌∷◌, ℕ, ◌<◌}
+use Rattle.std.specs.Prelude.{◌≡◌, cond, List, [], ◌∷◌, ℕ, ◌<◌}
 use Rattle.codec.specs.Forms.{Use, File, mmx_file, Slot, reg, rm, rm/mem, mem, edi, fixed, opcode, zero_slot, memory_size}
 use Rattle.codec.specs.Table.{form_of}
 use Rattle.codec.specs.declared.Operand.{Operand}

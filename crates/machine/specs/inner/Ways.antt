@@ -1,5 +1,5 @@
 -- The way that an instruction goes, by its form's number, and what else a number tells.
-use Rattle.basis.specs.Names.{Bool, true, false, cond, ◌&&◌, ◌||◌, ℕ, eqb, leb, ltb}
+use Rattle.std.specs.Prelude.{Bool, true, false, cond, ◌&&◌, ◌||◌, ℕ, eqb, leb, ltb}
 use Rattle.codec.specs.Opcodes.{suffixed_of}
 use Rattle.machine.specs.declared.ways.Way.{Way}
 use Rattle.machine.specs.declared.ways.Way.TheVariants.{Empties, Passes, Shifts, Extracts, Stores, Loads, Computes, Suffixes, Inserts, Shuffles, Masks}

@@ -1,7 +1,7 @@
 -- The parts of the code's step in the words of the definitions: lent registers with marks are a machine, what remains to be done leaves a
 -- state, and how a step ended is an outcome.
-use Rattle.std.specs.Prelude.{◌≢◌}
-use Rattle.basis.specs.Names.{◌≡◌, Bool, true, cond, Option, none, some, List, [], ◌∷◌, ℕ, ◌/◌, ◌%◌, ◌^◌, ◌<◌, ◌≤◌, eqb, leb, length, get_or}
+use Rattle.std.specs.Prelude.{◌≢◌, ◌≡◌, Bool, true, cond, List, [], ◌∷◌, ℕ, ◌/◌, ◌%◌, ◌^◌, ◌<◌, ◌≤◌, eqb, leb, length, get_or}
+use Rattle.basis.specs.Names.{Option, none, some}
 use Rattle.lanes.specs.Operations.{Operation, operation_of, operate, described, MOVE, PINSRW, PSHUFW, PEXTRW, PMOVMSKB, MASKMOVQ}
 use Rattle.words.specs.Buffer.{loaded, stored}
 use Rattle.reorder.specs.Result.{Result}

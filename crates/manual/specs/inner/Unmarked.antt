@@ -1,5 +1,5 @@
 -- The step of an effect over a floor, whose control marks have been tested.
-use Rattle.basis.specs.Names.{ℕ}
+use Rattle.std.specs.Prelude.{ℕ}
 use Rattle.reorder.specs.Result.{Result}
 use Rattle.reorder.specs.Plan.{exec_by}
 use Rattle.manual.specs.State.{State}

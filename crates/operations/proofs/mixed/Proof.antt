@@ -1,5 +1,5 @@
 -- `mixed` is safe and ends: the rounds are counted up to the last.
-use Rattle.basis.specs.Names.{◌≤◌, ◌-◌}
+use Rattle.std.specs.Prelude.{◌≤◌, ◌-◌}
 use Rattle.basis.proofs.Names.{rules}
 use Rattle.operations.proofs.mixed.Statement.{statement}
 use Rattle.operations.proofs.mixed.Tie as tie

@@ -1,5 +1,5 @@
 -- `print_all` is safe and ends: the lines are counted up to the last.
-use Rattle.basis.specs.Names.{◌≤◌, ◌-◌}
+use Rattle.std.specs.Prelude.{◌≤◌, ◌-◌}
 use Rattle.basis.proofs.Names.{rules}
 use Rattle.operations.proofs.print_all.Statement.{statement}
 use Rattle.operations.proofs.print_all.Tie as tie

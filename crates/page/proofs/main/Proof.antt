@@ -1,5 +1,5 @@
 -- `main` is safe and ends: no more of the buffer is a page file than was read.
-use Rattle.basis.specs.Names.{ℕ, ◌≤◌, ◌≡◌, List, length, take}
+use Rattle.std.specs.Prelude.{ℕ, ◌≤◌, ◌≡◌, List, length, take}
 use Rattle.basis.proofs.Names.{sym, subst, length-take-le, rules}
 use Rattle.page.specs.inner.Inputs.{ReadWithin}
 use Rattle.page.specs.declared.Input.{Input}

@@ -1,5 +1,5 @@
 -- `read` is safe and ends: each turn that goes on has put a byte more.
-use Rattle.basis.specs.Names.{◌≤◌, ◌-◌, ◌≡◌, length}
+use Rattle.std.specs.Prelude.{◌≤◌, ◌-◌, ◌≡◌, length}
 use Rattle.basis.proofs.Names.{rules}
 use Rattle.page.proofs.read.Statement.{statement}
 use Rattle.page.proofs.read.Tie as tie

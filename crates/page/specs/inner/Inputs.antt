@@ -1,5 +1,5 @@
 -- What is said of the page program's input.
-use Rattle.basis.specs.Names.{ℕ, ◌≤◌, List, length}
+use Rattle.std.specs.Prelude.{ℕ, ◌≤◌, List, length}
 use Rattle.page.specs.declared.Input.{Input}
 use Rattle.page.specs.declared.Input.TheVariants.{Whole, Failed}
 

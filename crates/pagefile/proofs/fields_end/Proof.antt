@@ -1,6 +1,6 @@
 -- `fields_end` meets its contract: what remains from the place on is what the tags read so far leave.
 -- The measure is how many tags are to be read.
-use Rattle.basis.specs.Names.{◌≡◌, ◌-◌, ◌≤◌, length, drop}
+use Rattle.std.specs.Prelude.{◌≡◌, ◌-◌, ◌≤◌, length, drop}
 use Rattle.pagefile.specs.Parsing.{remaining}
 use Rattle.pagefile.proofs.Places.{places}
 use Rattle.pagefile.proofs.fields_end.Statement.{statement}

@@ -1,5 +1,5 @@
 -- `main` is safe and ends: each turn plays one argument more.
-use Rattle.basis.specs.Names.{◌-◌, ◌≤◌}
+use Rattle.std.specs.Prelude.{◌-◌, ◌≤◌}
 use Rattle.basis.proofs.Names.{rules}
 use Rattle.pages.proofs.main.Statement.{statement}
 use Rattle.pages.proofs.main.Tie as tie

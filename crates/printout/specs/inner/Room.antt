@@ -1,5 +1,6 @@
 -- Whether a text has room at a place of a buffer, and what putting it there leaves.
-use Rattle.basis.specs.Names.{◌≡◌, List, ℕ, ◌+◌, ◌*◌, ◌≤◌, length, sets}
+use Rattle.std.specs.Prelude.{◌≡◌, List, ℕ, ◌+◌, ◌*◌, ◌≤◌, length}
+use Rattle.basis.specs.Names.{sets}
 use Rattle.machine.specs.declared.End.{End}
 use Rattle.printout.specs.Lines.{first_line, memory_line}
 

@@ -1,5 +1,5 @@
 -- A run that is taken in parts.
-use Rattle.basis.specs.Names.{List, ℕ}
+use Rattle.std.specs.Prelude.{List, ℕ}
 use Rattle.reorder.specs.Result.{Result}
 use Rattle.reorder.specs.Run.{Fetched, Answer, finished, spent, stopped, run_from}
 

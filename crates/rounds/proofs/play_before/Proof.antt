@@ -1,5 +1,5 @@
 -- `play_before` is safe and ends: each turn is a round more, and the buffer keeps its length.
-use Rattle.basis.specs.Names.{◌-◌, ◌≡◌, length}
+use Rattle.std.specs.Prelude.{◌-◌, ◌≡◌, length}
 use Rattle.basis.proofs.Names.{rules}
 use Rattle.rounds.proofs.play_before.Statement.{statement}
 use Rattle.rounds.proofs.play_before.Tie as tie

@@ -1,5 +1,6 @@
 -- The same tables over the numbers that halves stand for.
-use Rattle.basis.specs.Names.{ℕ, ◌-◌, ◌^◌, cond, eqb, Float, binary32, of_bits, to_unsigned, neg, lt}
+use Rattle.std.specs.Prelude.{ℕ, ◌-◌, ◌^◌, cond, eqb, Float}
+use Rattle.basis.specs.Names.{binary32, of_bits, to_unsigned, neg, lt}
 use Rattle.singles.specs.Ranges.{exponent}
 use Rattle.singles.specs.declared.classes.Class.{Class}
 use Rattle.singles.specs.declared.classes.Class.TheVariants.{Zero, Normal, Unsupported}

@@ -1,5 +1,5 @@
 -- Where two instructions meet, by footprints as masks and ranges: places by their numbers, and the lowest that two sets share.
-use Rattle.basis.specs.Names.{◌≡◌, Bool, true, false, cond, ◌&&◌, ℕ, ◌+◌, ◌-◌, ◌/◌, ◌%◌, ◌^◌, ◌<◌, ◌≤◌, min, eqb, leb, ltb}
+use Rattle.std.specs.Prelude.{◌≡◌, Bool, true, false, cond, ◌&&◌, ℕ, ◌+◌, ◌-◌, ◌/◌, ◌%◌, ◌^◌, ◌<◌, ◌≤◌, min, eqb, leb, ltb}
 use Rattle.manual.specs.Places.{Place, mmx, integer, byte, zero_mark}
 use Rattle.manual.specs.Kinds.{kinds_meet}
 use Rattle.machine.specs.declared.Places.{Places}

@@ -1,5 +1,5 @@
 -- A run that is taken in parts, and the footprints that are traced between them.
-use Rattle.basis.specs.Names.{◌≡◌, true, List, ℕ, ◌+◌, ◌≤◌}
+use Rattle.std.specs.Prelude.{◌≡◌, true, List, ℕ, ◌+◌, ◌≤◌}
 use Rattle.reorder.specs.Result.{map_result}
 use Rattle.reorder.specs.Run.{Answer}
 use Rattle.reorder.specs.inner.Parts as parts

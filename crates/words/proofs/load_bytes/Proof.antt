@@ -1,5 +1,5 @@
 -- `load_bytes` meets its contract: before each turn the value is the number of the bytes passed, and each turn leaves fewer.
-use Rattle.basis.specs.Names.{◌≡◌, ◌+◌, ◌-◌, ◌≤◌}
+use Rattle.std.specs.Prelude.{◌≡◌, ◌+◌, ◌-◌, ◌≤◌}
 use mir.Facts.{Fits-8_64}
 use Rattle.words.specs.Number.{number}
 use Rattle.words.specs.inner.Bytewise.{gets}

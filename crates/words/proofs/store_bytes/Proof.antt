@@ -1,5 +1,6 @@
 -- `store_bytes` meets its contract: before each turn what is left to put, put, gives the end, and each turn leaves less.
-use Rattle.basis.specs.Names.{◌≡◌, ◌+◌, ◌-◌, ◌≤◌, length, sets}
+use Rattle.std.specs.Prelude.{◌≡◌, ◌+◌, ◌-◌, ◌≤◌, length}
+use Rattle.basis.specs.Names.{sets}
 use Rattle.words.specs.Number.{bytes}
 use Rattle.words.proofs.Placing.{passing}
 use Rattle.words.proofs.store_bytes.Statement.{statement}

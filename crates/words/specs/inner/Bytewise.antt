@@ -1,5 +1,5 @@
 -- A buffer read one byte after the other.
-use Rattle.basis.specs.Names.{List, [], ◌∷◌, ℕ, zero, suc, ◌+◌, get_or}
+use Rattle.std.specs.Prelude.{List, [], ◌∷◌, ℕ, zero, suc, ◌+◌, get_or}
 
 -- the n bytes from a place on
 abbrev pub gets : ℕ → List ℕ → ℕ → List ℕ

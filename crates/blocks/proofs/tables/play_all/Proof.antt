@@ -1,5 +1,5 @@
 -- `play_all` is safe and ends: each turn looks at one byte more, and a line starts at or before it.
-use Rattle.basis.specs.Names.{◌≡◌, ◌≤◌, ◌-◌, length}
+use Rattle.std.specs.Prelude.{◌≡◌, ◌≤◌, ◌-◌, length}
 use Rattle.basis.proofs.Names.{rules}
 use Rattle.blocks.proofs.tables.play_all.Statement.{statement}
 use Rattle.blocks.proofs.tables.play_all.Tie as tie

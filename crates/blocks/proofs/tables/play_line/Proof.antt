@@ -1,5 +1,5 @@
 -- `play_line` is safe and ends: each turn reads one byte more.
-use Rattle.basis.specs.Names.{◌≡◌, ◌≤◌, ◌-◌, length}
+use Rattle.std.specs.Prelude.{◌≡◌, ◌≤◌, ◌-◌, length}
 use Rattle.basis.proofs.Names.{rules}
 use Rattle.blocks.proofs.tables.play_line.Statement.{statement}
 use Rattle.blocks.proofs.tables.play_line.Tie as tie

@@ -1,5 +1,5 @@
 -- `edges::print_prefixes` is safe and ends: the first byte goes up to 255.
-use Rattle.basis.specs.Names.{◌≤◌, ◌-◌}
+use Rattle.std.specs.Prelude.{◌≤◌, ◌-◌}
 use Rattle.basis.proofs.Names.{rules}
 use Rattle.encodings.proofs.edges.print_prefixes.Statement.{statement}
 use Rattle.encodings.proofs.edges.print_prefixes.Tie as tie

@@ -1,5 +1,5 @@
 -- `edges::print_suffixes` is safe and ends: the suffix goes up to 255.
-use Rattle.basis.specs.Names.{◌≤◌, ◌-◌}
+use Rattle.std.specs.Prelude.{◌≤◌, ◌-◌}
 use Rattle.basis.proofs.Names.{rules}
 use Rattle.encodings.proofs.edges.print_suffixes.Statement.{statement}
 use Rattle.encodings.proofs.edges.print_suffixes.Tie as tie

@@ -1,5 +1,5 @@
 -- `siblings::try_operand` is safe and ends: the SIB byte goes up to 255.
-use Rattle.basis.specs.Names.{◌≤◌, ◌-◌}
+use Rattle.std.specs.Prelude.{◌≤◌, ◌-◌}
 use Rattle.basis.proofs.Names.{rules}
 use Rattle.encodings.proofs.siblings.try_operand.Statement.{statement}
 use Rattle.encodings.proofs.siblings.try_operand.Tie as tie

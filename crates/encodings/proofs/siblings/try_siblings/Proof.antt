@@ -1,5 +1,5 @@
 -- `siblings::try_siblings` is safe and ends: the ModRM byte goes up to 255.
-use Rattle.basis.specs.Names.{◌≤◌, ◌-◌}
+use Rattle.std.specs.Prelude.{◌≤◌, ◌-◌}
 use Rattle.basis.proofs.Names.{rules}
 use Rattle.encodings.proofs.siblings.try_siblings.Statement.{statement}
 use Rattle.encodings.proofs.siblings.try_siblings.Tie as tie

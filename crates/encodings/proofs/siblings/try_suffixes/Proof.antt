@@ -1,5 +1,5 @@
 -- `siblings::try_suffixes` is safe and ends: the suffix goes up to 255, and its place is within the room.
-use Rattle.basis.specs.Names.{◌<◌, ◌≤◌, ◌-◌}
+use Rattle.std.specs.Prelude.{◌<◌, ◌≤◌, ◌-◌}
 use Rattle.basis.proofs.Names.{rules}
 use Rattle.encodings.proofs.siblings.try_suffixes.Statement.{statement}
 use Rattle.encodings.proofs.siblings.try_suffixes.Tie as tie

@@ -1,5 +1,5 @@
 -- `answers::starts_with` is safe and ends: its counter goes up to the length of the word, which the text has.
-use Rattle.basis.specs.Names.{◌≡◌, ◌-◌, ◌≤◌, length}
+use Rattle.std.specs.Prelude.{◌≡◌, ◌-◌, ◌≤◌, length}
 use Rattle.basis.proofs.Names.{rules}
 use Rattle.hostile.proofs.answers.starts_with.Statement.{statement}
 use Rattle.hostile.proofs.answers.starts_with.Tie as tie

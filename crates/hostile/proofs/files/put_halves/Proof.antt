@@ -1,5 +1,5 @@
 -- `files::put_halves` meets its contract: its place stays within the file, and what is left of the sixteen halves falls.
-use Rattle.basis.specs.Names.{◌≡◌, ◌-◌, ◌≤◌, length}
+use Rattle.std.specs.Prelude.{◌≡◌, ◌-◌, ◌≤◌, length}
 use Rattle.basis.proofs.Names.{rules}
 use Rattle.hostile.proofs.files.put_halves.Statement.{statement}
 use Rattle.hostile.proofs.files.put_halves.Tie as tie

@@ -1,5 +1,5 @@
 -- `files::put_integers` meets its contract: its place stays within the file, and what is left of the eight registers falls.
-use Rattle.basis.specs.Names.{◌≡◌, ◌-◌, ◌≤◌, length}
+use Rattle.std.specs.Prelude.{◌≡◌, ◌-◌, ◌≤◌, length}
 use Rattle.basis.proofs.Names.{rules}
 use Rattle.hostile.proofs.files.put_integers.Statement.{statement}
 use Rattle.hostile.proofs.files.put_integers.Tie as tie

@@ -1,5 +1,5 @@
 -- `put::put_random` meets its contract: its place stays within the file, and what is left of the count falls.
-use Rattle.basis.specs.Names.{◌≡◌, ◌-◌, ◌≤◌, length}
+use Rattle.std.specs.Prelude.{◌≡◌, ◌-◌, ◌≤◌, length}
 use Rattle.basis.proofs.Names.{rules}
 use Rattle.hostile.proofs.put.put_random.Statement.{statement}
 use Rattle.hostile.proofs.put.put_random.Tie as tie

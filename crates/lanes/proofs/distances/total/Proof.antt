@@ -1,5 +1,5 @@
 -- `distances::total` meets its contract: the loop adds up the lanes, one a turn.
-use Rattle.basis.specs.Names.{◌-◌, ◌/◌}
+use Rattle.std.specs.Prelude.{◌-◌, ◌/◌}
 use Rattle.basis.proofs.Names.{◌∙◌}
 use Rattle.lanes.proofs.AddingUp.{Totalled, adding_up}
 use Rattle.lanes.proofs.distances.total.Statement.{statement}

@@ -1,5 +1,5 @@
 -- `lane::half` meets its contract: the shifted 1 is half of 2 ^ w.
-use Rattle.basis.specs.Names.{◌+◌, ◌-◌}
+use Rattle.std.specs.Prelude.{◌+◌, ◌-◌}
 use Rattle.basis.proofs.Names.{ap₂, ◌∙◌, arith, rules, pow_pos, pow_mono}
 use Rattle.lanes.proofs.Powers.{half_is, halves}
 use Rattle.lanes.proofs.lane.half.Statement.{statement}

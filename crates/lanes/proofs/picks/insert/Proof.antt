@@ -1,5 +1,5 @@
 -- `picks::insert` meets its contract: what differs between the word there and the new one is turned over.
-use Rattle.basis.specs.Names.{refl}
+use Rattle.std.specs.Prelude.{refl}
 use Rattle.basis.proofs.Names.{arith, rules}
 use Rattle.lanes.proofs.Picking.{insert_at_once}
 use Rattle.lanes.proofs.picks.insert.Statement.{statement}

@@ -1,5 +1,5 @@
 -- `products::multiply_add` meets its contract: the loop builds the result, one lane a turn.
-use Rattle.basis.specs.Names.{◌-◌}
+use Rattle.std.specs.Prelude.{◌-◌}
 use Rattle.lanes.specs.Rules.{pairwise, product_sum}
 use Rattle.lanes.proofs.Building.{Built, building}
 use Rattle.lanes.proofs.products.multiply_add.Statement.{statement}

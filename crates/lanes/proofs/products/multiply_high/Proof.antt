@@ -1,5 +1,5 @@
 -- `products::multiply_high` meets its contract: the loop builds the result, one lane a turn.
-use Rattle.basis.specs.Names.{◌-◌}
+use Rattle.std.specs.Prelude.{◌-◌}
 use Rattle.lanes.specs.Rules.{pairwise, product_high}
 use Rattle.lanes.proofs.Building.{Built, building}
 use Rattle.lanes.proofs.products.multiply_high.Statement.{statement}

@@ -1,5 +1,5 @@
 -- `products::with_lane` meets its contract: the lane is shifted past the lanes below it.
-use Rattle.basis.specs.Names.{◌*◌}
+use Rattle.std.specs.Prelude.{◌*◌}
 use Rattle.basis.proofs.Names.{rules}
 use Rattle.lanes.proofs.Powers.{placed_is, placed_lt}
 use Rattle.lanes.proofs.products.with_lane.Statement.{statement}

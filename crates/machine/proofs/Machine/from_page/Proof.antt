@@ -1,5 +1,5 @@
 -- `Machine::from_page` meets its contract: both lists of registers are their loads, and each mark is its bit.
-use Rattle.basis.specs.Names.{List, ℕ}
+use Rattle.std.specs.Prelude.{List, ℕ}
 use Rattle.basis.proofs.Names.{ap₂, rules}
 use Rattle.machine.specs.Starts.{marks_of, start_of}
 use Rattle.machine.specs.inner.Works.{machine_of}

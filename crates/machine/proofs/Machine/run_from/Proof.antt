@@ -1,5 +1,5 @@
 -- `Machine::run_from` meets its contract: before each turn, what is left of the run from here is the run from the start.
-use Rattle.basis.specs.Names.{◌≡◌, refl, ◌-◌, ◌≤◌, length}
+use Rattle.std.specs.Prelude.{◌≡◌, refl, ◌-◌, ◌≤◌, length}
 use Rattle.basis.proofs.Names.{rules}
 use Rattle.machine.specs.State.{state_of}
 use Rattle.works.specs.Bars.{barred_by}

@@ -1,5 +1,5 @@
 -- `addresses::scaled` meets its contract: each turn doubles once, and what is remaining of the scale falls.
-use Rattle.basis.specs.Names.{◌≡◌, ◌*◌, ◌-◌, ◌^◌, ◌%◌, ◌≤◌}
+use Rattle.std.specs.Prelude.{◌≡◌, ◌*◌, ◌-◌, ◌^◌, ◌%◌, ◌≤◌}
 use Rattle.machine.proofs.laws.addresses.Addressing.{addressing}
 use Rattle.machine.proofs.addresses.scaled.Statement.{statement}
 use Rattle.machine.proofs.addresses.scaled.Tie as tie

@@ -1,5 +1,6 @@
 -- The address that the code sums up: each sum wraps at 2^32, and so the whole does once. Rules for the functions of addresses.
-use Rattle.basis.specs.Names.{◌≡◌, List, Option, none, some, ℕ, suc, ◌+◌, ◌*◌, ◌-◌, ◌^◌, ◌%◌, ◌≤◌, ◌<◌, eqb, get_or}
+use Rattle.std.specs.Prelude.{◌≡◌, List, ℕ, suc, ◌+◌, ◌*◌, ◌-◌, ◌^◌, ◌%◌, ◌≤◌, ◌<◌, eqb, get_or}
+use Rattle.basis.specs.Names.{Option, none, some}
 use Rattle.basis.proofs.Names.{ap, ap₂, ◌∙◌, and-false, mul-one, add-zero, mul-add, add-mod, mod-add-mod, add-mod-mod, two-pow-succ, arith, rules, eq-eqb, ne_eqb, le-leb, lt-leb}
 use Rattle.codec.specs.Operands.{has_sib}
 use Rattle.codec.specs.declared.Operand.{Operand}

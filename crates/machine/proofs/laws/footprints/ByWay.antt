@@ -1,6 +1,6 @@
 -- What each way reads and writes, for any operand: the masks of places one after the other are the masks of both. Rules for what the code makes of a
 -- way.
-use Rattle.basis.specs.Names.{◌≡◌, refl, Bool, true, false, cond, List, [], ◌∷◌, ◌++◌, map, ℕ, ◌^◌}
+use Rattle.std.specs.Prelude.{◌≡◌, refl, Bool, true, false, cond, List, [], ◌∷◌, ◌++◌, map, ℕ, ◌^◌}
 use Rattle.basis.proofs.Names.{sym, ap, ◌∙◌, append-nil, rules, or_zero_l}
 use Rattle.reorder.specs.Result.{Result, done, refused, and_then, map_result}
 use Rattle.reorder.specs.Footprint.{footprint_in}

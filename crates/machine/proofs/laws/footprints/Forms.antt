@@ -1,5 +1,5 @@
 -- The footprint that no control mark stops, by the way. Rules for what the code makes of an instruction.
-use Rattle.basis.specs.Names.{◌≡◌, refl, Bool, true, false, cond, ℕ, ◌/◌, ◌^◌, length}
+use Rattle.std.specs.Prelude.{◌≡◌, refl, Bool, true, false, cond, ℕ, ◌/◌, ◌^◌, length}
 use Rattle.basis.proofs.Names.{sym, ap, subst, ◌∙◌, arith, rules, or_zero_r}
 use Rattle.lanes.specs.Operations.{Operation, operate, operate_three}
 use Rattle.reorder.specs.Result.{done, refused}

@@ -1,5 +1,5 @@
 -- The operand of r/m as masks and a range: the bytes of an operand are one range, and no registers. Rules for where the code finds it.
-use Rattle.basis.specs.Names.{◌≡◌, refl, Bool, true, false, cond, [], ℕ, zero, suc, ◌+◌, ◌/◌, ◌^◌, ◌<◌, eqb, length}
+use Rattle.std.specs.Prelude.{◌≡◌, refl, Bool, true, false, cond, [], ℕ, zero, suc, ◌+◌, ◌/◌, ◌^◌, ◌<◌, eqb, length}
 use Rattle.basis.proofs.Names.{◌∙◌, arith, rules, or_zero_r}
 use Rattle.codec.specs.Forms.{File, mmx_file, integer_file, memory_size}
 use Rattle.codec.specs.Table.{form_of}

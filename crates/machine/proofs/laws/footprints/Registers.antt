@@ -1,5 +1,6 @@
 -- Masks that the code puts together. Rules for masks of registers.
-use Rattle.basis.specs.Names.{◌≡◌, false, Option, none, some, ℕ, ◌*◌, ◌^◌, ◌%◌, ◌<◌, bit_or}
+use Rattle.std.specs.Prelude.{◌≡◌, false, ℕ, ◌*◌, ◌^◌, ◌%◌, ◌<◌}
+use Rattle.basis.specs.Names.{Option, none, some, bit_or}
 use Rattle.basis.proofs.Names.{append-nil, arith, rules, eq-eqb, ne_eqb, or_zero_r, pow-lt}
 use Rattle.codec.specs.Operands.{has_sib}
 use Rattle.codec.specs.declared.Operand.{Operand}

@@ -1,6 +1,6 @@
 -- The tests before the footprint, in the order of a step's: the memory's length, the reader's, where an instruction of loops goes on, the control
 -- marks. Rules for their answers.
-use Rattle.basis.specs.Names.{◌≡◌, refl, List, ℕ, ◌-◌, ◌/◌, ◌^◌, ◌+◌, ◌≤◌, ◌<◌, length}
+use Rattle.std.specs.Prelude.{◌≡◌, refl, List, ℕ, ◌-◌, ◌/◌, ◌^◌, ◌+◌, ◌≤◌, ◌<◌, length}
 use Rattle.basis.proofs.Names.{sym, ap, ◌∙◌, arith, rules, lt-ltb}
 use Rattle.reorder.specs.Result.{Result, refused, and_then, map_result, provided}
 use Rattle.reorder.specs.Plan.{Plan}

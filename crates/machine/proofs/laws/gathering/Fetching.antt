@@ -1,6 +1,6 @@
 -- The step at a position, from what the code has found there: the reader's refusal, the work of an instruction of loops, the refusal of the control
 -- marks, or the work of any other.
-use Rattle.basis.specs.Names.{◌≡◌, refl, Bool, false, cond, List, ℕ, ◌+◌, ◌/◌, ◌^◌, ◌≤◌, length, get_or, drop}
+use Rattle.std.specs.Prelude.{◌≡◌, refl, Bool, false, cond, List, ℕ, ◌+◌, ◌/◌, ◌^◌, ◌≤◌, length, get_or, drop}
 use Rattle.basis.proofs.Names.{sym, ap, subst, ◌∙◌, arith, rules, eq-eqb, ne_eqb, le-ltb}
 use Rattle.reorder.specs.Result.{Result, done, case_of}
 use Rattle.codec.specs.Forms.{is_absent}

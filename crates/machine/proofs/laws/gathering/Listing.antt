@@ -1,6 +1,7 @@
 -- What is read has a number of the table, or that of an instruction of loops: its form is present, as an absent one is refused, and each number keeps
 -- what `Listed` or `Looping` says. Rules for what the code looks up.
-use Rattle.basis.specs.Names.{◌≡◌, refl, Bool, true, false, cond, ◌&&◌, Option, none, some, ℕ, ◌+◌, ◌/◌, ◌%◌, ◌^◌, ◌≤◌, eqb, leb, ltb, get_or}
+use Rattle.std.specs.Prelude.{◌≡◌, refl, Bool, true, false, cond, ◌&&◌, ℕ, ◌+◌, ◌/◌, ◌%◌, ◌^◌, ◌≤◌, eqb, leb, ltb, get_or}
+use Rattle.basis.specs.Names.{Option, none, some}
 use Rattle.basis.proofs.Names.{sym, ap, ap₂, subst, ◌∙◌, false≢true, arith, leb-true, ltb-true, ltb-false, eqb-true, eqb-false}
 use Rattle.lanes.specs.Operations.{Operation, KEEP}
 use Rattle.codec.specs.Forms.{Form, absent, is_absent, memory_size}

@@ -1,5 +1,5 @@
 -- The operation of a shift by an immediate: the numbers that the code names are those of the operations. Rules for the functions of shifts.
-use Rattle.basis.specs.Names.{◌≡◌, ℕ}
+use Rattle.std.specs.Prelude.{◌≡◌, ℕ}
 use Rattle.basis.proofs.Names.{rules, eq-eqb, ne_eqb}
 use Rattle.lanes.specs.Operations.{operation_of, PSRLW, PSRLD, PSRLQ, PSRAW, PSRAD, PSLLW, PSLLD, PSLLQ, KEEP}
 use Rattle.codec.specs.inner.Entries.{of_width, shift_of}

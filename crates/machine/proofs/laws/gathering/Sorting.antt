@@ -1,5 +1,6 @@
 -- The work that the code makes of an instruction does what its effect does: one rule for each way, whatever operand r/m names.
-use Rattle.basis.specs.Names.{◌≡◌, refl, Bool, true, false, not, cond, some, List, ℕ, ◌/◌, ◌%◌, ◌^◌, ◌≤◌, ◌<◌, leb, length, get_or}
+use Rattle.std.specs.Prelude.{◌≡◌, refl, Bool, true, false, not, cond, List, ℕ, ◌/◌, ◌%◌, ◌^◌, ◌≤◌, ◌<◌, leb, length, get_or}
+use Rattle.basis.specs.Names.{some}
 use Rattle.basis.proofs.Names.{sym, ap, ◌∙◌, arith, rules, le-leb, not-true}
 use Rattle.lanes.specs.Operations.{Operation, operation_of, operate, operate_three, described, MOVE, PINSRW, PSHUFW, PEXTRW, PMOVMSKB, MASKMOVQ}
 use Rattle.words.specs.Number.{bytes}

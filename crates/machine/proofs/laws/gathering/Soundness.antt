@@ -1,5 +1,5 @@
 -- The works that the code makes are sound, by what is to be done.
-use Rattle.basis.specs.Names.{◌≡◌, refl, Bool, true, false, cond, List, ℕ, ◌<◌, length, get_or}
+use Rattle.std.specs.Prelude.{◌≡◌, refl, Bool, true, false, cond, List, ℕ, ◌<◌, length, get_or}
 use Rattle.basis.proofs.Names.{arith}
 use Rattle.lanes.specs.Operations.{operate_three, described, MOVE, MASKMOVQ}
 use Rattle.singles.specs.Siblings.{Sibling}

@@ -1,5 +1,5 @@
 -- The work that the code makes of an instruction with a suffix does what its effect does.
-use Rattle.basis.specs.Names.{◌≡◌, refl, Bool, true, false, List, map, ℕ, ◌/◌, ◌%◌, ◌^◌, eqb, length, get_or}
+use Rattle.std.specs.Prelude.{◌≡◌, refl, Bool, true, false, List, map, ℕ, ◌/◌, ◌%◌, ◌^◌, eqb, length, get_or}
 use Rattle.basis.proofs.Names.{sym, ap, subst, ◌∙◌, rules}
 use Rattle.lanes.specs.Operations.{operate, described, MOVE}
 use Rattle.singles.specs.Siblings.{Sibling, PF2IW, PI2FW, PSWAPD, PAVGUSB, PFCMPGT, PFMAX, leave}

@@ -1,5 +1,5 @@
 -- The tests before an instruction's work: the control marks, where they stop it.
-use Rattle.basis.specs.Names.{◌≡◌, refl, Bool, true, false, not, ◌||◌, cond, ℕ, ◌≤◌, eqb, leb}
+use Rattle.std.specs.Prelude.{◌≡◌, refl, Bool, true, false, not, ◌||◌, cond, ℕ, ◌≤◌, eqb, leb}
 use Rattle.basis.proofs.Names.{sym, ap, ◌∙◌, false≢true, arith, rules, ne_eqb, eqb-true, leb-true}
 use Rattle.words.proofs.Laws.{and_both}
 use Rattle.reorder.specs.Result.{Result, refused}

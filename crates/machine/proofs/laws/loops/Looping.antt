@@ -1,5 +1,5 @@
 -- Where a jump leads, what remains of an instruction of loops, and its footprint: by the number of its form. Rules for the functions of loops.
-use Rattle.basis.specs.Names.{◌≡◌, refl, Bool, true, false, not, cond, ◌&&◌, List, ℕ, ◌+◌, ◌-◌, ◌/◌, ◌%◌, ◌^◌, eqb, leb, get_or}
+use Rattle.std.specs.Prelude.{◌≡◌, refl, Bool, true, false, not, cond, ◌&&◌, List, ℕ, ◌+◌, ◌-◌, ◌/◌, ◌%◌, ◌^◌, eqb, leb, get_or}
 use Rattle.basis.proofs.Names.{sym, ap, subst, ◌∙◌, or_zero_r, arith, rules, eqb-true, eqb-false, eq-eqb, ne_eqb, zero-add, add-mod-mod, mod-mod}
 use Rattle.reorder.specs.Result.{Result, done, refused, map_result}
 use Rattle.reorder.specs.Footprint.{footprint_in}

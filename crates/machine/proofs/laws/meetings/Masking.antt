@@ -1,6 +1,7 @@
 -- What the program hands out of a footprint says the same as its places: bit by bit, and byte by byte, for each number is that of one place.
-use Rattle.basis.specs.Names.{◌≡◌, refl, ◌⊎◌, Bool, true, false, ◌||◌, List, [], ◌∷◌, Memᴰ as In, ℕ, ◌+◌, ◌≤◌, ◌<◌}
-use Rattle.basis.proofs.Names.{sym, ap, subst, ◌↔◌, inl, inr, false≢true, Memᴰ-head as here, Memᴰ-tail as later, Memᴰ-not_nil as not-nil, Memᴰ-eq_of_singleton as eq_of_singleton, Memᴰ-append_cases as append_cases, Memᴰ-append_left, Memᴰ-append_right}
+use Rattle.std.specs.Prelude.{◌≡◌, refl, ◌⊎◌, Bool, true, false, ◌||◌, List, [], ◌∷◌, ℕ, ◌+◌, ◌≤◌, ◌<◌, ◌↔◌}
+use Rattle.basis.specs.Names.{Memᴰ as In}
+use Rattle.basis.proofs.Names.{sym, ap, subst, inl, inr, false≢true, Memᴰ-head as here, Memᴰ-tail as later, Memᴰ-not_nil as not-nil, Memᴰ-eq_of_singleton as eq_of_singleton, Memᴰ-append_cases as append_cases, Memᴰ-append_left, Memᴰ-append_right}
 use Rattle.manual.specs.Places.{Place, mmx, integer, byte, zero_mark}
 use Rattle.machine.specs.Footprints.{mmx_number, integer_number, byte_number, numbers_of, bytes_of, is_zero_mark, has_zero_mark, mask, set_of}
 use Rattle.machine.proofs.laws.meetings.Masks.{bit, mask_exactly}

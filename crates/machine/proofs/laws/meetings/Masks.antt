@@ -1,7 +1,8 @@
 -- Masks and sets of numbers: bit k of a mask is set exactly where k is in the set, so two masks have a bit in common exactly where the sets have
 -- a number in common.
-use Rattle.basis.specs.Names.{◌≡◌, refl, List, [], ◌∷◌, ◌++◌, Memᴰ as In, ℕ, suc, ◌+◌, ◌-◌, ◌/◌, ◌%◌, ◌^◌, ◌<◌, min, bit_and, bit_or}
-use Rattle.basis.proofs.Names.{sym, ap, ◌∙◌, ◌↔◌, Memᴰ-head as here, Memᴰ-tail as later, max, zero-div, div-eq_of_lt, div_self, div-one, mul-mod_left, pow-suc, dec_lt, arith, bin_ind, or_step, and_step, or_shr, and_shr, or_zero_l, pow_pos, pow-lt, pow-add, shl-shr, shr-shr}
+use Rattle.std.specs.Prelude.{◌≡◌, refl, List, [], ◌∷◌, ◌++◌, ℕ, suc, ◌+◌, ◌-◌, ◌/◌, ◌%◌, ◌^◌, ◌<◌, min, ◌↔◌}
+use Rattle.basis.specs.Names.{Memᴰ as In, bit_and, bit_or}
+use Rattle.basis.proofs.Names.{sym, ap, ◌∙◌, Memᴰ-head as here, Memᴰ-tail as later, max, zero-div, div-eq_of_lt, div_self, div-one, mul-mod_left, pow-suc, dec_lt, arith, bin_ind, or_step, and_step, or_shr, and_shr, or_zero_l, pow_pos, pow-lt, pow-add, shl-shr, shr-shr}
 use Rattle.machine.specs.Footprints.{mask}
 
 -- bit k of x

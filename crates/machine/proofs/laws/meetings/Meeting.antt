@@ -1,6 +1,7 @@
 -- Two footprints meet by their masks and ranges exactly where they meet in a place: each test is true exactly where what it tests holds.
-use Rattle.basis.specs.Names.{◌≡◌, refl, ◌⊎◌, Bool, true, false, not, ◌&&◌, ◌||◌, List, Memᴰ as In, ℕ, ◌+◌, ◌≤◌, ◌<◌, bit_and, eqb, ltb, length, get_or}
-use Rattle.basis.proofs.Names.{ap, ◌↔◌, inl, inr, false≢true, dec_lt, arith, ltb-true, lt-ltb, ne_eqb, eqb-false, not-true}
+use Rattle.std.specs.Prelude.{◌≡◌, refl, ◌⊎◌, Bool, true, false, not, ◌&&◌, ◌||◌, List, ℕ, ◌+◌, ◌≤◌, ◌<◌, eqb, ltb, length, get_or, ◌↔◌}
+use Rattle.basis.specs.Names.{Memᴰ as In, bit_and}
+use Rattle.basis.proofs.Names.{ap, inl, inr, false≢true, dec_lt, arith, ltb-true, lt-ltb, ne_eqb, eqb-false, not-true}
 use Rattle.reorder.specs.Result.{Result, done, refused}
 use Rattle.reorder.specs.Footprint as places
 use Rattle.codec.specs.declared.Kind.{Kind}

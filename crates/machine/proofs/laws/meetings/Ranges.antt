@@ -1,6 +1,7 @@
 -- The memory bytes of a footprint are one range, since an instruction has at most one operand in memory: by the shapes of effects.
-use Rattle.basis.specs.Names.{◌≡◌, refl, Bool, true, false, cond, ◌&&◌, List, [], ◌∷◌, ◌++◌, map, Memᴰ as In, ℕ, zero, suc, ◌+◌, ◌≤◌, ◌%◌, ◌<◌, length, get_or}
-use Rattle.basis.proofs.Names.{sym, ap, subst, ◌↔◌, false≢true, Memᴰ-head as here, Memᴰ-tail as later, dec_lt, arith}
+use Rattle.std.specs.Prelude.{◌≡◌, refl, Bool, true, false, cond, ◌&&◌, List, [], ◌∷◌, ◌++◌, map, ℕ, zero, suc, ◌+◌, ◌≤◌, ◌%◌, ◌<◌, length, get_or, ◌↔◌}
+use Rattle.basis.specs.Names.{Memᴰ as In}
+use Rattle.basis.proofs.Names.{sym, ap, subst, false≢true, Memᴰ-head as here, Memᴰ-tail as later, dec_lt, arith}
 use Rattle.lanes.specs.Operations.{Operation}
 use Rattle.words.proofs.Laws.{and_both}
 use Rattle.reorder.specs.Result.{Result, done, refused, and_then, map_result}

@@ -1,5 +1,6 @@
 -- What the tests of two footprints come to, by what the code has learned: one rule for each answer.
-use Rattle.basis.specs.Names.{◌≡◌, refl, Bool, true, false, ◌&&◌, ◌||◌, ℕ, ◌+◌, ◌-◌, ◌≤◌, ◌<◌, bit_and, ltb}
+use Rattle.std.specs.Prelude.{◌≡◌, refl, Bool, true, false, ◌&&◌, ◌||◌, ℕ, ◌+◌, ◌-◌, ◌≤◌, ◌<◌, ltb}
+use Rattle.basis.specs.Names.{bit_and}
 use Rattle.basis.proofs.Names.{sym, ◌∙◌, and-true, arith, rules, lt-ltb, le-ltb, eq-eqb, ne_eqb, ltb-true, ltb-false}
 use Rattle.manual.specs.Kinds.{kinds_meet}
 use Rattle.machine.specs.declared.Places.{Places}

@@ -1,5 +1,5 @@
 -- Where the code finds the operand that r/m names: each law by cases on what it may be. Rules for the functions that locate it and go by its place.
-use Rattle.basis.specs.Names.{◌≡◌, Bool, true, false, cond, List, ℕ, ◌+◌, ◌/◌, ◌%◌, ◌^◌, ◌<◌, eqb, leb}
+use Rattle.std.specs.Prelude.{◌≡◌, Bool, true, false, cond, List, ℕ, ◌+◌, ◌/◌, ◌%◌, ◌^◌, ◌<◌, eqb, leb}
 use Rattle.basis.proofs.Names.{sym, ap, subst, ◌∙◌, arith, rules, eq-eqb, ne_eqb}
 use Rattle.codec.specs.Forms.{File, mmx_file, integer_file, memory_size}
 use Rattle.codec.specs.inner.Fields.{Registers}

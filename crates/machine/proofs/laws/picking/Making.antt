@@ -1,5 +1,5 @@
 -- The works of the instructions that pick lanes, as the code makes them. Rules for the functions that make them.
-use Rattle.basis.specs.Names.{◌≡◌, Bool, true, false, List, ℕ, ◌+◌, leb, length}
+use Rattle.std.specs.Prelude.{◌≡◌, Bool, true, false, List, ℕ, ◌+◌, leb, length}
 use Rattle.basis.proofs.Names.{ap, ◌∙◌, rules, eq-eqb, ne_eqb}
 use Rattle.lanes.specs.Rules.{packed, blend, extract, insert, top_bits, shuffle}
 use Rattle.lanes.specs.Operations.{operate, operate_three, described, MOVE}

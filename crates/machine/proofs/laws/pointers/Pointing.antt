@@ -1,6 +1,7 @@
 -- Past the bytes of an operand in memory: what the code has read is what the reader reads, and what it has summed up is the address. Rules for the
 -- functions of pointers.
-use Rattle.basis.specs.Names.{◌≡◌, refl, Bool, false, true, cond, some, List, ℕ, ◌+◌, ◌*◌, ◌/◌, ◌%◌, ◌^◌, ◌≤◌, ◌<◌, eqb, length, get_or, take, drop}
+use Rattle.std.specs.Prelude.{◌≡◌, refl, Bool, false, true, cond, List, ℕ, ◌+◌, ◌*◌, ◌/◌, ◌%◌, ◌^◌, ◌≤◌, ◌<◌, eqb, length, get_or, take, drop}
+use Rattle.basis.specs.Names.{some}
 use Rattle.basis.proofs.Names.{sym, ap, subst, ◌∙◌, add-zero, zero-add, add-mod-mod, mod-add-mod, mod-mod, and-false, or-false, arith, rules, eq-eqb, ne_eqb, le-leb}
 use Rattle.words.specs.Number.{number}
 use Rattle.words.specs.Buffer.{loaded}

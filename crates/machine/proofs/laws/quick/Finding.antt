@@ -1,5 +1,5 @@
 -- What is found after an opcode: two registers, or a register and memory, and perhaps a suffix, a shift's register and immediate, or nothing more.
-use Rattle.basis.specs.Names.{◌≡◌, refl, true, List, ℕ, ◌+◌, ◌/◌, ◌^◌, ◌≤◌, ◌<◌, length, get_or, drop}
+use Rattle.std.specs.Prelude.{◌≡◌, refl, true, List, ℕ, ◌+◌, ◌/◌, ◌^◌, ◌≤◌, ◌<◌, length, get_or, drop}
 use Rattle.basis.proofs.Names.{sym, ap, ap₂, ◌∙◌, add-zero, arith}
 use Rattle.codec.specs.Forms.{Form, has_operand, allows, immediate_size, accepts}
 use Rattle.codec.specs.Opcodes.{escape}

@@ -1,5 +1,5 @@
 -- What was read and gathered at once is what the reader finds, and so it is the step. Rules for the functions that read from the start.
-use Rattle.basis.specs.Names.{◌≡◌, refl, Bool, true, false, List, ℕ, zero, suc, ◌+◌, ◌/◌, ◌^◌, ◌≤◌, eqb, length, get_or, drop, replicate}
+use Rattle.std.specs.Prelude.{◌≡◌, refl, Bool, true, false, List, ℕ, zero, suc, ◌+◌, ◌/◌, ◌^◌, ◌≤◌, eqb, length, get_or, drop, replicate}
 use Rattle.basis.proofs.Names.{sym, ap, subst, ◌∙◌, arith, rules, eq-eqb, eqb-true}
 use Rattle.codec.specs.Opcodes.{escape}
 use Rattle.codec.specs.Table.{form_of, form_in, opcode_table}

@@ -1,5 +1,5 @@
 -- The works with two operands: an MMX register and memory by the form, and what such a work does. Rules for the functions that make them.
-use Rattle.basis.specs.Names.{◌≡◌, refl, ◌⊎◌, Bool, true, false, ◌||◌, List, ℕ, ◌+◌, ◌/◌, ◌%◌, ◌^◌, ◌≤◌, ◌<◌, eqb, leb, length, get_or}
+use Rattle.std.specs.Prelude.{◌≡◌, refl, ◌⊎◌, Bool, true, false, ◌||◌, List, ℕ, ◌+◌, ◌/◌, ◌%◌, ◌^◌, ◌≤◌, ◌<◌, eqb, leb, length, get_or}
 use Rattle.basis.proofs.Names.{sym, ap, subst, ◌∙◌, inl, inr, false≢true, or-true, arith, rules, eq-eqb, ne_eqb, eqb-true, eqb-false}
 use Rattle.words.specs.Buffer.{loaded}
 use Rattle.reorder.specs.Result.{done}

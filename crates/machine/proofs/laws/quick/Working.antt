@@ -1,6 +1,6 @@
 -- What was found past the ModRM byte, or without one, and the work that does it: two registers, a register and memory, a shift by an immediate, EMMS.
 -- Rules for the functions that read and gather.
-use Rattle.basis.specs.Names.{◌≡◌, refl, Bool, true, false, List, ℕ, ◌+◌, ◌/◌, ◌%◌, ◌^◌, ◌≤◌, ◌<◌, leb, length, get_or}
+use Rattle.std.specs.Prelude.{◌≡◌, refl, Bool, true, false, List, ℕ, ◌+◌, ◌/◌, ◌%◌, ◌^◌, ◌≤◌, ◌<◌, leb, length, get_or}
 use Rattle.basis.proofs.Names.{sym, ap, ap₂, subst, ◌∙◌, arith, rules, ne_eqb}
 use Rattle.lanes.specs.Operations.{operation_of, described, MOVE}
 use Rattle.words.specs.Buffer.{loaded}

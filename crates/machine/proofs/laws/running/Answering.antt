@@ -1,5 +1,5 @@
 -- The step of a machine by value answers as a run of one instruction ended. Rules for `step`.
-use Rattle.basis.specs.Names.{◌≡◌, refl, Bool, true, false, cond, List, ℕ, ◌≤◌, ◌<◌, eqb, length}
+use Rattle.std.specs.Prelude.{◌≡◌, refl, Bool, true, false, cond, List, ℕ, ◌≤◌, ◌<◌, eqb, length}
 use Rattle.basis.proofs.Names.{ap, ◌∙◌, arith, rules, ne_eqb, le-ltb, lt-ltb, drop_of_length-le}
 use Rattle.reorder.specs.Run.{Answer, finished, spent, stopped, run_from}
 use Rattle.codec.specs.Refusals.{code_too_long, code_ends}

@@ -1,5 +1,5 @@
 -- The run as the code's loop takes it: what is left of the run after each turn is the whole run, since a turn is a step at its position.
-use Rattle.basis.specs.Names.{◌≡◌, Bool, true, false, List, ℕ, zero, suc, ◌-◌, ◌≤◌, ◌<◌, eqb, length}
+use Rattle.std.specs.Prelude.{◌≡◌, Bool, true, false, List, ℕ, zero, suc, ◌-◌, ◌≤◌, ◌<◌, eqb, length}
 use Rattle.basis.proofs.Names.{sym, ap, subst, ◌∙◌, sub_self, arith, rules, eq-eqb, ne_eqb, le-ltb, lt-ltb}
 use Rattle.reorder.specs.Run.{Answer, finished, spent, run_from}
 use Rattle.codec.specs.Reads.{longest_code}

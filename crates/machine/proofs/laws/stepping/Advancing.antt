@@ -1,5 +1,5 @@
 -- What a work leaves is what it performs; so a step's work, gathered and then done, is the step.
-use Rattle.basis.specs.Names.{◌≡◌, refl, Bool, true, false, cond, List, ℕ, ◌%◌, ◌^◌, ◌<◌, ◌≤◌, eqb, leb, length}
+use Rattle.std.specs.Prelude.{◌≡◌, refl, Bool, true, false, cond, List, ℕ, ◌%◌, ◌^◌, ◌<◌, ◌≤◌, eqb, leb, length}
 use Rattle.basis.proofs.Names.{ap, ◌∙◌, arith, ne_eqb, eqb-true, eqb-false}
 use Rattle.manual.specs.declared.Marks.{Marks}
 use Rattle.manual.proofs.Loops.{answers}

@@ -1,6 +1,7 @@
 -- The forms by their numbers in the table, each with its way: those of a destination and a source whatever register file and size r/m has. Rules for
 -- the functions that sort them.
-use Rattle.basis.specs.Names.{◌≡◌, refl, ◌⊎◌, Bool, true, false, cond, ◌||◌, some, [], ◌∷◌, ℕ, ◌/◌, ◌%◌, ◌^◌, ◌≤◌, ◌<◌, eqb, leb}
+use Rattle.std.specs.Prelude.{◌≡◌, refl, ◌⊎◌, Bool, true, false, cond, ◌||◌, [], ◌∷◌, ℕ, ◌/◌, ◌%◌, ◌^◌, ◌≤◌, ◌<◌, eqb, leb}
+use Rattle.basis.specs.Names.{some}
 use Rattle.basis.proofs.Names.{sym, ap, subst, ◌∙◌, inl, inr, false≢true, arith, rules, ne_eqb, eqb-true, le-leb, lt-leb, le-ltb, lt-ltb}
 use Rattle.words.specs.Number.{bytes}
 use Rattle.lanes.specs.Operations.{described, MOVE}

@@ -1,5 +1,5 @@
 -- `starting::doubleword` meets its contract: four bytes fit 32 bits.
-use Rattle.basis.specs.Names.{◌*◌}
+use Rattle.std.specs.Prelude.{◌*◌}
 use Rattle.basis.proofs.Names.{arith, rules}
 use Rattle.words.proofs.Laws.{loaded_below}
 use Rattle.machine.proofs.starting.doubleword.Statement.{statement}

@@ -1,5 +1,5 @@
 -- `starting::mmx_of` meets its contract: each of the eight is its own load.
-use Rattle.basis.specs.Names.{[], ◌∷◌}
+use Rattle.std.specs.Prelude.{[], ◌∷◌}
 use Rattle.basis.proofs.Names.{rules}
 use Rattle.machine.proofs.starting.mmx_of.Statement.{statement}
 use Rattle.machine.proofs.starting.mmx_of.Tie as tie

@@ -1,5 +1,5 @@
 -- `line::put_byte_lines` meets its contract: before each turn the bytes that remain, put, give all, and each turn leaves fewer.
-use Rattle.basis.specs.Names.{◌-◌, ◌≤◌, length, drop}
+use Rattle.std.specs.Prelude.{◌-◌, ◌≤◌, length, drop}
 use mir.Facts.{Fits-8_64}
 use Rattle.printout.specs.Lines.{byte_lines}
 use Rattle.printout.proofs.Putting.{Remaining, fits-remaining, less_remaining}

@@ -1,5 +1,5 @@
 -- `line::put_integer_lines` meets its contract: they are the lines of the wider numbers, which are the same.
-use Rattle.basis.specs.Names.{◌≡◌, List, ℕ}
+use Rattle.std.specs.Prelude.{◌≡◌, List, ℕ}
 use Rattle.basis.proofs.Names.{sym, ap}
 use Rattle.printout.specs.Lines.{register_lines, integer_lines}
 use Rattle.printout.proofs.Putting.{chain, fits_as, puts_as}

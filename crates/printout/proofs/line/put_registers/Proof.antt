@@ -1,5 +1,5 @@
 -- `line::put_registers` meets its contract: before each turn the lines that remain, put, give all, and each turn leaves fewer.
-use Rattle.basis.specs.Names.{◌-◌, ◌*◌, ◌≤◌, length, drop}
+use Rattle.std.specs.Prelude.{◌-◌, ◌*◌, ◌≤◌, length, drop}
 use Rattle.printout.specs.Lines.{register_lines}
 use Rattle.printout.proofs.Putting.{Remaining, fits-remaining, less_remaining}
 use Rattle.printout.proofs.Pieces.{pieces, next-register}

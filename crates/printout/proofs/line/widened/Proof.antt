@@ -1,5 +1,5 @@
 -- `line::widened` meets its contract: before each turn the numbers passed are the same, and each turn leaves fewer.
-use Rattle.basis.specs.Names.{◌≡◌, List, ℕ, ◌+◌, ◌-◌, ◌≤◌, ◌<◌, length, get_or, set, take}
+use Rattle.std.specs.Prelude.{◌≡◌, List, ℕ, ◌+◌, ◌-◌, ◌≤◌, ◌<◌, length, get_or, set, take}
 use Rattle.basis.proofs.Names.{sym, ◌∙◌, add-one, arith, rules, take-suc, take-suc-set, take_all}
 use Rattle.printout.proofs.line.widened.Statement.{statement}
 use Rattle.printout.proofs.line.widened.Tie as tie

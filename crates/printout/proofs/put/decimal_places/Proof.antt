@@ -1,6 +1,6 @@
 -- `put::decimal_places` meets its contract: the digits counted and those of the rest are all, and the rest has fallen
 -- as often as was counted. The measure is the rest.
-use Rattle.basis.specs.Names.{◌≡◌, ◌+◌, ◌-◌, ◌≤◌}
+use Rattle.std.specs.Prelude.{◌≡◌, ◌+◌, ◌-◌, ◌≤◌}
 use Rattle.printout.specs.Characters.{places}
 use Rattle.printout.proofs.Numbers.{numbers}
 use Rattle.printout.proofs.put.decimal_places.Statement.{statement}

@@ -1,5 +1,5 @@
 -- `put::put_digits` meets its contract: before each turn the digits that remain, put, give all, and each turn leaves fewer.
-use Rattle.basis.specs.Names.{◌≡◌, ◌≤◌, length}
+use Rattle.std.specs.Prelude.{◌≡◌, ◌≤◌, length}
 use Rattle.printout.specs.Characters.{digits}
 use Rattle.printout.specs.inner.Room.{put}
 use Rattle.printout.proofs.Numbers.{numbers}

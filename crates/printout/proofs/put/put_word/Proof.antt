@@ -1,5 +1,5 @@
 -- `put::put_word` meets its contract: before each turn what remains of the word, put, gives the whole, and each turn leaves less.
-use Rattle.basis.specs.Names.{◌-◌, ◌≤◌, length, drop}
+use Rattle.std.specs.Prelude.{◌-◌, ◌≤◌, length, drop}
 use Rattle.printout.proofs.Putting.{Remaining}
 use Rattle.printout.proofs.Pieces.{pieces}
 use Rattle.printout.proofs.put.put_word.Statement.{statement}

@@ -1,5 +1,5 @@
 -- `reaches_jump` meets its contract: reading from each position that the loop comes to reaches a jump just where reading from 0 does.
-use Rattle.basis.specs.Names.{◌≡◌, refl, ◌-◌, length, drop}
+use Rattle.std.specs.Prelude.{◌≡◌, refl, ◌-◌, length, drop}
 use Rattle.basis.proofs.Names.{rules}
 use Rattle.reorder.specs.Block.{reaches}
 use Rattle.manual.specs.Jumps.{is_jump}

@@ -1,5 +1,5 @@
 -- A run that goes on: where it has ended it stays; where it was spent, the rest of the code is run alone, and its position and count are added.
-use Rattle.basis.specs.Names.{◌≡◌, refl, List, ℕ, ◌+◌, ◌-◌, ◌≤◌, length, take, drop}
+use Rattle.std.specs.Prelude.{◌≡◌, refl, List, ℕ, ◌+◌, ◌-◌, ◌≤◌, length, take, drop}
 use Rattle.basis.proofs.Names.{sym, ap, subst, ◌∙◌, arith, rules, length-drop, take_all}
 use Rattle.reorder.proofs.Parting.{counted_from}
 use Rattle.manual.specs.State.{State}

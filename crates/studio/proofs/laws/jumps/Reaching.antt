@@ -1,6 +1,6 @@
 -- Whether reading reaches a jump, as the code's loop finds it: reading from the position that the loop has come to reaches one just where reading
 -- from 0 does.
-use Rattle.basis.specs.Names.{◌≡◌, true, false, Bool, ◌||◌, List, ℕ, ◌+◌, ◌-◌, ◌≤◌, ◌<◌, length, drop}
+use Rattle.std.specs.Prelude.{◌≡◌, true, false, Bool, ◌||◌, List, ℕ, ◌+◌, ◌-◌, ◌≤◌, ◌<◌, length, drop}
 use Rattle.basis.proofs.Names.{sym, ap, ◌∙◌, arith, rules, eq-eqb, ne_eqb, lt-ltb, le-ltb, length-drop, drop-drop, drop_of_length-le}
 use Rattle.reorder.specs.Result.{done}
 use Rattle.reorder.specs.Run.{Fetched}

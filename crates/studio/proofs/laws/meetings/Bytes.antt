@@ -1,6 +1,6 @@
 -- The least byte of two ranges is where the one that starts later starts, if that is in the other; else there is none.
-use Rattle.basis.specs.Names.{◌≡◌, true, ℕ, ◌+◌, ◌-◌, ◌≤◌, ◌<◌, min, leb, ltb}
-use Rattle.basis.proofs.Names.{◌↔◌, arith, rules, le-leb, leb-true, lt-ltb, ltb-true}
+use Rattle.std.specs.Prelude.{◌≡◌, true, ℕ, ◌+◌, ◌-◌, ◌≤◌, ◌<◌, min, leb, ltb, ◌↔◌}
+use Rattle.basis.proofs.Names.{arith, rules, le-leb, leb-true, lt-ltb, ltb-true}
 use Rattle.machine.proofs.laws.meetings.Meeting.{and_exactly}
 use Rattle.studio.specs.inner.Meetings.{Least, in_range, in_both}
 use Rattle.studio.proofs.laws.meetings.Tests.{never}

@@ -1,5 +1,5 @@
 -- The least number that passes a test: found by trying one after the other, and over tests that stand one behind the other.
-use Rattle.basis.specs.Names.{◌≡◌, Bool, true, false, ℕ, ◌+◌, ◌-◌, ◌≤◌, ◌<◌}
+use Rattle.std.specs.Prelude.{◌≡◌, Bool, true, false, ℕ, ◌+◌, ◌-◌, ◌≤◌, ◌<◌}
 use Rattle.basis.proofs.Names.{ap, ◌∙◌, dec_lt, arith}
 use Rattle.studio.specs.inner.Meetings.{Least}
 

@@ -1,6 +1,7 @@
 -- Footprints as masks and ranges say of each place what the lists of places say, so what is found by the ones is found by the others.
-use Rattle.basis.specs.Names.{◌≡◌, refl, ◌⊎◌, true, cond, List, [], ◌∷◌, Memᴰ as In, ℕ}
-use Rattle.basis.proofs.Names.{ap, ap₂, subst, ◌∙◌, ◌↔◌, inl, inr, false≢true, Memᴰ-head as here, Memᴰ-tail as later, Memᴰ-not_nil as not-nil}
+use Rattle.std.specs.Prelude.{◌≡◌, refl, ◌⊎◌, true, cond, List, [], ◌∷◌, ℕ, ◌↔◌}
+use Rattle.basis.specs.Names.{Memᴰ as In}
+use Rattle.basis.proofs.Names.{ap, ap₂, subst, ◌∙◌, inl, inr, false≢true, Memᴰ-head as here, Memᴰ-tail as later, Memᴰ-not_nil as not-nil}
 use Rattle.reorder.specs.Result.{Result, done, refused, map_result}
 use Rattle.reorder.specs.Footprint as places
 use Rattle.codec.specs.declared.Kind.{Kind}

@@ -1,5 +1,6 @@
 -- A register in a mask, and in both of two masks.
-use Rattle.basis.specs.Names.{◌≡◌, true, false, ◌&&◌, ℕ, ◌/◌, ◌%◌, ◌^◌, bit_and}
+use Rattle.std.specs.Prelude.{◌≡◌, true, false, ◌&&◌, ℕ, ◌/◌, ◌%◌, ◌^◌}
+use Rattle.basis.specs.Names.{bit_and}
 use Rattle.basis.proofs.Names.{arith, rules, eq-eqb, ne_eqb}
 use Rattle.machine.proofs.laws.meetings.Masks.{bit, bit-bit_and}
 use Rattle.machine.proofs.laws.meetings.Meeting.{and_exactly}

@@ -1,5 +1,5 @@
 -- The meeting by the lowest number of each manner, as the code tests the numbers.
-use Rattle.basis.specs.Names.{◌≡◌, ℕ, ◌+◌, ◌≤◌, ◌<◌, min}
+use Rattle.std.specs.Prelude.{◌≡◌, ℕ, ◌+◌, ◌≤◌, ◌<◌, min}
 use Rattle.basis.proofs.Names.{rules, lt-ltb, le-ltb, eq-eqb, ne_eqb}
 use Rattle.manual.specs.Places.{Place}
 use Rattle.studio.specs.declared.Manner.TheVariants.{BothWrite, WriteRead, ReadWrite}

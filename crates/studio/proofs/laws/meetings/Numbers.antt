@@ -1,5 +1,6 @@
 -- The places by their numbers: the list of all places has the place with each number, in order.
-use Rattle.basis.specs.Names.{◌≡◌, List, [], ◌∷◌, ◌++◌, Memᴰ as In, ℕ, zero, suc, ◌+◌, ◌-◌, ◌≤◌, ◌<◌}
+use Rattle.std.specs.Prelude.{◌≡◌, List, [], ◌∷◌, ◌++◌, ℕ, zero, suc, ◌+◌, ◌-◌, ◌≤◌, ◌<◌}
+use Rattle.basis.specs.Names.{Memᴰ as In}
 use Rattle.basis.proofs.Names.{ap, Memᴰ-head as here, Memᴰ-tail as later, dec_lt, zero-add, add-zero, suc-add, add_assoc, add-sub_cancel_left, arith, rules, lt-ltb, le-ltb}
 use Rattle.manual.specs.Places.{Place, mmx, integer, byte, zero_mark}
 use Rattle.manual.specs.Locations.{bytes_from}

@@ -1,6 +1,6 @@
 -- The list of all places, gone through from its first on, leads to the lowest of the numbers that the sets share: the definition is what is named by
 -- these numbers.
-use Rattle.basis.specs.Names.{◌≡◌, refl, Bool, true, false, ℕ, zero, suc, ◌+◌, ◌-◌, ◌≤◌, ◌<◌, min}
+use Rattle.std.specs.Prelude.{◌≡◌, refl, Bool, true, false, ℕ, zero, suc, ◌+◌, ◌-◌, ◌≤◌, ◌<◌, min}
 use Rattle.basis.proofs.Names.{sym, ap, ◌∙◌, zero-add, add-zero, suc-add, dec_le, ℕ_discrete, arith}
 use Rattle.machine.specs.declared.Footprint.{Footprint}
 use Rattle.studio.specs.Meetings.{Meeting, lowest}

@@ -1,5 +1,5 @@
 -- The meeting of two footprints, one rule for each answer of the code: EMMS before any place, and none of a step that is refused.
-use Rattle.basis.specs.Names.{◌≡◌, Bool, true, false, ℕ}
+use Rattle.std.specs.Prelude.{◌≡◌, Bool, true, false, ℕ}
 use Rattle.basis.proofs.Names.{rules}
 use Rattle.manual.specs.Kinds.{kinds_meet}
 use Rattle.machine.specs.declared.Footprint.{Footprint}

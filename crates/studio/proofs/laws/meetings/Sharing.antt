@@ -1,5 +1,6 @@
 -- The lowest number of a place that two sets share: the sorts of places stand one behind the other, each with a test of its own.
-use Rattle.basis.specs.Names.{◌≡◌, true, false, ◌&&◌, ℕ, ◌+◌, ◌≤◌, ◌<◌, bit_and}
+use Rattle.std.specs.Prelude.{◌≡◌, true, false, ◌&&◌, ℕ, ◌+◌, ◌≤◌, ◌<◌}
+use Rattle.basis.specs.Names.{bit_and}
 use Rattle.basis.proofs.Names.{◌∙◌, and-false, zero-add, add-sub_cancel_left, arith, rules}
 use Rattle.machine.specs.declared.Places.{Places}
 use Rattle.studio.specs.inner.Meetings.{Least, in_mask, in_both, shared_at}

@@ -1,6 +1,6 @@
 -- Tests and what they test: two that test the same are one, and one that is never true is false.
-use Rattle.basis.specs.Names.{◌≡◌, refl, Bool, true, false, ℕ, eqb}
-use Rattle.basis.proofs.Names.{◌↔◌, false≢true, eq-eqb, eqb-true}
+use Rattle.std.specs.Prelude.{◌≡◌, refl, Bool, true, false, ℕ, eqb, ◌↔◌}
+use Rattle.basis.proofs.Names.{false≢true, eq-eqb, eqb-true}
 
 pub equal_exactly : (x y : ℕ) → (eqb x y ≡ true) ↔ (x ≡ y)
 equal_exactly x y = (eqb-true x y, eq-eqb x y)

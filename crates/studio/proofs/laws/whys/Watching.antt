@@ -1,6 +1,6 @@
 -- A run that is watched: its parts, one after the other, are the run; and what is traced at what a part has come to is the footprint of the
 -- instruction with that number.
-use Rattle.basis.specs.Names.{◌≡◌, true, List, ℕ, ◌+◌, ◌-◌, ◌≤◌}
+use Rattle.std.specs.Prelude.{◌≡◌, true, List, ℕ, ◌+◌, ◌-◌, ◌≤◌}
 use Rattle.basis.proofs.Names.{sym, ap, ap₂, ◌∙◌, arith}
 use Rattle.reorder.specs.Result.{map_result}
 use Rattle.reorder.specs.Run.{Answer, position_reached, state_reached}

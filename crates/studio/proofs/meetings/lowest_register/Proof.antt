@@ -1,5 +1,5 @@
 -- `meetings::lowest_register` meets its contract: before each turn, no register below this one is in the mask.
-use Rattle.basis.specs.Names.{◌-◌, ◌≤◌}
+use Rattle.std.specs.Prelude.{◌-◌, ◌≤◌}
 use Rattle.studio.specs.inner.Meetings.{Least, in_mask}
 use Rattle.studio.proofs.laws.meetings.Masks.{masking}
 use Rattle.studio.proofs.meetings.lowest_register.Statement.{statement}
