@@ -1,13 +1,14 @@
 -- How a run of a block ends: done means at the code's end, spent means the whole budget; a larger budget changes no run that was not spent, and
 -- without a jump a budget of as many as the longest code's bytes is never spent.
-use Rattle.std.specs.Prelude.{◌≡◌, refl, true, List, ℕ, ◌≤◌, ◌<◌, length, drop}
-use Rattle.basis.proofs.Names.{subst, zero-add, arith, ltb-false}
+use Rattle.std.specs.Prelude.{◌≡◌, refl, true, List, ℕ, ◌+◌, ◌≤◌, ◌<◌, length, drop}
+use Rattle.basis.proofs.Names.{sym, subst, ◌∙◌, zero-add, drop-drop, arith, ltb-false}
+use Rattle.reorder.specs.Result.{done}
 use Rattle.reorder.specs.Run.{Answer, finished, spent, stopped, run_from, run}
 use Rattle.reorder.specs.Block.{rearranged}
 use Rattle.reorder.proofs.Permutation.{from}
+use Rattle.reorder.proofs.Cutting.{Clear, clear_first}
 use Rattle.reorder.proofs.Rearranging.{own_order_same}
-use Rattle.reorder.proofs.Endings.{by_turns, EndsWell, ends_well}
-use Rattle.reorder.proofs.Parting.{Ended, ended_stays, ClearFrom, behind}
+use Rattle.reorder.proofs.Endings.{by_turns, EndsWell, ends_well, Ended, ended_stays}
 use Rattle.codec.specs.Reads.{longest_code}
 use Rattle.manual.specs.State.{State}
 use Rattle.manual.specs.Instructions.{execute}
@@ -26,19 +27,22 @@ Passed (spent at count t) = count ≤ at
 Passed (stopped n at count t) = count ≤ at
 
 -- where reading reaches no jump
-passed : (floor : ℕ) (code : List ℕ) (remaining at count : ℕ) (s : State) → ClearFrom read is_jump code at → count ≤ at
+passed : (floor : ℕ) (code : List ℕ) (remaining at count : ℕ) (s : State) (most : ℕ) → Clear read is_jump most (drop at code) → count ≤ at
     → Passed (run_from read (execute floor) next remaining code at count s)
 passed floor code =
-    by_turns read (execute floor) next code (λ remaining at count s a. ClearFrom read is_jump code at → count ≤ at → Passed a)
+    by_turns read (execute floor) next code (λ remaining at count s a. (most : ℕ) → Clear read is_jump most (drop at code) → count ≤ at → Passed a)
     (record {
-      ends = λ remaining at count s e clear h. h;
-      spends = λ at count s e clear h. h;
-      unread = λ remaining at count n s e er clear h. h;
-      unexecuted = λ remaining at count n s r e er eo clear h. h;
-      astray = λ remaining at count n s t r e er et eo clear h. h;
-      turns = λ remaining at count s t r further a e er et eo rest clear h.
-          let (here, there, clear') = behind read next is_jump local_reader goes_on code at s r further er eo clear in
-          rest clear' (omega (arith, (local (drop at code) r er).some));
+      ends = λ remaining at count s e most clear h. h;
+      spends = λ at count s e most clear h. h;
+      unread = λ remaining at count n s e er most clear h. h;
+      unexecuted = λ remaining at count n s r e er eo most clear h. h;
+      astray = λ remaining at count n s t r e er et eo most clear h. h;
+      turns = λ remaining at count s t r further a e er et eo rest most clear h.
+          let (here, most', behind) = clear_first read is_jump local_reader most (drop at code) r er clear in
+          let same : done further ≡ done (at + r.size) = sym eo ∙ goes_on r.instruction here (length code) s (at + r.size) in
+          let there : further ≡ at + r.size = cc in
+          rest most' (subst (λ (n : ℕ). Clear read is_jump most' (drop n code)) (sym there) (subst (Clear read is_jump most') (drop-drop r.size at code) behind))
+          (omega (arith, (local (drop at code) r er).some));
     })
 
 module _ (floor : ℕ) (code : List ℕ) (budget : ℕ) (s : State) where
@@ -62,7 +66,7 @@ module _ (floor : ℕ) (code : List ℕ) (budget : ℕ) (s : State) where
   pub never_spent : (at count : ℕ) (t : State) → has_no_jump code ≡ true → longest_code ≤ budget → run_of floor code budget s ≡ spent at count t → ⊥
   never_spent at count t no_jump enough h =
       let (all, before) = spent_whole at count t h in
-      let (bytes, fits) = subst Spendable h (of_run floor code s (λ runs. Spendable (runs budget)) (λ n e. tt) (λ fits code_fits. spendable (run read (execute floor) next budget code s) (passed floor code budget 0 0 s (length code, (omega arith, straight code code_fits no_jump)) (omega arith)) (ltb-false longest_code (length code) code_fits))) in
+      let (bytes, fits) = subst Spendable h (of_run floor code s (λ runs. Spendable (runs budget)) (λ n e. tt) (λ fits code_fits. spendable (run read (execute floor) next budget code s) (passed floor code budget 0 0 s (length code) (omega arith, straight code code_fits no_jump) (omega arith)) (ltb-false longest_code (length code) code_fits))) in
       omega arith
     where
       Spendable : Answer State → Type 0

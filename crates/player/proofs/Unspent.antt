@@ -2,7 +2,7 @@
 use Rattle.std.specs.Prelude.{◌≡◌, refl, true, List, ℕ, ◌≤◌}
 use Rattle.basis.proofs.Names.{arith}
 use Rattle.reorder.specs.Run.{Answer, finished, spent, stopped}
-use Rattle.reorder.proofs.Parting.{Ended}
+use Rattle.reorder.proofs.Endings.{Ended}
 use Rattle.manual.specs.State.{State}
 use Rattle.manual.specs.Runs.{run_of, has_no_jump}
 use Rattle.manual.proofs.Endings.{never_spent, larger_budget}

@@ -1,5 +1,6 @@
--- How a run ends: done at the code's end, spent with its whole budget before it. By induction over a run's turns, said once.
-use Rattle.std.specs.Prelude.{◌≡◌, refl, List, ℕ, zero, suc, ◌+◌, length, drop}
+-- How a run ends: done at the code's end, spent with its whole budget before it; and a larger budget changes no run that was not spent. By
+-- induction over a run's turns, said once.
+use Rattle.std.specs.Prelude.{◌≡◌, refl, List, ℕ, zero, suc, ◌+◌, ◌≤◌, length, drop}
 use Rattle.basis.proofs.Names.{sym, subst, add-zero, ℕ_discrete, arith, eq-eqb, ne_eqb}
 use Rattle.reorder.specs.Result.{Result, done, refused}
 use Rattle.reorder.specs.Run.{Fetched, Answer, finished, spent, stopped, run_from}
@@ -9,6 +10,12 @@ abbrev pub EndsWell : {S : Type 0} → List ℕ → ℕ → Answer S → Type 0
 EndsWell code most (finished at count t) = at ≡ length code
 EndsWell code most (spent at count t) = (count ≡ most) × ¬ (at ≡ length code)
 EndsWell code most (stopped n at count t) = Unit {0}
+
+-- it was not spent
+abbrev pub Ended : {S : Type 0} → Answer S → Type 0
+Ended (finished at count t) = Unit {0}
+Ended (spent at count t) = ⊥
+Ended (stopped n at count t) = Unit {0}
 
 module _ {S I : Type 0} (read : List ℕ → Result (Fetched I)) (exec : I → S → Result S) (next : ℕ → I → S → ℕ → Result ℕ) (code : List ℕ) where
   -- a property of runs (what is left of the budget, the position, the count, the state, the answer) that each way to end has, and that a turn
@@ -68,3 +75,43 @@ module _ {S I : Type 0} (read : List ℕ → Result (Fetched I)) (exec : I → S
         astray = λ remaining at count n s t r e er et eo. tt;
         turns = λ remaining at count s t r further a e er et eo rest. subst (λ (most : ℕ). EndsWell code most a) (omega arith) rest;
       })
+
+  -- with more left of the budget the answer is the same
+  abbrev Stays : ℕ → ℕ → ℕ → S → Answer S → Type 0
+  Stays remaining at count s a = (more : ℕ) → remaining ≤ more → Ended a → run_from read exec next more code at count s ≡ a
+
+  pub ended_stays : (remaining at count : ℕ) (s : S) → Stays remaining at count s (run_from read exec next remaining code at count s)
+  ended_stays =
+      by_turns Stays
+      (record {
+        ends = at_end;
+        spends = λ at count s e more b ended. absurd ended;
+        unread = not_read;
+        unexecuted = not-executed;
+        astray = goes-astray;
+        turns = goes_on;
+      })
+    where
+      at_end : (remaining at count : ℕ) (s : S) → at ≡ length code → Stays remaining at count s (finished at count s)
+      at_end remaining at count s e zero b ended = simp (eq-eqb _ _ e)
+      at_end remaining at count s e (suc more) b ended = simp (eq-eqb _ _ e)
+
+      not_read : (remaining at count n : ℕ) (s : S) → ¬ (at ≡ length code) → read (drop at code) ≡ refused n → Stays (suc remaining) at count s (stopped n at count s)
+      not_read remaining at count n s e er zero b ended = absurd (omega arith)
+      not_read remaining at count n s e er (suc more) b ended = simp (ne_eqb _ _ e, er)
+
+      not-executed : (remaining at count n : ℕ) (s : S) (r : Fetched I) → ¬ (at ≡ length code) → read (drop at code) ≡ done r → exec r.instruction s ≡ refused n
+          → Stays (suc remaining) at count s (stopped n at count s)
+      not-executed remaining at count n s r e er eo zero b ended = absurd (omega arith)
+      not-executed remaining at count n s r e er eo (suc more) b ended = simp (ne_eqb _ _ e, er, eo)
+
+      goes-astray : (remaining at count n : ℕ) (s t : S) (r : Fetched I) → ¬ (at ≡ length code) → read (drop at code) ≡ done r → exec r.instruction s ≡ done t
+          → next (length code) r.instruction s (at + r.size) ≡ refused n → Stays (suc remaining) at count s (stopped n at count s)
+      goes-astray remaining at count n s t r e er et eo zero b ended = absurd (omega arith)
+      goes-astray remaining at count n s t r e er et eo (suc more) b ended = simp (ne_eqb _ _ e, er, et, eo)
+
+      goes_on : (remaining at count : ℕ) (s t : S) (r : Fetched I) (further : ℕ) (a : Answer S) → ¬ (at ≡ length code) → read (drop at code) ≡ done r
+          → exec r.instruction s ≡ done t → next (length code) r.instruction s (at + r.size) ≡ done further → Stays remaining further (suc count) t a
+          → Stays (suc remaining) at count s a
+      goes_on remaining at count s t r further a e er et eo rest zero b ended = absurd (omega arith)
+      goes_on remaining at count s t r further a e er et eo rest (suc more) b ended = simp (ne_eqb _ _ e, er, et, eo) (rest more (omega arith) ended)

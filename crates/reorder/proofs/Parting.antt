@@ -1,7 +1,6 @@
--- A run in parts. With more of its budget it is the run without that, and where this was spent, a run with what is more from there on; so a larger
--- budget changes no run that was not spent. Where no instruction jumps, what is more is the run of the rest of the code alone. And whether reading
--- reaches some instruction, one after the other.
-use Rattle.std.specs.Prelude.{◌≡◌, refl, Bool, false, ◌||◌, List, ℕ, zero, suc, ◌+◌, ◌-◌, ◌≤◌, eqb, length, drop}
+-- A run in parts. With more of its budget it is the run without that, and where this was spent, a run with what is more from there on. Where no
+-- instruction jumps, what is more is the run of the rest of the code alone. And whether reading reaches some instruction, one after the other.
+use Rattle.std.specs.Prelude.{◌≡◌, refl, Bool, false, ◌||◌, List, ℕ, zero, suc, ◌+◌, ◌≤◌, eqb, length, drop}
 use Rattle.basis.proofs.Names.{sym, ap, ap₂, subst, ◌∙◌, false≢true, zero-add, add-zero, suc-add, arith, eq-eqb, ne_eqb, length-drop, drop-drop}
 use Rattle.reorder.specs.Result.{Result, done, refused, case_of}
 use Rattle.reorder.specs.Run.{Fetched, Answer, finished, spent, stopped, run_from, run}
@@ -15,12 +14,6 @@ abbrev pub counted_from : {S : Type 0} → ℕ → ℕ → Answer S → Answer S
 counted_from position count (finished at total s) = finished (position + at) (count + total) s
 counted_from position count (spent at total s) = spent (position + at) (count + total) s
 counted_from position count (stopped n at total s) = stopped n (position + at) (count + total) s
-
--- it was not spent
-abbrev pub Ended : {S : Type 0} → Answer S → Type 0
-Ended (finished at count t) = Unit {0}
-Ended (spent at count t) = ⊥
-Ended (stopped n at count t) = Unit {0}
 
 module _ {S I : Type 0} (read : List ℕ → Result (Fetched I)) (exec : I → S → Result S) (next : ℕ → I → S → ℕ → Result ℕ) (code : List ℕ) where
   -- at the end of the code, with whatever is left of the budget
@@ -41,21 +34,6 @@ module _ {S I : Type 0} (read : List ℕ → Result (Fetched I)) (exec : I → S
         astray = λ remaining at count n s t r e er et eo. simp (suc-add, ne_eqb _ _ e, er, et, eo);
         turns = λ remaining at count s t r further a e er et eo rest. simp (suc-add, ne_eqb _ _ e, er, et, eo) rest;
       })
-
-  pub ended_stays : (remaining at count : ℕ) (s : S) (larger : ℕ) → remaining ≤ larger → Ended (run_from read exec next remaining code at count s)
-      → run_from read exec next larger code at count s ≡ run_from read exec next remaining code at count s
-  ended_stays remaining at count s larger b ended =
-      ap (λ (n : ℕ). run_from read exec next n code at count s) whole
-      ∙ parted (larger - remaining) remaining at count s
-      ∙ same (larger - remaining) (run_from read exec next remaining code at count s) ended
-    where
-      whole : larger ≡ remaining + (larger - remaining)
-      whole = omega arith
-
-      same : (more : ℕ) (a : Answer S) → Ended a → continued read exec next code more a ≡ a
-      same more (finished at count t) ended = refl
-      same more (spent at count t) ended = absurd ended
-      same more (stopped n at count t) ended = refl
 
 module _ {I : Type 0} (read : List ℕ → Result (Fetched I)) (jumps : I → Bool) where
   -- reading from a position on reaches none that jumps
