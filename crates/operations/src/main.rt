@@ -1,9 +1,12 @@
 // Performs each packed operation on numbers of a fixed generator, and prints its name and a number that all results went into, a line for each
 // operation; then the same of the functions beside `lanes::operate`. With three bytes on standard input, a line's number and a count of rounds (low
 // byte first), it performs that line's alone.
+#![tactic(auto)]
+
 ghost use Rattle.std.specs.Prelude.{◌+◌, ◌<◌, ◌≤◌};
 
-use libc::{STDIN_FILENO, STDOUT_FILENO};
+use std::io;
+use std::io::{BufWriter, Read, Write};
 
 // How many lines there are: those of the 58 operations, of a number that names none, and of the five functions.
 const LINES: u8 = 64;
@@ -42,9 +45,7 @@ const COUNTS: u64 = 72;
 
 const ONE_BYTE: u64 = 0xff_0000_0000;
 
-// The digits of a sum; the bytes of an input, and how many values each has.
-const DIGITS: usize = 16;
-
+// The bytes of an input, and how many values each has.
 const INPUT: usize = 3;
 
 const BASE: u64 = 256;
@@ -106,24 +107,24 @@ fn name_start(line: u8) -> usize
     PLACES * KEEP as usize
 }
 
-fn print_name(line: u8) {
+fn print_name(out: &mut impl Write, line: u8) -> io::Result<()> {
     let start = name_start(line);
     let end = start + PLACES;
-    io::write_all(STDOUT_FILENO, &NAMES[start..end]);
+    out.write_all(&NAMES[start..end])
 }
 
-fn print(line: u8, rounds: u64) {
-    print_name(line);
-    io::print_hex(STDOUT_FILENO, mixed(line, rounds), DIGITS);
-    io::write_all(STDOUT_FILENO, b"\n");
+fn print(out: &mut impl Write, line: u8, rounds: u64) -> io::Result<()> {
+    print_name(out, line)?;
+    writeln!(out, "{:016x}", mixed(line, rounds))
 }
 
-fn print_all() {
+fn print_all(out: &mut impl Write) -> io::Result<()> {
     let mut line: u8 = 0;
     while line < LINES {
-        print(line, ROUNDS);
+        print(out, line, ROUNDS)?;
         line += 1;
     }
+    Ok(())
 }
 
 fn wide(x: u8) -> u64
@@ -132,11 +133,12 @@ fn wide(x: u8) -> u64
     x as u64
 }
 
-fn main() {
+fn main(rt: HostRuntime) -> io::Result<()> {
     let mut input = [0u8; INPUT];
-    if io::read_full(STDIN_FILENO, &mut input) == INPUT {
-        print(input[0], wide(input[1]) + BASE * wide(input[2]));
-    } else {
-        print_all();
+    let mut out = BufWriter::new(rt.alloc(), io::writer(&rt))?;
+    match rt.reader().read_exact(&mut input) {
+        Ok(()) => print(&mut out, input[0], wide(input[1]) + BASE * wide(input[2]))?,
+        Err(_) => print_all(&mut out)?,
     }
+    out.flush()
 }
