@@ -4,10 +4,8 @@ use crate::{ADD, DEC, ESCAPE, FILL, ROOM};
 use codec::modes::REGISTER;
 use codec::refusals::{LONGEST_CODE, PREFIXED};
 use codec::{Instruction, Operand, Reading, Writing};
-use libc::STDOUT_FILENO;
-
-// The hex digits of a byte.
-const DIGITS: usize = 2;
+use std::io;
+use std::io::Write;
 
 // The first bytes of MOV with register 0, and of JNZ.
 const MOV: u8 = 0xb8;
@@ -29,26 +27,28 @@ const PFMAX: u8 = 0xa4;
 const PFMUL: u8 = 0xb4;
 
 // A line of a name and a number.
-pub(crate) fn print(name: &[u8], n: u64) {
-    io::write_all(STDOUT_FILENO, name);
-    io::write_all(STDOUT_FILENO, b" ");
-    io::print_decimal(STDOUT_FILENO, n);
-    io::write_all(STDOUT_FILENO, b"\n");
+pub(crate) fn print(out: &mut impl Write, name: &str, n: u64) -> io::Result<()> {
+    writeln!(out, "{name} {n}")
 }
 
 // The refusal of reading a code at its start, or 0.
-fn print_reading(name: &[u8], code: &[u8]) {
+fn print_reading(out: &mut impl Write, name: &str, code: &[u8]) -> io::Result<()> {
     match codec::read(code, 0) {
-        Reading::Read(_, _) => print(name, 0),
-        Reading::Refused(refusal) => print(name, refusal as u64),
+        Reading::Read(_, _) => print(out, name, 0),
+        Reading::Refused(refusal) => print(out, name, refusal as u64),
     }
 }
 
 // The refusal of writing an instruction, or 0.
-fn print_written(name: &[u8], instruction: Instruction, buffer: &mut [u8]) {
+fn print_written(
+    out: &mut impl Write,
+    name: &str,
+    instruction: Instruction,
+    buffer: &mut [u8],
+) -> io::Result<()> {
     match codec::write(instruction, buffer) {
-        Writing::Wrote(_) => print(name, 0),
-        Writing::Refused(refusal) => print(name, refusal as u64),
+        Writing::Wrote(_) => print(out, name, 0),
+        Writing::Refused(refusal) => print(out, name, refusal as u64),
     }
 }
 
@@ -71,23 +71,32 @@ fn instruction_of(first: u8, second: u8, mode: u8, reg: u8, rm: u8, immediate: u
 }
 
 // The refusal of one between registers.
-fn print_writing(name: &[u8], second: u8, reg: u8, rm: u8, immediate: u32, buffer: &mut [u8]) {
+fn print_writing(
+    out: &mut impl Write,
+    name: &str,
+    second: u8,
+    reg: u8,
+    rm: u8,
+    immediate: u32,
+    buffer: &mut [u8],
+) -> io::Result<()> {
     let instruction = instruction_of(ESCAPE, second, REGISTER, reg, rm, immediate);
-    print_written(name, instruction, buffer);
+    print_written(out, name, instruction, buffer)
 }
 
 // That of one of loops, with this mod and rm.
 fn print_loop(
-    name: &[u8],
+    out: &mut impl Write,
+    name: &str,
     first: u8,
     second: u8,
     mode: u8,
     rm: u8,
     immediate: u32,
     buffer: &mut [u8],
-) {
+) -> io::Result<()> {
     let instruction = instruction_of(first, second, mode, 0, rm, immediate);
-    print_written(name, instruction, buffer);
+    print_written(out, name, instruction, buffer)
 }
 
 // A first byte that is refused as a prefix, on its own.
@@ -99,15 +108,14 @@ fn is_prefix(first: u8) -> bool {
 }
 
 // The prefixes among all 256 first bytes, in hex.
-fn print_prefixes() {
-    io::write_all(STDOUT_FILENO, b"prefixes");
+fn print_prefixes(out: &mut impl Write) -> io::Result<()> {
+    write!(out, "prefixes")?;
     for first in 0u8..=255 {
         if is_prefix(first) {
-            io::write_all(STDOUT_FILENO, b" ");
-            io::print_hex(STDOUT_FILENO, first as u64, DIGITS);
+            write!(out, " {first:02x}")?;
         }
     }
-    io::write_all(STDOUT_FILENO, b"\n");
+    writeln!(out)
 }
 
 // A suffix that is listed.
@@ -119,225 +127,289 @@ fn is_suffix(suffix: u8) -> bool {
 }
 
 // The suffixes among all 256 bytes, in hex.
-fn print_suffixes() {
-    io::write_all(STDOUT_FILENO, b"suffixes");
+fn print_suffixes(out: &mut impl Write) -> io::Result<()> {
+    write!(out, "suffixes")?;
     for suffix in 0u8..=255 {
         if is_suffix(suffix) {
-            io::write_all(STDOUT_FILENO, b" ");
-            io::print_hex(STDOUT_FILENO, suffix as u64, DIGITS);
+            write!(out, " {suffix:02x}")?;
         }
     }
-    io::write_all(STDOUT_FILENO, b"\n");
+    writeln!(out)
 }
 
-fn print_shifts() {
-    print_reading(b"0F 71 C0 01 is", &[ESCAPE, 0x71, 0xc0, 0x01]);
-    print_reading(b"0F 71 00 is", &[ESCAPE, 0x71, 0x00]);
-    print_reading(b"0F 71 D0 is", &[ESCAPE, 0x71, 0xd0]);
+fn print_shifts(out: &mut impl Write) -> io::Result<()> {
+    print_reading(out, "0F 71 C0 01 is", &[ESCAPE, 0x71, 0xc0, 0x01])?;
+    print_reading(out, "0F 71 00 is", &[ESCAPE, 0x71, 0x00])?;
+    print_reading(out, "0F 71 D0 is", &[ESCAPE, 0x71, 0xd0])
 }
 
 // Forms of registers or of memory that manual 000 does not list, before what would follow them; and listed ones that are cut short.
-fn print_forms() {
-    print_reading(b"0F C5 00 is", &[ESCAPE, 0xc5, 0x00]);
-    print_reading(b"0F C5 C0 is", &[ESCAPE, 0xc5, 0xc0]);
-    print_reading(b"0F D7 00 is", &[ESCAPE, 0xd7, 0x00]);
-    print_reading(b"0F E7 C0 is", &[ESCAPE, 0xe7, 0xc0]);
-    print_reading(b"0F F7 00 is", &[ESCAPE, 0xf7, 0x00]);
+fn print_forms(out: &mut impl Write) -> io::Result<()> {
+    print_reading(out, "0F C5 00 is", &[ESCAPE, 0xc5, 0x00])?;
+    print_reading(out, "0F C5 C0 is", &[ESCAPE, 0xc5, 0xc0])?;
+    print_reading(out, "0F D7 00 is", &[ESCAPE, 0xd7, 0x00])?;
+    print_reading(out, "0F E7 C0 is", &[ESCAPE, 0xe7, 0xc0])?;
+    print_reading(out, "0F F7 00 is", &[ESCAPE, 0xf7, 0x00])
 }
 
-fn print_prefetches() {
-    print_reading(b"0F 18 C0 is", &[ESCAPE, 0x18, 0xc0]);
-    print_reading(b"0F 18 20 is", &[ESCAPE, 0x18, 0x20]);
-    print_reading(b"0F 18 04 is", &[ESCAPE, 0x18, 0x04]);
+fn print_prefetches(out: &mut impl Write) -> io::Result<()> {
+    print_reading(out, "0F 18 C0 is", &[ESCAPE, 0x18, 0xc0])?;
+    print_reading(out, "0F 18 20 is", &[ESCAPE, 0x18, 0x20])?;
+    print_reading(out, "0F 18 04 is", &[ESCAPE, 0x18, 0x04])
 }
 
-fn print_fences() {
-    print_reading(b"0F AE is", &[ESCAPE, OF_SFENCE]);
-    print_reading(b"0F AE E8 is", &[ESCAPE, OF_SFENCE, 0xe8]);
-    print_reading(b"0F AE F0 is", &[ESCAPE, OF_SFENCE, 0xf0]);
-    print_reading(b"0F AE F9 is", &[ESCAPE, OF_SFENCE, 0xf9]);
-    print_reading(b"0F AE 38 is", &[ESCAPE, OF_SFENCE, 0x38]);
-    print_reading(b"0F AE 3C is", &[ESCAPE, OF_SFENCE, 0x3c]);
+fn print_fences(out: &mut impl Write) -> io::Result<()> {
+    print_reading(out, "0F AE is", &[ESCAPE, OF_SFENCE])?;
+    print_reading(out, "0F AE E8 is", &[ESCAPE, OF_SFENCE, 0xe8])?;
+    print_reading(out, "0F AE F0 is", &[ESCAPE, OF_SFENCE, 0xf0])?;
+    print_reading(out, "0F AE F9 is", &[ESCAPE, OF_SFENCE, 0xf9])?;
+    print_reading(out, "0F AE 38 is", &[ESCAPE, OF_SFENCE, 0x38])?;
+    print_reading(out, "0F AE 3C is", &[ESCAPE, OF_SFENCE, 0x3c])
 }
 
-fn print_opcodes() {
-    print_reading(b"0F 0B is", &[ESCAPE, 0x0b]);
-    print_reading(b"90 is", &[0x90]);
-    print_reading(b"0F is", &[ESCAPE]);
+fn print_opcodes(out: &mut impl Write) -> io::Result<()> {
+    print_reading(out, "0F 0B is", &[ESCAPE, 0x0b])?;
+    print_reading(out, "90 is", &[0x90])?;
+    print_reading(out, "0F is", &[ESCAPE])
 }
 
 // Instructions of loops, cut short and whole.
-fn print_loops() {
-    print_reading(b"B8 00 00 00 is", &[MOV, 0x00, 0x00, 0x00]);
-    print_reading(b"B8 00 00 00 00 is", &[MOV, 0x00, 0x00, 0x00, 0x00]);
-    print_reading(b"49 is", &[0x49]);
-    print_reading(b"75 is", &[JNZ]);
+fn print_loops(out: &mut impl Write) -> io::Result<()> {
+    print_reading(out, "B8 00 00 00 is", &[MOV, 0x00, 0x00, 0x00])?;
+    print_reading(out, "B8 00 00 00 00 is", &[MOV, 0x00, 0x00, 0x00, 0x00])?;
+    print_reading(out, "49 is", &[0x49])?;
+    print_reading(out, "75 is", &[JNZ])
 }
 
 // ADD cut short, and with ModRM bytes that are not listed.
-fn print_additions() {
-    print_reading(b"83 is", &[ADD]);
-    print_reading(b"83 C0 is", &[ADD, 0xc0]);
-    print_reading(b"83 00 is", &[ADD, 0x00]);
-    print_reading(b"83 C8 is", &[ADD, 0xc8]);
+fn print_additions(out: &mut impl Write) -> io::Result<()> {
+    print_reading(out, "83 is", &[ADD])?;
+    print_reading(out, "83 C0 is", &[ADD, 0xc0])?;
+    print_reading(out, "83 00 is", &[ADD, 0x00])?;
+    print_reading(out, "83 C8 is", &[ADD, 0xc8])
 }
 
 // The bytes of JNZ and ADD after 0F: PCMPEQW's, and none of the table.
-fn print_escaped() {
-    print_reading(b"0F 75 C0 is", &[ESCAPE, JNZ, 0xc0]);
-    print_reading(b"0F 83 is", &[ESCAPE, ADD]);
+fn print_escaped(out: &mut impl Write) -> io::Result<()> {
+    print_reading(out, "0F 75 C0 is", &[ESCAPE, JNZ, 0xc0])?;
+    print_reading(out, "0F 83 is", &[ESCAPE, ADD])
 }
 
 // Siblings without a suffix, and with one that is not listed, behind each sort of operand bytes; and the second bytes beside theirs.
-fn print_siblings() {
-    print_reading(b"0F 0F is", &[ESCAPE, SIBLING]);
-    print_reading(b"0F 0F C0 is", &[ESCAPE, SIBLING, 0xc0]);
-    print_reading(b"0F 0F C0 B4 is", &[ESCAPE, SIBLING, 0xc0, PFMUL]);
-    print_reading(b"0F 0F C0 A4 is", &[ESCAPE, SIBLING, 0xc0, PFMAX]);
-    print_reading(b"0F 0F 04 is", &[ESCAPE, SIBLING, 0x04]);
-    print_reading(b"0F 0F 04 A4 is", &[ESCAPE, SIBLING, 0x04, PFMAX]);
-    print_reading(b"0F 0D is", &[ESCAPE, 0x0d]);
-    print_reading(b"0F 0E is", &[ESCAPE, 0x0e]);
+fn print_siblings(out: &mut impl Write) -> io::Result<()> {
+    print_reading(out, "0F 0F is", &[ESCAPE, SIBLING])?;
+    print_reading(out, "0F 0F C0 is", &[ESCAPE, SIBLING, 0xc0])?;
+    print_reading(out, "0F 0F C0 B4 is", &[ESCAPE, SIBLING, 0xc0, PFMUL])?;
+    print_reading(out, "0F 0F C0 A4 is", &[ESCAPE, SIBLING, 0xc0, PFMAX])?;
+    print_reading(out, "0F 0F 04 is", &[ESCAPE, SIBLING, 0x04])?;
+    print_reading(out, "0F 0F 04 A4 is", &[ESCAPE, SIBLING, 0x04, PFMAX])?;
+    print_reading(out, "0F 0D is", &[ESCAPE, 0x0d])?;
+    print_reading(out, "0F 0E is", &[ESCAPE, 0x0e])
 }
 
 // A displacement that is a suffix, before one that is listed or not, or before none; and the other way round.
-fn print_displacements() {
-    print_reading(b"0F 0F 40 A4 is", &[ESCAPE, SIBLING, 0x40, PFMAX]);
-    print_reading(b"0F 0F 40 A4 B4 is", &[ESCAPE, SIBLING, 0x40, PFMAX, PFMUL]);
-    print_reading(b"0F 0F 40 B4 A4 is", &[ESCAPE, SIBLING, 0x40, PFMUL, PFMAX]);
+fn print_displacements(out: &mut impl Write) -> io::Result<()> {
+    print_reading(out, "0F 0F 40 A4 is", &[ESCAPE, SIBLING, 0x40, PFMAX])?;
+    print_reading(
+        out,
+        "0F 0F 40 A4 B4 is",
+        &[ESCAPE, SIBLING, 0x40, PFMAX, PFMUL],
+    )?;
+    print_reading(
+        out,
+        "0F 0F 40 B4 A4 is",
+        &[ESCAPE, SIBLING, 0x40, PFMUL, PFMAX],
+    )
 }
 
-fn print_lengths() {
-    print_reading(b"no byte is", &[]);
-    print_reading(b"4097 bytes is", &[ESCAPE; LONGEST_CODE + 1]);
+fn print_lengths(out: &mut impl Write) -> io::Result<()> {
+    print_reading(out, "no byte is", &[])?;
+    print_reading(out, "4097 bytes is", &[ESCAPE; LONGEST_CODE + 1])
 }
 
-fn print_writings() {
+fn print_writings(out: &mut impl Write) -> io::Result<()> {
     let mut buffer = [FILL; ROOM];
-    print_writing(b"register 8 is", PADDB, 0, 8, 0, &mut buffer);
-    print_writing(b"a buffer of 2 bytes is", PADDB, 0, 7, 0, &mut buffer[0..2]);
-}
-
-fn print_immediates() {
-    let mut buffer = [FILL; ROOM];
-    print_writing(b"PADDB with an immediate is", PADDB, 0, 7, 1, &mut buffer);
-    print_writing(b"PSHUFW with 255 is", PSHUFW, 0, 7, 255, &mut buffer);
-    print_writing(b"PSHUFW with 256 is", PSHUFW, 0, 7, 256, &mut buffer);
-    print_writing(b"PSHUFW in 3 bytes is", PSHUFW, 0, 7, 0, &mut buffer[0..3]);
-}
-
-fn print_written_fences() {
-    let mut buffer = [FILL; ROOM];
-    print_writing(b"SFENCE is", OF_SFENCE, FENCE_DIGIT, 0, 0, &mut buffer);
+    print_writing(out, "register 8 is", PADDB, 0, 8, 0, &mut buffer)?;
     print_writing(
-        b"SFENCE with rm 1 is",
+        out,
+        "a buffer of 2 bytes is",
+        PADDB,
+        0,
+        7,
+        0,
+        &mut buffer[0..2],
+    )
+}
+
+fn print_immediates(out: &mut impl Write) -> io::Result<()> {
+    let mut buffer = [FILL; ROOM];
+    print_writing(
+        out,
+        "PADDB with an immediate is",
+        PADDB,
+        0,
+        7,
+        1,
+        &mut buffer,
+    )?;
+    print_writing(out, "PSHUFW with 255 is", PSHUFW, 0, 7, 255, &mut buffer)?;
+    print_writing(out, "PSHUFW with 256 is", PSHUFW, 0, 7, 256, &mut buffer)?;
+    print_writing(
+        out,
+        "PSHUFW in 3 bytes is",
+        PSHUFW,
+        0,
+        7,
+        0,
+        &mut buffer[0..3],
+    )
+}
+
+fn print_written_fences(out: &mut impl Write) -> io::Result<()> {
+    let mut buffer = [FILL; ROOM];
+    print_writing(out, "SFENCE is", OF_SFENCE, FENCE_DIGIT, 0, 0, &mut buffer)?;
+    print_writing(
+        out,
+        "SFENCE with rm 1 is",
         OF_SFENCE,
         FENCE_DIGIT,
         1,
         0,
         &mut buffer,
-    );
-    print_writing(b"SFENCE with digit 5 is", OF_SFENCE, 5, 0, 0, &mut buffer);
+    )?;
+    print_writing(
+        out,
+        "SFENCE with digit 5 is",
+        OF_SFENCE,
+        5,
+        0,
+        0,
+        &mut buffer,
+    )
 }
 
-fn print_written_siblings() {
+fn print_written_siblings(out: &mut impl Write) -> io::Result<()> {
     let mut buffer = [FILL; ROOM];
-    print_writing(b"PFMAX is", SIBLING, 0, 7, PFMAX as u32, &mut buffer);
+    print_writing(out, "PFMAX is", SIBLING, 0, 7, PFMAX as u32, &mut buffer)?;
     print_writing(
-        b"0F 0F with B4 is",
+        out,
+        "0F 0F with B4 is",
         SIBLING,
         0,
         7,
         PFMUL as u32,
         &mut buffer,
-    );
-    print_writing(b"0F 0F with 1A4 is", SIBLING, 0, 7, 0x1a4, &mut buffer);
+    )?;
+    print_writing(out, "0F 0F with 1A4 is", SIBLING, 0, 7, 0x1a4, &mut buffer)?;
     print_writing(
-        b"PFMAX with register 8 is",
+        out,
+        "PFMAX with register 8 is",
         SIBLING,
         0,
         8,
         PFMAX as u32,
         &mut buffer,
-    );
+    )?;
     print_writing(
-        b"PFMAX in 3 bytes is",
+        out,
+        "PFMAX in 3 bytes is",
         SIBLING,
         0,
         7,
         PFMAX as u32,
         &mut buffer[0..3],
-    );
+    )
 }
 
-fn print_written_loops() {
+fn print_written_loops(out: &mut impl Write) -> io::Result<()> {
     let mut buffer = [FILL; ROOM];
     print_loop(
-        b"MOV with FFFFFFFF is",
+        out,
+        "MOV with FFFFFFFF is",
         MOV,
         0,
         0,
         0,
         0xffffffff,
         &mut buffer,
-    );
-    print_loop(b"JNZ with 256 is", JNZ, 0, 0, 0, 256, &mut buffer);
-    print_loop(b"ADD is", ADD, 0, REGISTER, 0, 255, &mut buffer);
-    print_loop(b"ADD to memory is", ADD, 0, 0, 0, 255, &mut buffer);
+    )?;
+    print_loop(out, "JNZ with 256 is", JNZ, 0, 0, 0, 256, &mut buffer)?;
+    print_loop(out, "ADD is", ADD, 0, REGISTER, 0, 255, &mut buffer)?;
+    print_loop(out, "ADD to memory is", ADD, 0, 0, 0, 255, &mut buffer)?;
     print_loop(
-        b"ADD with register 8 is",
+        out,
+        "ADD with register 8 is",
         ADD,
         0,
         REGISTER,
         8,
         255,
         &mut buffer,
-    );
+    )
 }
 
-fn print_written_decrements() {
+fn print_written_decrements(out: &mut impl Write) -> io::Result<()> {
     let mut buffer = [FILL; ROOM];
-    print_loop(b"DEC with a second byte is", DEC, 1, 0, 0, 0, &mut buffer);
     print_loop(
-        b"DEC with an operand is",
+        out,
+        "DEC with a second byte is",
+        DEC,
+        1,
+        0,
+        0,
+        0,
+        &mut buffer,
+    )?;
+    print_loop(
+        out,
+        "DEC with an operand is",
         DEC,
         0,
         REGISTER,
         0,
         0,
         &mut buffer,
-    );
-    print_loop(b"DEC with an immediate is", DEC, 0, 0, 0, 1, &mut buffer);
+    )?;
+    print_loop(
+        out,
+        "DEC with an immediate is",
+        DEC,
+        0,
+        0,
+        0,
+        1,
+        &mut buffer,
+    )
 }
 
-fn print_short_loops() {
+fn print_short_loops(out: &mut impl Write) -> io::Result<()> {
     let mut four = [FILL; 4];
     let mut one = [FILL; 1];
-    print_loop(b"MOV in 4 bytes is", MOV, 0, 0, 0, 0, &mut four);
-    print_loop(b"DEC in 1 byte is", DEC, 0, 0, 0, 0, &mut one);
-    print_loop(b"DEC in no byte is", DEC, 0, 0, 0, 0, &mut one[0..0]);
+    print_loop(out, "MOV in 4 bytes is", MOV, 0, 0, 0, 0, &mut four)?;
+    print_loop(out, "DEC in 1 byte is", DEC, 0, 0, 0, 0, &mut one)?;
+    print_loop(out, "DEC in no byte is", DEC, 0, 0, 0, 0, &mut one[0..0])
 }
 
 // All of them.
-pub(crate) fn print_edges() {
-    print_prefixes();
-    print_suffixes();
-    print_shifts();
-    print_forms();
-    print_prefetches();
-    print_fences();
-    print_opcodes();
-    print_loops();
-    print_additions();
-    print_escaped();
-    print_siblings();
-    print_displacements();
-    print_lengths();
-    print_writings();
-    print_immediates();
-    print_written_fences();
-    print_written_siblings();
-    print_written_loops();
-    print_written_decrements();
-    print_short_loops();
+pub(crate) fn print_edges(out: &mut impl Write) -> io::Result<()> {
+    print_prefixes(out)?;
+    print_suffixes(out)?;
+    print_shifts(out)?;
+    print_forms(out)?;
+    print_prefetches(out)?;
+    print_fences(out)?;
+    print_opcodes(out)?;
+    print_loops(out)?;
+    print_additions(out)?;
+    print_escaped(out)?;
+    print_siblings(out)?;
+    print_displacements(out)?;
+    print_lengths(out)?;
+    print_writings(out)?;
+    print_immediates(out)?;
+    print_written_fences(out)?;
+    print_written_siblings(out)?;
+    print_written_loops(out)?;
+    print_written_decrements(out)?;
+    print_short_loops(out)
 }

@@ -1,10 +1,14 @@
 // Every encoding of the table, of loops and of siblings, read and written back: their number, the differences and the sum of the lengths. Then the edges
 // of reading and writing.
+#![tactic(auto)]
+
 mod edges;
 mod siblings;
 
 use codec::modes::SIB;
 use codec::{Instruction, Reading, Writing};
+use std::io;
+use std::io::{BufWriter, Write};
 use std::num::wrapping_add_u64;
 
 // What stands in the writer's buffer before it writes.
@@ -38,7 +42,7 @@ const ADDED_AT: usize = 2;
 const NOT_LISTED: u8 = 5;
 
 // What was tried so far: what is read, how often it is not written back, its bytes, and what is not listed.
-#[derive(Drop)]
+#[derive(Clone, Copy)]
 pub(crate) struct Tally {
     encodings: u64,
     differences: u64,
@@ -194,17 +198,19 @@ fn try_loops() -> Tally {
 }
 
 // The number of encodings under this name, and what is counted with them.
-fn print_tally(name: &[u8], tally: Tally) {
-    edges::print(name, tally.encodings);
-    edges::print(b"differences", tally.differences);
-    edges::print(b"bytes", tally.bytes);
+fn print_tally(out: &mut impl Write, name: &str, tally: Tally) -> io::Result<()> {
+    edges::print(out, name, tally.encodings)?;
+    edges::print(out, "differences", tally.differences)?;
+    edges::print(out, "bytes", tally.bytes)
 }
 
-fn main() {
-    print_tally(b"encodings", try_table());
-    print_tally(b"encodings of loops", try_loops());
+fn main(rt: HostRuntime) -> io::Result<()> {
+    let mut out = BufWriter::new(rt.alloc(), io::writer(&rt))?;
+    print_tally(&mut out, "encodings", try_table())?;
+    print_tally(&mut out, "encodings of loops", try_loops())?;
     let siblings = siblings::try_siblings();
-    print_tally(b"encodings of siblings", siblings);
-    edges::print(b"suffixes not listed", siblings.unlisted);
-    edges::print_edges();
+    print_tally(&mut out, "encodings of siblings", siblings)?;
+    edges::print(&mut out, "suffixes not listed", siblings.unlisted)?;
+    edges::print_edges(&mut out)?;
+    out.flush()
 }

@@ -4,10 +4,10 @@ use Rattle.basis.proofs.Names.{rules}
 use Rattle.encodings.proofs.agrees.Statement.{statement}
 use Rattle.encodings.proofs.agrees.Tie as tie
 
-abbrev invariant-loop : tie.invariant-loop
+abbrev invariant-loop : tie.invariant-loop-k
 invariant-loop code buffer n k₀ k = k ≤ 12
 
-abbrev decreases-loop : tie.decreases-loop
+abbrev decreases-loop : tie.decreases-loop-k
 decreases-loop code buffer n k₀ k = 12 - k
 
 pub agrees_spec : {M : Type 1} → statement M

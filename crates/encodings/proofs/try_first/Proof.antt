@@ -4,10 +4,10 @@ use Rattle.basis.proofs.Names.{rules}
 use Rattle.encodings.proofs.try_first.Statement.{statement}
 use Rattle.encodings.proofs.try_first.Tie as tie
 
-abbrev invariant-loop : tie.invariant-loop
+abbrev invariant-loop : tie.invariant-loop-next
 invariant-loop first tally₀ next₀ tally next = next ≤ 255
 
-abbrev decreases-loop : tie.decreases-loop
+abbrev decreases-loop : tie.decreases-loop-next
 decreases-loop first tally₀ next₀ tally next = 255 - next
 
 pub try_first_spec : {M : Type 1} → statement M

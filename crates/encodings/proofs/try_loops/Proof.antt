@@ -4,10 +4,10 @@ use Rattle.basis.proofs.Names.{rules}
 use Rattle.encodings.proofs.try_loops.Statement.{statement}
 use Rattle.encodings.proofs.try_loops.Tie as tie
 
-abbrev invariant-loop : tie.invariant-loop
+abbrev invariant-loop : tie.invariant-loop-first
 invariant-loop tally₀ first₀ tally first = first ≤ 255
 
-abbrev decreases-loop : tie.decreases-loop
+abbrev decreases-loop : tie.decreases-loop-first
 decreases-loop tally₀ first₀ tally first = 255 - first
 
 pub try_loops_spec : {M : Type 1} → statement M

@@ -4,10 +4,10 @@ use Rattle.basis.proofs.Names.{rules}
 use Rattle.encodings.proofs.try_modrm.Statement.{statement}
 use Rattle.encodings.proofs.try_modrm.Tie as tie
 
-abbrev invariant-loop : tie.invariant-loop
+abbrev invariant-loop : tie.invariant-loop-sib
 invariant-loop second modrm tally₀ code₀ sib₀ tally code sib = sib ≤ 255
 
-abbrev decreases-loop : tie.decreases-loop
+abbrev decreases-loop : tie.decreases-loop-sib
 decreases-loop second modrm tally₀ code₀ sib₀ tally code sib = 255 - sib
 
 pub try_modrm_spec : {M : Type 1} → statement M

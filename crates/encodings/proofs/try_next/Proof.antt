@@ -4,10 +4,10 @@ use Rattle.basis.proofs.Names.{rules}
 use Rattle.encodings.proofs.try_next.Statement.{statement}
 use Rattle.encodings.proofs.try_next.Tie as tie
 
-abbrev invariant-loop : tie.invariant-loop
+abbrev invariant-loop : tie.invariant-loop-immediate
 invariant-loop first next tally₀ code₀ immediate₀ tally code immediate = immediate ≤ 255
 
-abbrev decreases-loop : tie.decreases-loop
+abbrev decreases-loop : tie.decreases-loop-immediate
 decreases-loop first next tally₀ code₀ immediate₀ tally code immediate = 255 - immediate
 
 pub try_next_spec : {M : Type 1} → statement M

@@ -4,10 +4,10 @@ use Rattle.basis.proofs.Names.{rules}
 use Rattle.encodings.proofs.try_table.Statement.{statement}
 use Rattle.encodings.proofs.try_table.Tie as tie
 
-abbrev invariant-loop : tie.invariant-loop
+abbrev invariant-loop : tie.invariant-loop-second
 invariant-loop tally₀ second₀ tally second = second ≤ 255
 
-abbrev decreases-loop : tie.decreases-loop
+abbrev decreases-loop : tie.decreases-loop-second
 decreases-loop tally₀ second₀ tally second = 255 - second
 
 pub try_table_spec : {M : Type 1} → statement M

@@ -4,10 +4,10 @@ use Rattle.basis.proofs.Names.{rules}
 use Rattle.encodings.proofs.siblings.try_operand.Statement.{statement}
 use Rattle.encodings.proofs.siblings.try_operand.Tie as tie
 
-abbrev invariant-loop : tie.invariant-loop
+abbrev invariant-loop : tie.invariant-loop-sib
 invariant-loop modrm tally₀ sib₀ tally sib = sib ≤ 255
 
-abbrev decreases-loop : tie.decreases-loop
+abbrev decreases-loop : tie.decreases-loop-sib
 decreases-loop modrm tally₀ sib₀ tally sib = 255 - sib
 
 pub try_operand_spec : {M : Type 1} → statement M

@@ -4,10 +4,10 @@ use Rattle.basis.proofs.Names.{rules}
 use Rattle.encodings.proofs.siblings.try_siblings.Statement.{statement}
 use Rattle.encodings.proofs.siblings.try_siblings.Tie as tie
 
-abbrev invariant-loop : tie.invariant-loop
+abbrev invariant-loop : tie.invariant-loop-modrm
 invariant-loop tally₀ modrm₀ tally modrm = modrm ≤ 255
 
-abbrev decreases-loop : tie.decreases-loop
+abbrev decreases-loop : tie.decreases-loop-modrm
 decreases-loop tally₀ modrm₀ tally modrm = 255 - modrm
 
 pub try_siblings_spec : {M : Type 1} → statement M
