@@ -1,9 +1,12 @@
 // Single steps over a floor.
 use crate::cases::{Form, Left};
 use crate::tables::play_all;
+use std::io;
+use std::io::Write;
 
-fn steps() {
+fn steps(out: &mut impl Write) -> io::Result<()> {
     play_all(
+        out,
         Form::Step(Left::Picture),
         b"\
          5,000 bytes of code, floor 5 in 4 bytes, in a step: L1388 F5 N4\n\
@@ -22,9 +25,9 @@ fn steps() {
          MOVQ [ebp], mm0 in a step, floor 8: 0f7f4500 F8\n\
          MOVQ [0], mm0 with all marks, tags valid, in a step, floor 8: 0f7f00 Mf F8\n\
          MASKMOVQ mm0, mm1 at 16, no byte masked, in a step, floor 17 in 24 bytes: 0ff7c1 F11 N18\n",
-    );
+    )
 }
 
-pub(crate) fn all() {
-    steps();
+pub(crate) fn all(out: &mut impl Write) -> io::Result<()> {
+    steps(out)
 }

@@ -1,9 +1,12 @@
 // Blocks over a floor.
 use crate::cases::{Form, Left};
 use crate::tables::play_all;
+use std::io;
+use std::io::Write;
 
-fn edges() {
+fn edges(out: &mut impl Write) -> io::Result<()> {
     play_all(
+        out,
         Form::Run(Left::Picture),
         b"\
          5,000 bytes of code, floor 5 in 4 bytes: L1388 F5 N4\n\
@@ -24,11 +27,12 @@ fn edges() {
          MOVNTQ [0], mm0, floor 1: 0fe700 F1\n\
          MOVQ [7], mm1, floor 8 in 16 bytes: 0f7f4807 F8 N10\n\
          MOVQ [8], mm1, then MOVQ mm0, [8], floor 8 in 16 bytes: 0f7f4808 0f6f4008 F8 N10\n",
-    );
+    )
 }
 
-fn masks() {
+fn masks(out: &mut impl Write) -> io::Result<()> {
     play_all(
+        out,
         Form::Run(Left::Picture),
         b"\
          MASKMOVQ mm0, mm1 at 16, no byte masked, floor 17 in 24 bytes: 0ff7c1 F11 N18\n\
@@ -37,12 +41,13 @@ fn masks() {
          PEXTRW edi, mm0, 1, then MASKMOVQ mm1, mm0 at 0, mask 0, floor 1: 0fc5f801 0ff7c8 Q0 F1\n\
          PEXTRW edi, mm0, 1, then MASKMOVQ mm1, mm0 at 0, last byte masked, floor 7: 0fc5f801 0ff7c8 Q8000000000000000 F7\n\
          PEXTRW edi, mm0, 1, then MASKMOVQ mm1, mm0 at 0, last byte masked, floor 0: 0fc5f801 0ff7c8 Q8000000000000000\n",
-    );
+    )
 }
 
 // Stores that miss the memory, and what else is refused before the floor is looked at; ESP and EBP are 4.
-fn misses() {
+fn misses(out: &mut impl Write) -> io::Result<()> {
     play_all(
+        out,
         Form::Run(Left::Picture),
         b"\
          MOVQ [0], mm0, floor 4 in 4 bytes: 0f7f00 F4 N4\n\
@@ -53,12 +58,13 @@ fn misses() {
          0f 7f, floor 8: 0f7f F8\n\
          MOVQ [0], mm0 with EM and TS, floor 8: 0f7f00 M3 F8\n\
          MOVQ [0], mm0 with TS, floor 8: 0f7f00 M2 F8\n",
-    );
+    )
 }
 
 // Over the whole memory: no store is done, all else is.
-fn whole() {
+fn whole(out: &mut impl Write) -> io::Result<()> {
     play_all(
+        out,
         Form::Run(Left::Picture),
         b"\
          MOVD [4], mm0, floor 8: 0f7e00 A4 F8\n\
@@ -74,24 +80,25 @@ fn whole() {
          PREFETCHNTA [0], floor 8: 0f1800 F8\n\
          SFENCE, floor 8: 0faef8 F8\n\
          PADDB mm0, mm1, then EMMS, floor 8: 0ffcc1 0f77 F8\n",
-    );
+    )
 }
 
-fn turns() {
+fn turns(out: &mut impl Write) -> io::Result<()> {
     play_all(
+        out,
         Form::Run(Left::Picture),
         b"\
          MOVD [4], mm0, then MOVD [0], mm0, floor 4: 0f7e4004 0f7e00 F4\n\
          MOVD [4], mm0, then MOVD [4], mm1, floor 4: 0f7e4004 0f7e4804 F4\n\
          MOVD [4], mm0, then MOVD [4], mm1, then EMMS, then MOVD [3], mm0, floor 4: 0f7e4004 0f7e4804 0f77 0f7e4003 F4\n\
          MOVQ mm0, [0], then MOVNTQ [0], mm1, floor 1: 0f6f00 0fe708 F1\n",
-    );
+    )
 }
 
-pub(crate) fn all() {
-    edges();
-    masks();
-    misses();
-    whole();
-    turns();
+pub(crate) fn all(out: &mut impl Write) -> io::Result<()> {
+    edges(out)?;
+    masks(out)?;
+    misses(out)?;
+    whole(out)?;
+    turns(out)
 }

@@ -1,9 +1,12 @@
 // Footprints of single instructions.
 use crate::cases::Form;
 use crate::tables::play_all;
+use std::io;
+use std::io::Write;
 
-fn operands() {
+fn operands(out: &mut impl Write) -> io::Result<()> {
     play_all(
+        out,
         Form::Footprint,
         b"\
          PADDB mm1, [eax + ecx * 2 + 4]: 0ffc4c4804\n\
@@ -19,11 +22,12 @@ fn operands() {
          PSHUFW mm1, mm2, 1b: 0f70ca1b\n\
          PSHUFW mm1, [ecx], 1b: 0f70091b\n\
          PSADBW mm1, mm2: 0ff6ca\n",
-    );
+    )
 }
 
-fn stores() {
+fn stores(out: &mut impl Write) -> io::Result<()> {
     play_all(
+        out,
         Form::Footprint,
         b"\
          MASKMOVQ mm1, mm2: 0ff7ca\n\
@@ -35,12 +39,13 @@ fn stores() {
          MOVQ [esp - 5], mm0: 0f7f4424fb\n\
          MOVQ mm0, [eax + ebp - 5]: 0f6f4428fb\n\
          PREFETCHT0 [esp - 5]: 0f184c24fb\n",
-    );
+    )
 }
 
 // The instructions that touch nothing.
-fn silences() {
+fn silences(out: &mut impl Write) -> io::Result<()> {
     play_all(
+        out,
         Form::Footprint,
         b"\
          PREFETCHT0 [eax + ecx * 2 + 4]: 0f184c4804\n\
@@ -49,11 +54,11 @@ fn silences() {
          PREFETCHT2 [ecx] with all marks: 0f1819 M7\n\
          SFENCE with all marks: 0faef8 M7\n\
          PADDB mm0, mm1 with all marks: 0ffcc1 M7\n",
-    );
+    )
 }
 
-pub(crate) fn all() {
-    operands();
-    stores();
-    silences();
+pub(crate) fn all(out: &mut impl Write) -> io::Result<()> {
+    operands(out)?;
+    stores(out)?;
+    silences(out)
 }

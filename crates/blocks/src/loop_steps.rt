@@ -1,10 +1,13 @@
 // The instructions of loops one by one: steps, footprints and meetings; ECX is 128, EDI 16.
 use crate::cases::{Form, Left};
 use crate::tables::play_all;
+use std::io;
+use std::io::Write;
 
 // What they leave, and what keeps the zero mark.
-fn results() {
+fn results(out: &mut impl Write) -> io::Result<()> {
     play_all(
+        out,
         Form::Step(Left::Counters),
         b"\
          MOV eax, -1 in a step, zero set: b8ffffffff M10\n\
@@ -29,11 +32,12 @@ fn results() {
          EMMS in a step, tags valid, zero set: 0f77 M18\n\
          PREFETCHNTA [0] in a step, zero set: 0f1800 M10\n\
          PADDB mm0, mm1 in a step with EM, zero set: 0ffcc1 M11\n",
-    );
+    )
 }
 
-fn positions() {
+fn positions(out: &mut impl Write) -> io::Result<()> {
     play_all(
+        out,
         Form::Step(Left::Counters),
         b"\
          EMMS, then JNZ -4, a step at 2: 0f77/75fc\n\
@@ -47,11 +51,12 @@ fn positions() {
          JNZ -3 in 4,097 bytes of code, floor 32,770 in 32,769 bytes, in a step: 75fd L1001 F8002 N8001\n\
          JNZ -3 in 4,097 bytes of code, floor 9, in a step: 75fd L1001 F9\n\
          JNZ -3 in 4,097 bytes of code, in a step: 75fd L1001\n",
-    );
+    )
 }
 
-fn footprints() {
+fn footprints(out: &mut impl Write) -> io::Result<()> {
     play_all(
+        out,
         Form::Footprint,
         b"\
          MOV ecx, 5 in a footprint: b905000000\n\
@@ -67,11 +72,12 @@ fn footprints() {
          JNZ -3 in 4,097 bytes of code, 32,769 bytes of memory, in a footprint: 75fd L1001 N8001\n\
          JNZ -3 in 4,097 bytes of code, in a footprint: 75fd L1001\n\
          83 00 in a footprint: 8300\n",
-    );
+    )
 }
 
-fn meetings() {
+fn meetings(out: &mut impl Write) -> io::Result<()> {
     play_all(
+        out,
         Form::Meeting,
         b"\
          ADD ecx, 1 and DEC eax: 83c101/48\n\
@@ -85,12 +91,13 @@ fn meetings() {
          JNZ 0 and JNZ 0: 7500/7500\n\
          JNZ 0 and MOV ecx, 5: 7500/b905000000\n\
          JNZ 0 and PADDB mm0, mm1: 7500/0ffcc1\n",
-    );
+    )
 }
 
 // With the other instructions.
-fn other_meetings() {
+fn other_meetings(out: &mut impl Write) -> io::Result<()> {
     play_all(
+        out,
         Form::Meeting,
         b"\
          EMMS and MOV ecx, 5: 0f77/b905000000\n\
@@ -108,13 +115,13 @@ fn other_meetings() {
          MOV ecx, 5 and MOVQ mm0, [ecx]: b905000000/0f6f01\n\
          MOVQ mm0, [ecx] and DEC eax: 0f6f01/48\n\
          JNZ -3 and DEC ecx: 75fd/49\n",
-    );
+    )
 }
 
-pub(crate) fn all() {
-    results();
-    positions();
-    footprints();
-    meetings();
-    other_meetings();
+pub(crate) fn all(out: &mut impl Write) -> io::Result<()> {
+    results(out)?;
+    positions(out)?;
+    footprints(out)?;
+    meetings(out)?;
+    other_meetings(out)
 }

@@ -1,10 +1,13 @@
 // Blocks with the instructions of loops; ECX is 128, EDI 16.
 use crate::cases::{Form, Left};
 use crate::tables::play_all;
+use std::io;
+use std::io::Write;
 
 // Counted loops, and their budgets.
-fn counts() {
+fn counts(out: &mut impl Write) -> io::Result<()> {
     play_all(
+        out,
         Form::Run(Left::Counters),
         b"\
          MOV ecx, 10, then PADDD mm0, mm1, then DEC ecx, then JNZ -6: b90a000000 0ffec1 49 75fa\n\
@@ -15,12 +18,13 @@ fn counts() {
          DEC ecx, then JNZ -3: 49 75fd\n\
          a loop of 4 PADDD mm0, mm1 in a loop of 3: b803000000 b904000000 0ffec1 49 75fa 48 75f2\n\
          a loop of 4 PADDD mm0, mm1 in a loop of 3, budget 20: b803000000 b904000000 0ffec1 49 75fa 48 75f2 B14\n",
-    );
+    )
 }
 
 // Loops that do not end in their budget, and jumps to the end at its last instruction.
-fn budgets() {
+fn budgets(out: &mut impl Write) -> io::Result<()> {
     play_all(
+        out,
         Form::Run(Left::Counters),
         b"\
          JNZ -2, budget 0: 75fe B0\n\
@@ -32,12 +36,13 @@ fn budgets() {
          JNZ 0, budget 1: 7500 B1\n\
          JNZ 2, then EMMS, tags valid, budget 1: 7502 0f77 M8 B1\n\
          JNZ 2, then EMMS, tags valid, zero set, budget 1: 7502 0f77 M18 B1\n",
-    );
+    )
 }
 
 // Where jumps lead: before the code, to its edges, past it, and into an instruction.
-fn targets() {
+fn targets(out: &mut impl Write) -> io::Result<()> {
     play_all(
+        out,
         Form::Run(Left::Counters),
         b"\
          MOV eax, 7, then JNZ -8: b807000000 75f8\n\
@@ -55,12 +60,13 @@ fn targets() {
          JNZ 127 in 128 bytes: 757f L80\n\
          JNZ 1, into MOV eax, 770f4948, tags valid: 7501 b848490f77 M8\n\
          JNZ 1, then MOV eax, 770f4948, tags valid, zero set: 7501 b848490f77 M18\n",
-    );
+    )
 }
 
 // With control marks, which stop none of them.
-fn marks() {
+fn marks(out: &mut impl Write) -> io::Result<()> {
     play_all(
+        out,
         Form::Run(Left::Counters),
         b"\
          MOV ecx, 2, then DEC ecx, then JNZ -3 with all marks, tags empty: b902000000 49 75fd M7\n\
@@ -68,12 +74,13 @@ fn marks() {
          ADD ecx, -128, then PADDB mm0, mm1 with all marks: 83c180 0ffcc1 M7\n\
          DEC ecx, then EMMS with TS and pending, tags valid: 49 0f77 Me\n\
          JNZ 0, then PADDB mm0, mm1 with pending: 7500 0ffcc1 M4\n",
-    );
+    )
 }
 
 // What is refused before a jump, and what does not read as one of them.
-fn refusals() {
+fn refusals(out: &mut impl Write) -> io::Result<()> {
     play_all(
+        out,
         Form::Run(Left::Counters),
         b"\
          JNZ -3 in 4,097 bytes of code, floor 32,770 in 32,769 bytes: 75fd L1001 F8002 N8001\n\
@@ -90,13 +97,13 @@ fn refusals() {
          0f 83: 0f83\n\
          66 49: 6649\n\
          DEC ecx, then 83 00 with all marks: 49 8300 M7\n",
-    );
+    )
 }
 
-pub(crate) fn all() {
-    counts();
-    budgets();
-    targets();
-    marks();
-    refusals();
+pub(crate) fn all(out: &mut impl Write) -> io::Result<()> {
+    counts(out)?;
+    budgets(out)?;
+    targets(out)?;
+    marks(out)?;
+    refusals(out)
 }

@@ -1,5 +1,9 @@
 // Blocks through `run`: the customer's example, the edges of documents 01 and 02; single steps; blocks and steps over a floor; footprints and
 // meetings; loops; and then the block on standard input.
+#![tactic(auto)]
+
+ghost use Rattle.std.specs.Prelude.{◌≤◌, length};
+
 mod cases;
 mod floor_steps;
 mod floors;
@@ -14,33 +18,54 @@ mod tables;
 mod texts;
 
 use cases::{Form, Left};
-use libc::STDIN_FILENO;
+use std::io;
+use std::io::{BufWriter, Read, Write};
 
-// The memory lent to the block on standard input.
+// Room for the block on standard input, and the memory lent to it.
+const ROOM: usize = 4096;
+
 const MEMORY: usize = 256;
 
-fn standard_input() {
-    let mut space = io::buffer();
-    let size = io::read_full(STDIN_FILENO, &mut space);
+// Reads until the buffer is full, the input ends or a read fails, and says how many bytes stand at its start.
+fn read_full(input: &mut impl Read, buffer: &mut [u8]) -> usize
+    ensures { result ≤ length buffer.new }
+{
+    let mut done = 0;
+    while done < buffer.len() {
+        match input.read(&mut buffer[done..]) {
+            Ok(0) => return done,
+            Ok(count) => done += count,
+            Err(_) => return done,
+        }
+    }
+    done
+}
+
+fn standard_input(input: &mut impl Read, out: &mut impl Write) -> io::Result<()> {
+    let mut space = [0u8; ROOM];
+    let size = read_full(input, &mut space);
     let mut memory = [0u8; MEMORY];
-    texts::text(b"standard input: ");
+    texts::text(out, "standard input: ")?;
     cases::play(
+        out,
         Form::Run(Left::Picture),
         tables::usual_given(),
         &space[0..size],
         &mut memory,
-    );
-    texts::text(b"\n");
+    )?;
+    texts::text(out, "\n")
 }
 
-fn main() {
-    runs::all();
-    steps::all();
-    floors::all();
-    floor_steps::all();
-    footprints::all();
-    meetings::all();
-    loops::all();
-    loop_steps::all();
-    standard_input();
+fn main(rt: HostRuntime) -> io::Result<()> {
+    let mut out = BufWriter::new(rt.alloc(), io::writer(&rt))?;
+    runs::all(&mut out)?;
+    steps::all(&mut out)?;
+    floors::all(&mut out)?;
+    floor_steps::all(&mut out)?;
+    footprints::all(&mut out)?;
+    meetings::all(&mut out)?;
+    loops::all(&mut out)?;
+    loop_steps::all(&mut out)?;
+    standard_input(&mut rt.reader(), &mut out)?;
+    out.flush()
 }

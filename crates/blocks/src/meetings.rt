@@ -1,9 +1,12 @@
 // Whether two instructions meet, by their footprints.
 use crate::cases::Form;
 use crate::tables::play_all;
+use std::io;
+use std::io::Write;
 
-fn operands() {
+fn operands(out: &mut impl Write) -> io::Result<()> {
     play_all(
+        out,
         Form::Meeting,
         b"\
          MOVQ mm0, [eax] and PADDUSB mm0, mm1: 0f6f00/0fdcc1\n\
@@ -11,12 +14,13 @@ fn operands() {
          MOVQ [eax + 8], mm0 and PADDUSB mm2, [eax + 8]: 0f7f4008/0fdc5008\n\
          MOVQ [eax + 8], mm0 and MOVQ mm2, [eax]: 0f7f4008/0f6f10\n\
          EMMS and MOVQ mm2, [eax]: 0f77/0f6f10\n",
-    );
+    )
 }
 
 // EMMS, and the instructions that touch nothing.
-fn silences() {
+fn silences(out: &mut impl Write) -> io::Result<()> {
     play_all(
+        out,
         Form::Meeting,
         b"\
          EMMS and EMMS: 0f77/0f77\n\
@@ -28,11 +32,12 @@ fn silences() {
          PREFETCHNTA [eax] and MOVQ [eax], mm0: 0f1800/0f7f00\n\
          MOVNTQ [eax], mm0 and SFENCE: 0fe700/0faef8\n\
          PEXTRW eax, mm0, 0 and PREFETCHT0 [eax]: 0fc5c000/0f1808\n",
-    );
+    )
 }
 
-fn stores() {
+fn stores(out: &mut impl Write) -> io::Result<()> {
     play_all(
+        out,
         Form::Meeting,
         b"\
          MASKMOVQ mm1, mm2 and MASKMOVQ mm3, mm4: 0ff7ca/0ff7dc\n\
@@ -41,11 +46,12 @@ fn stores() {
          MASKMOVQ mm1, mm2 and MOVD edi, mm3: 0ff7ca/0f7edf\n\
          MASKMOVQ mm1, mm2 and MOVQ mm2, mm3: 0ff7ca/0f6fd3\n\
          MASKMOVQ mm1, mm2 and MOVQ mm3, mm1: 0ff7ca/0f6fd9\n",
-    );
+    )
 }
 
-fn picks() {
+fn picks(out: &mut impl Write) -> io::Result<()> {
     play_all(
+        out,
         Form::Meeting,
         b"\
          PEXTRW edx, mm1, 0 and PEXTRW ecx, mm1, 1: 0fc5d100/0fc5c901\n\
@@ -55,12 +61,12 @@ fn picks() {
          PSHUFW mm1, mm2, 0 and MOVQ mm2, mm3: 0f70ca00/0f6fd3\n\
          PINSRW mm1, [eax + 8], 0 and MOVNTQ [eax], mm2: 0fc4480800/0fe710\n\
          PINSRW mm1, [eax + 7], 0 and MOVNTQ [eax], mm2: 0fc4480700/0fe710\n",
-    );
+    )
 }
 
-pub(crate) fn all() {
-    operands();
-    silences();
-    stores();
-    picks();
+pub(crate) fn all(out: &mut impl Write) -> io::Result<()> {
+    operands(out)?;
+    silences(out)?;
+    stores(out)?;
+    picks(out)
 }

@@ -1,10 +1,13 @@
 // Blocks through `run`: the customer's example, the edges of document 01, the instructions of manual 000, and operands by ESP and EBP.
 use crate::cases::{Form, Left};
 use crate::tables::play_all;
+use std::io;
+use std::io::Write;
 
 // The customer's example, and operands at the memory's end.
-fn operands() {
+fn operands(out: &mut impl Write) -> io::Result<()> {
     play_all(
+        out,
         Form::Run(Left::Picture),
         b"\
          PADDB mm0, mm1: 0ffcc1\n\
@@ -21,12 +24,13 @@ fn operands() {
          MOVQ mm0, [1 - 1]: 0f6f40ff A1\n\
          MOVQ mm0, [eax], index 100: 0f6f0420\n\
          MOVQ mm0, [0], base 101: 0f6f042500000000\n",
-    );
+    )
 }
 
 // Operands by a base register of the stack and by others, some of which miss the memory; ESP and EBP are 4.
-fn stacks() {
+fn stacks(out: &mut impl Write) -> io::Result<()> {
     play_all(
+        out,
         Form::Run(Left::Picture),
         b"\
          MOVQ mm0, [ebp]: 0f6f4500\n\
@@ -40,12 +44,13 @@ fn stacks() {
          MOVQ [ebp - 4], mm0: 0f7f45fc\n\
          PREFETCHNTA [ebp + 127]: 0f18457f\n\
          MOVQ mm0, [ebp] with TS: 0f6f4500 M2\n",
-    );
+    )
 }
 
 // The instructions of manual 000.
-fn extensions() {
+fn extensions(out: &mut impl Write) -> io::Result<()> {
     play_all(
+        out,
         Form::Run(Left::Picture),
         b"\
          PINSRW mm0, ecx, 1: 0fc4c101\n\
@@ -63,11 +68,12 @@ fn extensions() {
          PADDB mm0, mm1, then EMMS, then PREFETCHT1 [0]: 0ffcc1 0f77 0f1810\n\
          PREFETCHT2 [0] with EM and TS: 0f1818 M3\n\
          SFENCE, then PADDB mm0, mm1 with TS: 0faef8 0ffcc1 M2\n",
-    );
+    )
 }
 
-fn refusals() {
+fn refusals(out: &mut impl Write) -> io::Result<()> {
     play_all(
+        out,
         Form::Run(Left::Picture),
         b"\
          0f 71 00: 0f7100\n\
@@ -82,12 +88,12 @@ fn refusals() {
          EMMS twice, budget 1: 0f77 0f77 B1\n\
          4,097 bytes of code: L1001\n\
          32,769 bytes of memory: N8001\n",
-    );
+    )
 }
 
-pub(crate) fn all() {
-    operands();
-    stacks();
-    extensions();
-    refusals();
+pub(crate) fn all(out: &mut impl Write) -> io::Result<()> {
+    operands(out)?;
+    stacks(out)?;
+    extensions(out)?;
+    refusals(out)
 }

@@ -1,9 +1,12 @@
 // Single steps: at a position, and with every control mark.
 use crate::cases::{Form, Left};
 use crate::tables::play_all;
+use std::io;
+use std::io::Write;
 
-fn steps() {
+fn steps(out: &mut impl Write) -> io::Result<()> {
     play_all(
+        out,
         Form::Step(Left::Nothing),
         b"\
          the second EMMS of two: 0f77/0f77\n\
@@ -11,11 +14,12 @@ fn steps() {
          MOVQ [1], mm0 in a step: 0f7f0501000000\n\
          MASKMOVQ mm0, mm1 at 16 in a step: 0ff7c1\n\
          MOVQ [esp], mm0 in a step: 0f7f0424\n",
-    );
+    )
 }
 
-fn stopped_steps() {
+fn stopped_steps(out: &mut impl Write) -> io::Result<()> {
     play_all(
+        out,
         Form::Step(Left::Tags),
         b"\
          PREFETCHNTA [0] with all marks, tags empty: 0f1800 M7\n\
@@ -24,10 +28,10 @@ fn stopped_steps() {
          SFENCE with all marks, tags valid: 0faef8 Mf\n\
          EMMS with all marks, tags valid: 0f77 Mf\n\
          MOVNTQ [0], mm0 with all marks, tags empty: 0fe700 M7\n",
-    );
+    )
 }
 
-pub(crate) fn all() {
-    steps();
-    stopped_steps();
+pub(crate) fn all(out: &mut impl Write) -> io::Result<()> {
+    steps(out)?;
+    stopped_steps(out)
 }

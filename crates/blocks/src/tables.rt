@@ -2,6 +2,8 @@
 use crate::cases::{Form, Given, play};
 use crate::machines::machine_with;
 use crate::texts::text;
+use std::io;
+use std::io::Write;
 
 // The letters of numbers: MM0, EAX and the marks, as a page file has them.
 const FIRST: usize = b'Q' as usize;
@@ -53,7 +55,7 @@ const USUAL_FIRST: usize = 0xff;
 const USUAL_BUDGET: usize = 4096;
 
 // What is being read: a title until the colon; then the code, or the number of a letter; and whether half a byte of the code is read.
-#[derive(Drop)]
+#[derive(Clone, Copy)]
 struct Reader {
     titled: bool,
     letter: u8,
@@ -94,16 +96,22 @@ pub(crate) fn usual_given() -> Given {
 }
 
 // A case in a memory of so many bytes.
-fn play_in(form: Form, given: Given, code: &[u8], size: usize) {
+fn play_in(
+    out: &mut impl Write,
+    form: Form,
+    given: Given,
+    code: &[u8],
+    size: usize,
+) -> io::Result<()> {
     if size <= QUADWORD {
         let mut memory = [1u8, 2, 3, 4, 5, 6, 7, 8];
-        play(form, given, code, &mut memory[0..size]);
-        return;
+        return play(out, form, given, code, &mut memory[0..size]);
     }
     if size <= MEMORY_ROOM {
         let mut memory = [0u8; MEMORY_ROOM];
-        play(form, given, code, &mut memory[0..size]);
+        play(out, form, given, code, &mut memory[0..size])?;
     }
+    Ok(())
 }
 
 fn larger(one: usize, other: usize) -> usize {
@@ -114,12 +122,24 @@ fn larger(one: usize, other: usize) -> usize {
 }
 
 // A case with its code and numbers.
-fn play_case(form: Form, numbers: &[usize; NUMBERS], code: &[u8; CODE_ROOM]) {
+fn play_case(
+    out: &mut impl Write,
+    form: Form,
+    numbers: &[usize; NUMBERS],
+    code: &[u8; CODE_ROOM],
+) -> io::Result<()> {
     let room: &[u8] = code;
     let length = larger(numbers[LENGTH], numbers[PLACE]);
     if length <= room.len() {
-        play_in(form, given_by(numbers), &room[0..length], numbers[MEMORY]);
+        play_in(
+            out,
+            form,
+            given_by(numbers),
+            &room[0..length],
+            numbers[MEMORY],
+        )?;
     }
+    Ok(())
 }
 
 fn digit_of(byte: u8) -> u8 {
@@ -185,7 +205,7 @@ fn take(
     }
 }
 
-fn play_line(form: Form, line: &[u8]) {
+fn play_line(out: &mut impl Write, form: Form, line: &[u8]) -> io::Result<()> {
     let mut numbers = usual_numbers(form);
     let mut code = [0u8; CODE_ROOM];
     let mut reader = Reader {
@@ -197,23 +217,24 @@ fn play_line(form: Form, line: &[u8]) {
         if reader.titled {
             reader = take(reader, line[i], &mut numbers, &mut code);
         } else if line[i] == b':' {
-            text(&line[0..i]);
-            text(b": ");
+            out.write_all(&line[0..i])?;
+            text(out, ": ")?;
             reader.titled = true;
         }
     }
-    play_case(form, &numbers, &code);
-    text(b"\n");
+    play_case(out, form, &numbers, &code)?;
+    text(out, "\n")
 }
 
 // The cases of a table, a line each.
-pub(crate) fn play_all(form: Form, table: &[u8]) {
+pub(crate) fn play_all(out: &mut impl Write, form: Form, table: &[u8]) -> io::Result<()> {
     let mut start: usize = 0;
     for end in 0..table.len() {
         if table[end] != b'\n' {
             continue;
         }
-        play_line(form, &table[start..end]);
+        play_line(out, form, &table[start..end])?;
         start = end + 1;
     }
+    Ok(())
 }

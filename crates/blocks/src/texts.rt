@@ -1,43 +1,40 @@
 // What is printed: numbers, answers, what is left, places, footprints.
-use libc::STDOUT_FILENO;
 use machine::{End, Footprint, Machine, Places, Taken, Tracing};
-
-const DIGITS: usize = 16;
-
-const DOUBLEWORD_DIGITS: usize = 8;
+use std::io;
+use std::io::Write;
 
 // The bytes of a quadword.
 const QUADWORD: usize = 8;
 
-pub(crate) fn text(bytes: &[u8]) {
-    io::write_all(STDOUT_FILENO, bytes);
+pub(crate) fn text(out: &mut impl Write, words: &str) -> io::Result<()> {
+    write!(out, "{words}")
 }
 
-pub(crate) fn decimal(number: u64) {
-    io::print_decimal(STDOUT_FILENO, number);
+pub(crate) fn decimal(out: &mut impl Write, number: u64) -> io::Result<()> {
+    write!(out, "{number}")
 }
 
-fn hexadecimal(number: u64) {
-    io::print_hex(STDOUT_FILENO, number, DIGITS);
+fn hexadecimal(out: &mut impl Write, number: u64) -> io::Result<()> {
+    write!(out, "{number:016x}")
 }
 
 // The answer, as the page program says it.
-pub(crate) fn show_end(end: End) {
+pub(crate) fn show_end(out: &mut impl Write, end: End) -> io::Result<()> {
     match end {
-        End::Done => text(b"done "),
-        End::Spent => text(b"spent "),
+        End::Done => text(out, "done "),
+        End::Spent => text(out, "spent "),
         End::Refused(refusal) => {
-            show_refusal(refusal);
-            text(b" ");
+            show_refusal(out, refusal)?;
+            text(out, " ")
         }
     }
 }
 
-pub(crate) fn show_tags(valid: bool) {
+pub(crate) fn show_tags(out: &mut impl Write, valid: bool) -> io::Result<()> {
     if valid {
-        text(b" valid");
+        text(out, " valid")
     } else {
-        text(b" empty");
+        text(out, " empty")
     }
 }
 
@@ -50,87 +47,87 @@ fn first_bytes(memory: &[u8]) -> u64 {
 }
 
 // MM0 and the tag mark.
-fn show_first(machine: Machine) {
-    text(b", mm0 ");
-    hexadecimal(machine.mmx[0]);
-    show_tags(machine.marks.valid);
+fn show_first(out: &mut impl Write, machine: Machine) -> io::Result<()> {
+    text(out, ", mm0 ")?;
+    hexadecimal(out, machine.mmx[0])?;
+    show_tags(out, machine.marks.valid)
 }
 
 // The same with the first bytes of the memory.
-pub(crate) fn show_memory(machine: Machine, memory: &[u8]) {
-    show_first(machine);
-    text(b", memory ");
-    hexadecimal(first_bytes(memory));
+pub(crate) fn show_memory(out: &mut impl Write, machine: Machine, memory: &[u8]) -> io::Result<()> {
+    show_first(out, machine)?;
+    text(out, ", memory ")?;
+    hexadecimal(out, first_bytes(memory))
 }
 
-fn show_integer(name: &[u8], value: u32) {
-    text(name);
-    io::print_hex(STDOUT_FILENO, value as u64, DOUBLEWORD_DIGITS);
+fn show_integer(out: &mut impl Write, name: &str, value: u32) -> io::Result<()> {
+    write!(out, "{name}{value:08x}")
 }
 
-fn show_zero(zero: bool) {
+fn show_zero(out: &mut impl Write, zero: bool) -> io::Result<()> {
     if zero {
-        text(b" zero 1");
+        text(out, " zero 1")
     } else {
-        text(b" zero 0");
+        text(out, " zero 0")
     }
 }
 
 // EAX, ECX, EDI, the zero mark, MM0 and the tag mark.
-pub(crate) fn show_counters(machine: Machine) {
-    show_integer(b", eax ", machine.integers[0]);
-    show_integer(b" ecx ", machine.integers[1]);
-    show_integer(b" edi ", machine.integers[7]);
-    show_zero(machine.marks.zero);
-    show_first(machine);
+pub(crate) fn show_counters(out: &mut impl Write, machine: Machine) -> io::Result<()> {
+    show_integer(out, ", eax ", machine.integers[0])?;
+    show_integer(out, " ecx ", machine.integers[1])?;
+    show_integer(out, " edi ", machine.integers[7])?;
+    show_zero(out, machine.marks.zero)?;
+    show_first(out, machine)
 }
 
 // What a step came to, and the position that it hands back.
-pub(crate) fn show_step(answer: Taken, at: usize) {
+pub(crate) fn show_step(out: &mut impl Write, answer: Taken, at: usize) -> io::Result<()> {
     match answer {
-        Taken::Completed => text(b"completed"),
-        Taken::Refused(refusal) => show_refusal(refusal),
+        Taken::Completed => text(out, "completed")?,
+        Taken::Refused(refusal) => show_refusal(out, refusal)?,
     }
-    text(b" at ");
-    decimal(at as u64);
+    text(out, " at ")?;
+    decimal(out, at as u64)
 }
 
-pub(crate) fn show_refusal(refusal: u8) {
-    text(b"refused ");
-    decimal(refusal as u64);
+pub(crate) fn show_refusal(out: &mut impl Write, refusal: u8) -> io::Result<()> {
+    text(out, "refused ")?;
+    decimal(out, refusal as u64)
 }
 
 // Places: the masks of the registers, the range of the bytes, and the zero mark where it is one.
-fn show_places(name: &[u8], places: Places) {
-    text(name);
-    decimal(places.mmx as u64);
-    text(b" and ");
-    decimal(places.integers as u64);
-    text(b" and ");
-    decimal(places.length as u64);
-    text(b" bytes at ");
-    decimal(places.start as u64);
+fn show_places(out: &mut impl Write, name: &str, places: Places) -> io::Result<()> {
+    text(out, name)?;
+    decimal(out, places.mmx as u64)?;
+    text(out, " and ")?;
+    decimal(out, places.integers as u64)?;
+    text(out, " and ")?;
+    decimal(out, places.length as u64)?;
+    text(out, " bytes at ")?;
+    decimal(out, places.start as u64)?;
     if places.zero {
-        text(b" and zero");
+        text(out, " and zero")?;
     }
+    Ok(())
 }
 
-fn show_footprint(footprint: Footprint) {
-    show_places(b"reads ", footprint.reads);
-    show_places(b", writes ", footprint.writes);
+fn show_footprint(out: &mut impl Write, footprint: Footprint) -> io::Result<()> {
+    show_places(out, "reads ", footprint.reads)?;
+    show_places(out, ", writes ", footprint.writes)
 }
 
-pub(crate) fn show_tracing(tracing: Tracing) {
+pub(crate) fn show_tracing(out: &mut impl Write, tracing: Tracing) -> io::Result<()> {
     match tracing {
-        Tracing::Traced(footprint) => show_footprint(footprint),
-        Tracing::Refused(refusal) => show_refusal(refusal),
+        Tracing::Traced(footprint) => show_footprint(out, footprint),
+        Tracing::Refused(refusal) => show_refusal(out, refusal),
     }
 }
 
-pub(crate) fn show_meeting(meet: bool) {
+pub(crate) fn show_meeting(out: &mut impl Write, meet: bool) -> io::Result<()> {
     if meet {
-        text(b"meet");
+        text(out, "meet")
     } else {
-        text(b"do not meet");
+        text(out, "do not meet")
     }
 }
