@@ -9,7 +9,7 @@ use machine::refusals::LONGEST_MEMORY;
 use pagefile::LONGEST_FILE;
 
 // How a file is made.
-#[derive(Drop)]
+#[derive(Clone, Copy)]
 pub(crate) enum Sort {
     Plain,
     Headed,

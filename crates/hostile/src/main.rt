@@ -1,10 +1,13 @@
 // Plays 10,000 generated files, and prints how many of each sort gave each answer. All answers occur but eight: 11 and 12 are the writer's, 15 to 18
 // no page's, and 20 and 21 need a floor. The last line counts what must never be: a text that is none of these, or a byte changed behind the text.
+#![tactic(auto)]
+
 ghost use Rattle.std.specs.Prelude.{◌<◌};
 
 use answers::{ANSWERS, DONE, NONE, SPENT, answer_of};
 use files::{ROOM, Sort};
-use libc::STDOUT_FILENO;
+use std::io;
+use std::io::{BufWriter, Write};
 use std::num::wrapping_add_u64;
 
 mod answers;
@@ -66,43 +69,56 @@ fn tally(sort: Sort, count: u64) -> [u64; ANSWERS] {
     counts
 }
 
-fn write(text: &[u8]) {
-    io::write_all(STDOUT_FILENO, text);
+fn write(out: &mut impl Write, text: &str) -> io::Result<()> {
+    write!(out, "{text}")
 }
 
-fn write_count(name: &[u8], count: u64) {
-    write(name);
-    io::print_decimal(STDOUT_FILENO, count);
+fn write_count(out: &mut impl Write, name: &str, count: u64) -> io::Result<()> {
+    write!(out, "{name}{count}")
 }
 
-fn write_name(answer: usize) {
+fn write_name(out: &mut impl Write, answer: usize) -> io::Result<()> {
     match answer {
-        DONE => write(b"done"),
-        SPENT => write(b"spent"),
-        NONE => write(b"none of these"),
-        _ => write_count(b"refused ", answer as u64),
+        DONE => write(out, "done"),
+        SPENT => write(out, "spent"),
+        NONE => write(out, "none of these"),
+        _ => write_count(out, "refused ", answer as u64),
     }
 }
 
 // A line: the answer's name, and how many files of each sort gave it.
-fn write_line(answer: usize, plain: u64, headed: u64, likely: u64) {
-    write_name(answer);
-    write_count(b": plain ", plain);
-    write_count(b", headed ", headed);
-    write_count(b", likely ", likely);
-    write(b"\n");
+fn write_line(
+    out: &mut impl Write,
+    answer: usize,
+    plain: u64,
+    headed: u64,
+    likely: u64,
+) -> io::Result<()> {
+    write_name(out, answer)?;
+    write_count(out, ": plain ", plain)?;
+    write_count(out, ", headed ", headed)?;
+    write_count(out, ", likely ", likely)?;
+    write(out, "\n")
 }
 
 // A line for each answer.
-fn write_table(plain: &[u64; ANSWERS], headed: &[u64; ANSWERS], likely: &[u64; ANSWERS]) {
+fn write_table(
+    out: &mut impl Write,
+    plain: &[u64; ANSWERS],
+    headed: &[u64; ANSWERS],
+    likely: &[u64; ANSWERS],
+) -> io::Result<()> {
     for answer in 0..ANSWERS {
-        write_line(answer, plain[answer], headed[answer], likely[answer]);
+        write_line(out, answer, plain[answer], headed[answer], likely[answer])?;
     }
+    Ok(())
 }
 
-fn main() {
+fn main(rt: HostRuntime) -> io::Result<()> {
     let plain = tally(Sort::Plain, PLAIN);
     let headed = tally(Sort::Headed, HEADED);
     let likely = tally(Sort::Likely, LIKELY);
-    write_table(&plain, &headed, &likely);
+    let mut out = BufWriter::new(rt.alloc(), io::writer(&rt))?;
+    write_table(&mut out, &plain, &headed, &likely)?;
+    out.flush()
 }

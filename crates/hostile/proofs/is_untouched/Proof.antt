@@ -4,10 +4,10 @@ use Rattle.basis.proofs.Names.{rules}
 use Rattle.hostile.proofs.is_untouched.Statement.{statement}
 use Rattle.hostile.proofs.is_untouched.Tie as tie
 
-abbrev invariant-loop : tie.invariant-loop
+abbrev invariant-loop : tie.invariant-loop-at
 invariant-loop text from at₀ at = from ≤ at
 
-abbrev decreases-loop : tie.decreases-loop
+abbrev decreases-loop : tie.decreases-loop-at
 decreases-loop text from at₀ at = length text - at
 
 pub is_untouched_spec : {M : Type 1} → statement M

@@ -4,10 +4,10 @@ use Rattle.basis.proofs.Names.{rules}
 use Rattle.hostile.proofs.answers.starts_with.Statement.{statement}
 use Rattle.hostile.proofs.answers.starts_with.Tie as tie
 
-abbrev invariant-loop : tie.invariant-loop
+abbrev invariant-loop : tie.invariant-loop-i
 invariant-loop text word i₀ i-end i = (i-end ≡ length word) × (i ≤ length word) × (length word ≤ length text)
 
-abbrev decreases-loop : tie.decreases-loop
+abbrev decreases-loop : tie.decreases-loop-i
 decreases-loop text word i₀ i-end i = length word - i
 
 pub starts_with_spec : {M : Type 1} → statement M
