@@ -2,6 +2,8 @@
 use crate::texts;
 use machine::Machine;
 use manual::Marks;
+use std::io;
+use std::io::Write;
 
 // The bytes of the usual memory.
 const MEMORY: usize = 24;
@@ -22,21 +24,40 @@ fn usual_machine() -> Machine {
 }
 
 // Asks in a memory, and prints the question's title and numbers, the answer, and what is left.
-pub(crate) fn ask_in(title: &[u8], code: &[u8], memory: &mut [u8], first: u32, second: u32) {
+pub(crate) fn ask_in(
+    out: &mut impl Write,
+    title: &str,
+    code: &[u8],
+    memory: &mut [u8],
+    first: u32,
+    second: u32,
+) -> io::Result<()> {
     let asked = studio::why_not(usual_machine(), code, memory, first, second);
-    texts::text(title);
-    texts::show_numbers(first, second);
-    texts::show_answer(asked, memory);
+    texts::text(out, title)?;
+    texts::show_numbers(out, first, second)?;
+    texts::show_answer(out, asked, memory)
 }
 
 // The same in the usual memory, whose bytes are 1.
-pub(crate) fn ask(title: &[u8], code: &[u8], first: u32, second: u32) {
+pub(crate) fn ask(
+    out: &mut impl Write,
+    title: &str,
+    code: &[u8],
+    first: u32,
+    second: u32,
+) -> io::Result<()> {
     let mut memory = [1u8; MEMORY];
-    ask_in(title, code, &mut memory, first, second);
+    ask_in(out, title, code, &mut memory, first, second)
 }
 
 // The same with the numbers in both orders.
-pub(crate) fn ask_both(title: &[u8], code: &[u8], first: u32, second: u32) {
-    ask(title, code, first, second);
-    ask(title, code, second, first);
+pub(crate) fn ask_both(
+    out: &mut impl Write,
+    title: &str,
+    code: &[u8],
+    first: u32,
+    second: u32,
+) -> io::Result<()> {
+    ask(out, title, code, first, second)?;
+    ask(out, title, code, second, first)
 }

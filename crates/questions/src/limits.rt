@@ -2,6 +2,8 @@
 use crate::cases::{ask, ask_in};
 use codec::refusals::LONGEST_CODE;
 use machine::refusals::LONGEST_MEMORY;
+use std::io;
+use std::io::Write;
 
 // DEC EAX.
 const DECREMENT: u8 = 0x48;
@@ -14,29 +16,36 @@ const LAST: [u8; 14] = [
 // JNZ 0.
 const JUMP: [u8; 2] = [0x75, 0x00];
 
-fn memories() {
+fn memories(out: &mut impl Write) -> io::Result<()> {
     let last = LAST;
     let jump = JUMP;
     let mut longest = [1u8; LONGEST_MEMORY];
     let mut longer = [1u8; LONGEST_MEMORY + 1];
-    ask_in(b"the last bytes", &last, &mut longest, 0, 1);
-    ask_in(b"a memory too long", &last, &mut longer, 0, 1);
-    ask_in(b"a memory too long, and a jump", &jump, &mut longer, 0, 1);
+    ask_in(out, "the last bytes", &last, &mut longest, 0, 1)?;
+    ask_in(out, "a memory too long", &last, &mut longer, 0, 1)?;
+    ask_in(
+        out,
+        "a memory too long, and a jump",
+        &jump,
+        &mut longer,
+        0,
+        1,
+    )
 }
 
-fn codes() {
+fn codes(out: &mut impl Write) -> io::Result<()> {
     let longest = [DECREMENT; LONGEST_CODE];
     let longer = [DECREMENT; LONGEST_CODE + 1];
     let mut jumping = [DECREMENT; LONGEST_CODE + 1];
     jumping[0] = 0x75;
-    ask(b"4,096 times DEC eax", &longest, 0, 4095);
-    ask(b"4,096 times DEC eax", &longest, 4095, 4094);
-    ask(b"4,096 times DEC eax", &longest, 4095, 4096);
-    ask(b"a code too long", &longer, 0, 1);
-    ask(b"a code too long, and a jump", &jumping, 0, 1);
+    ask(out, "4,096 times DEC eax", &longest, 0, 4095)?;
+    ask(out, "4,096 times DEC eax", &longest, 4095, 4094)?;
+    ask(out, "4,096 times DEC eax", &longest, 4095, 4096)?;
+    ask(out, "a code too long", &longer, 0, 1)?;
+    ask(out, "a code too long, and a jump", &jumping, 0, 1)
 }
 
-pub(crate) fn all() {
-    memories();
-    codes();
+pub(crate) fn all(out: &mut impl Write) -> io::Result<()> {
+    memories(out)?;
+    codes(out)
 }

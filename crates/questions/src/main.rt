@@ -1,5 +1,7 @@
 // Questions of `why_not`: the example of demand 3, EMMS, the three manners, the order of places, what memory operands share, the zero mark, runs
 // that are not done, 29 and 30.
+#![tactic(auto)]
+
 mod blocks;
 mod cases;
 mod limits;
@@ -7,9 +9,14 @@ mod places;
 mod refusals;
 mod texts;
 
-fn main() {
-    blocks::all();
-    places::all();
-    refusals::all();
-    limits::all();
+use std::io;
+use std::io::{BufWriter, Write};
+
+fn main(rt: HostRuntime) -> io::Result<()> {
+    let mut out = BufWriter::new(rt.alloc(), io::writer(&rt))?;
+    blocks::all(&mut out)?;
+    places::all(&mut out)?;
+    refusals::all(&mut out)?;
+    limits::all(&mut out)?;
+    out.flush()
 }

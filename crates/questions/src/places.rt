@@ -1,18 +1,20 @@
 // The order of places: MMX registers, integer registers, memory bytes, the zero mark; and footprints in the states where the instructions run.
 use crate::cases::{ask, ask_both};
+use std::io;
+use std::io::Write;
 
 // MOVD EAX, MM0; MOVD MM0, EAX; MOVD MM1, EAX; MOVQ MM2, [EDX]; DEC EDX; MOVQ [EDX], MM3.
 const INTEGERS: [u8; 16] = [
     0x0f, 0x7e, 0xc0, 0x0f, 0x6e, 0xc0, 0x0f, 0x6e, 0xc8, 0x0f, 0x6f, 0x12, 0x4a, 0x0f, 0x7f, 0x1a,
 ];
 
-fn integers() {
+fn integers(out: &mut impl Write) -> io::Result<()> {
     let code = INTEGERS;
-    ask(b"MOVD eax, mm0 and MOVD mm0, eax", &code, 0, 1);
-    ask(b"MOVD eax, mm0 and MOVD mm1, eax", &code, 0, 2);
-    ask(b"MOVQ mm2, [1] and DEC edx", &code, 3, 4);
-    ask(b"DEC edx and MOVQ [0], mm3", &code, 4, 5);
-    ask(b"MOVQ mm2, [1] and MOVQ [0], mm3", &code, 3, 5);
+    ask(out, "MOVD eax, mm0 and MOVD mm0, eax", &code, 0, 1)?;
+    ask(out, "MOVD eax, mm0 and MOVD mm1, eax", &code, 0, 2)?;
+    ask(out, "MOVQ mm2, [1] and DEC edx", &code, 3, 4)?;
+    ask(out, "DEC edx and MOVQ [0], mm3", &code, 4, 5)?;
+    ask(out, "MOVQ mm2, [1] and MOVQ [0], mm3", &code, 3, 5)
 }
 
 // MOVQ [EAX + 8], MM0; MOVQ MM2, [EAX + 1]; MOVQ [EAX + 15], MM3; MOVQ MM4, [EAX]; MOVD [EAX + 20], MM5; MASKMOVQ MM6, MM7.
@@ -21,21 +23,21 @@ const BYTES: [u8; 22] = [
     0x7e, 0x68, 0x14, 0x0f, 0xf7, 0xf7,
 ];
 
-fn stores() {
+fn stores(out: &mut impl Write) -> io::Result<()> {
     let code = BYTES;
-    ask_both(b"a store at 8 and a load at 1", &code, 0, 1);
-    ask(b"a store at 8 and a store at 15", &code, 0, 2);
-    ask(b"a store at 8 and a load at 0", &code, 0, 3);
-    ask(b"a load at 1 and a store at 15", &code, 1, 2);
-    ask(b"a load at 1 and a load at 0", &code, 1, 3);
+    ask_both(out, "a store at 8 and a load at 1", &code, 0, 1)?;
+    ask(out, "a store at 8 and a store at 15", &code, 0, 2)?;
+    ask(out, "a store at 8 and a load at 0", &code, 0, 3)?;
+    ask(out, "a load at 1 and a store at 15", &code, 1, 2)?;
+    ask(out, "a load at 1 and a load at 0", &code, 1, 3)
 }
 
-fn masks() {
+fn masks(out: &mut impl Write) -> io::Result<()> {
     let code = BYTES;
-    ask(b"a store at 15 and a store of 4 at 20", &code, 2, 4);
-    ask(b"a store at 15 and MASKMOVQ at 16", &code, 2, 5);
-    ask(b"a store of 4 at 20 and MASKMOVQ at 16", &code, 4, 5);
-    ask(b"a load at 0 and MASKMOVQ at 16", &code, 3, 5);
+    ask(out, "a store at 15 and a store of 4 at 20", &code, 2, 4)?;
+    ask(out, "a store at 15 and MASKMOVQ at 16", &code, 2, 5)?;
+    ask(out, "a store of 4 at 20 and MASKMOVQ at 16", &code, 4, 5)?;
+    ask(out, "a load at 0 and MASKMOVQ at 16", &code, 3, 5)
 }
 
 // MOVQ [EAX], MM0; ADD EAX, 4; MOVQ MM1, [EAX]; ADD EAX, 8; MOVQ MM2, [EAX]; MOVQ [EAX + 4], MM1.
@@ -44,29 +46,29 @@ const MOVED: [u8; 19] = [
     0x7f, 0x48, 0x04,
 ];
 
-fn moved() {
+fn moved(out: &mut impl Write) -> io::Result<()> {
     let code = MOVED;
-    ask_both(b"a store at 0 and a load at 4", &code, 0, 2);
-    ask(b"a store at 0 and a load at 12", &code, 0, 4);
-    ask(b"a load at 12 and a store at 16", &code, 4, 5);
-    ask(b"a load at 4 and a store at 16", &code, 2, 5);
+    ask_both(out, "a store at 0 and a load at 4", &code, 0, 2)?;
+    ask(out, "a store at 0 and a load at 12", &code, 0, 4)?;
+    ask(out, "a load at 12 and a store at 16", &code, 4, 5)?;
+    ask(out, "a load at 4 and a store at 16", &code, 2, 5)
 }
 
-fn zero_marks() {
+fn zero_marks(out: &mut impl Write) -> io::Result<()> {
     let code = [
         0x83, 0xc0, 0x04, 0x49, 0x48, 0xba, 0x00, 0x00, 0x00, 0x00, 0x0f, 0xfc, 0xc1,
     ];
-    ask_both(b"ADD eax, 4 and DEC ecx", &code, 0, 1);
-    ask(b"ADD eax, 4 and DEC eax", &code, 0, 2);
-    ask(b"DEC ecx and DEC eax", &code, 1, 2);
-    ask(b"DEC ecx and MOV edx, 0", &code, 1, 3);
-    ask(b"DEC ecx and PADDB mm0, mm1", &code, 1, 4);
+    ask_both(out, "ADD eax, 4 and DEC ecx", &code, 0, 1)?;
+    ask(out, "ADD eax, 4 and DEC eax", &code, 0, 2)?;
+    ask(out, "DEC ecx and DEC eax", &code, 1, 2)?;
+    ask(out, "DEC ecx and MOV edx, 0", &code, 1, 3)?;
+    ask(out, "DEC ecx and PADDB mm0, mm1", &code, 1, 4)
 }
 
-pub(crate) fn all() {
-    integers();
-    stores();
-    masks();
-    moved();
-    zero_marks();
+pub(crate) fn all(out: &mut impl Write) -> io::Result<()> {
+    integers(out)?;
+    stores(out)?;
+    masks(out)?;
+    moved(out)?;
+    zero_marks(out)
 }
