@@ -1,50 +1,46 @@
 // Plays the page files that its arguments name, one after another, and writes the text of each after its name.
-use libc::STDOUT_FILENO;
+#![tactic(auto)]
+
+use std::fs::File;
+use std::io::{Read, Write};
+use std::rt::Files;
+use std::{env, io};
 
 // One byte more than the longest page file has, so that a longer one is seen as such.
-const FILE_BYTES: usize = pagefile::LONGEST_FILE + 1;
+const FILE_BYTES: u64 = pagefile::LONGEST_FILE as u64 + 1;
 
-fn write(text: &[u8]) {
-    io::write_all(STDOUT_FILENO, text);
+fn write(rt: &impl Print, text: &[u8]) -> io::Result<()> {
+    rt.write_all(text)
 }
 
-fn write_heading(name: &[u8]) {
-    write(b"== ");
-    write(name);
-    write(b"\n");
+fn write_heading(rt: &impl Print, name: &str) -> io::Result<()> {
+    println!(rt; "== {name}")
 }
 
 // The text of a page, from an open file.
-fn write_text(input: i32) {
-    let mut file = [0u8; FILE_BYTES];
-    let n = io::read_full(input, &mut file);
+fn write_text<R: Read + Drop>(rt: &(impl Print + AllocGlobal), input: R) -> io::Result<()> {
+    let mut file = Vec::new(rt.alloc());
+    input.take(FILE_BYTES).read_to_end(&mut file)?;
     let mut text = printout::buffer();
-    let written = player::play(&file[..n], &mut text);
-    write(&text[0..written]);
+    let written = player::play(&file, &mut text);
+    write(rt, &text[0..written])
 }
 
-fn play_named(name: &[u8]) {
-    write_heading(name);
-    let input = os::open_read(name);
-    if input < 0 {
-        write(b"this file cannot be opened\n");
-        return;
+fn play_named(rt: &(impl Files + Print + AllocGlobal), name: &str) -> io::Result<()> {
+    write_heading(rt, name)?;
+    match File::open(rt, name) {
+        Ok(input) => write_text(rt, input),
+        Err(_) => write(rt, b"this file cannot be opened\n"),
     }
-    write_text(input);
-    libc::close(input);
 }
 
-fn play_argument(i: usize) {
-    let mut name = io::buffer();
-    let n = os::arg(i, &mut name);
-    play_named(&name[..n]);
+fn play_argument(rt: &(impl Files + Print + AllocGlobal), argument: String) -> io::Result<()> {
+    play_named(rt, argument.as_str())
 }
 
-fn main() {
-    let count = os::arg_count();
-    let mut i: usize = 1;
-    while i < count {
-        play_argument(i);
-        i += 1;
+fn main(rt: HostRuntime) -> io::Result<()> {
+    for argument in env::args(&rt)?.skip(1) {
+        play_argument(&rt, argument)?;
     }
+    Ok(())
 }

@@ -1,0 +1,9 @@
+-- `read` is safe and ends: each turn that goes on has put a byte more.
+use Rattle.basis.specs.Names.{◌≡◌, ◌≤◌, ◌-◌, length}
+use Rattle.page.proofs.read.Given as goal
+
+abbrev pub invariant-loop-n : goal.invariant-loop-n
+invariant-loop-n g l = (length l.file ≡ length l.initial.file) × (l.n ≤ length l.file)
+
+abbrev pub decreases-loop-n : goal.decreases-loop-n
+decreases-loop-n g l = length l.file - l.n
