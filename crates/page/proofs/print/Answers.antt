@@ -1,5 +1,5 @@
 -- `print` writes no more than the buffer has.
-use Rattle.std.proofs.Common.{rules}
+use Rattle.basis.proofs.Names.{rules}
 use Rattle.printout.proofs.Rooms.{written-within}
 use Rattle.page.proofs.print.Goals as goal
 

@@ -1,5 +1,5 @@
 -- `read` is safe and ends: each turn that goes on has put a byte more.
-use Rattle.std.proofs.Common.{◌≡◌, ◌≤◌, ◌-◌, length}
+use Rattle.std.specs.Prelude.{◌≡◌, ◌≤◌, ◌-◌, length}
 use Rattle.page.proofs.read.Given as goal
 
 abbrev pub invariant-loop-n : goal.invariant-loop-n
