@@ -2,7 +2,10 @@
 // that, and a text that could not be written whole, is told on standard error, and the exit status is then 1.
 #![tactic(auto)]
 
-ghost use Rattle.page.specs.inner.Inputs.{ReadWithin};
+ghost use Rattle.std.specs.Prelude.{IsTrue};
+ghost use Rattle.std.specs.Io.KnownBytes.{Appends};
+ghost use Rattle.player.specs.Page.{page_text};
+ghost use Rattle.page.specs.inner.Inputs.{ReadWithin, WasRead};
 
 use std::io::{Read, Write};
 use std::process::ExitCode;
@@ -18,8 +21,9 @@ enum Input {
 }
 
 // Reads until the input ends or the buffer is full. A pipe gives its bytes in parts, so that a short read is no end: an answer of 0 is.
-fn read(input: &mut impl Read, file: &mut [u8]) -> Input
-    ensures { ReadWithin result file.new }
+fn read<R: Read>(input: &mut R, file: &mut [u8]) -> Input
+    ensures within { ReadWithin result file.new }
+    ensures whole { WasRead result (R.remaining input.old) (R.remaining input.new) file.new }
 {
     let mut n: usize = 0;
     while n < file.len() {
@@ -33,7 +37,9 @@ fn read(input: &mut impl Read, file: &mut [u8]) -> Input
 }
 
 // Prints what is printed of a page file, and answers whether all of it was written.
-fn print(output: &mut impl Write, file: &[u8]) -> bool {
+fn print<W: Write>(output: &mut W, file: &[u8]) -> bool
+    ensures { IsTrue result → Appends (W.contents output.old) (W.contents output.new) (page_text file.now) }
+{
     let mut out = printout::buffer();
     let written = player::play(file, &mut out);
     output.write_all(&out[0..written]).is_ok()

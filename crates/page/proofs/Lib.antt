@@ -1,0 +1,3 @@
+-- The laws: what reads take and leave, and that a text is written whole.
+pub mod Readings
+pub mod Texts
