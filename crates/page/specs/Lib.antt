@@ -1,2 +1,3 @@
--- No definition that anybody has to believe: only a word of a private contract.
+-- What the page program prints, and the words of its private contracts.
+pub mod Prints
 pub mod inner

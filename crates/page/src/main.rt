@@ -5,6 +5,7 @@
 ghost use Rattle.std.specs.Prelude.{IsTrue};
 ghost use Rattle.std.specs.Io.KnownBytes.{Appends};
 ghost use Rattle.player.specs.Page.{page_text};
+ghost use Rattle.page.specs.Prints.{PrintsPage};
 ghost use Rattle.page.specs.inner.Inputs.{ReadWithin, WasRead};
 
 use std::io::{Read, Write};
@@ -50,22 +51,27 @@ fn tell(errors: &mut impl Write, line: &[u8]) {
     let _ = errors.write_all(line);
 }
 
-fn main(rt: HostRuntime) -> ExitCode {
+// Plays the page file that the input holds: prints its text on the output, or tells why not. The answer is whether the whole text was printed.
+fn play_page<R: Read, W: Write, E: Write>(input: &mut R, output: &mut W, errors: &mut E) -> bool
+    ensures { IsTrue result → PrintsPage (R.remaining input.old) (W.contents output.old) (W.contents output.new) }
+{
     let mut file = [0u8; FILE_BYTES];
-    match read(&mut rt.stdin(), &mut file) {
+    match read(input, &mut file) {
         Input::Whole(n) => {
-            if print(&mut rt.stdout(), &file[..n]) {
-                return ExitCode::SUCCESS;
+            if print(output, &file[..n]) {
+                return true;
             }
-            tell(
-                &mut rt.stderr(),
-                b"page: the text could not be written whole\n",
-            );
+            tell(errors, b"page: the text could not be written whole\n");
         }
-        Input::Failed => tell(
-            &mut rt.stderr(),
-            b"page: the file could not be read to its end\n",
-        ),
+        Input::Failed => tell(errors, b"page: the file could not be read to its end\n"),
     }
-    ExitCode::FAILURE
+    false
+}
+
+fn main(rt: HostRuntime) -> ExitCode {
+    if play_page(&mut rt.stdin(), &mut rt.stdout(), &mut rt.stderr()) {
+        ExitCode::SUCCESS
+    } else {
+        ExitCode::FAILURE
+    }
 }
