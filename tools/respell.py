@@ -35,12 +35,12 @@ def respelled(text, names):
 
 
 def outside_comments(text, names):
-    """In a comment a name of letters alone is a word of English."""
-    speaking = {old: new for old, new in names.items() if not old.isalpha() or not old.islower()}
+    """In a comment only what it quotes is a name, or has a capital within: all else there is English."""
+    capital = {old: new for old, new in names.items() if "-" not in old and old != old.lower()}
     lines = []
     for line in text.split("\n"):
         code, dashes, comment = line.partition("--")
-        lines.append(respelled(code, names) + dashes + respelled(comment, speaking))
+        lines.append(respelled(code, names) + dashes + respelled(quoted(comment, names), capital))
     return "\n".join(lines)
 
 

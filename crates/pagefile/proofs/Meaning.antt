@@ -96,7 +96,7 @@ module _ (fields : List Field) (file : List ℕ) (made : MadeOf fields file) whe
       let before : suc t - 1 ≡ t = omega arith in
       rw (made_well_formed, before) (step fields t (remaining t file) (reached t)).holding
 
--- a well_formed_lem file of bytes is made of fields
+-- a well-formed file of bytes is made of fields
 lower : (t : ℕ) (fields : List Field) → Ascending (suc t) fields → Ascending t fields
 lower t [] a = a
 lower t (f ∷ fs) (over, most, right, a) = (omega arith, most, right, a)

@@ -61,7 +61,7 @@ pub data Parsed : Type 0 where
   well_formed_with : ℕ → Parsed
   refused_with : ℕ → Parsed
 
--- the marks of a well_formed_lem file, 0 where they are absent
+-- the marks of a well-formed file, 0 where they are absent
 unfoldable pub page_of : List ℕ → Parsed
 page_of file = cond (well_formed file) (well_formed_with (get_or (marks_of file) 0 0)) (refused_with malformed)
 

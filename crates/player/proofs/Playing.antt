@@ -46,7 +46,7 @@ run_of_copy file memory before after buffer n marks p count copied told = rw fro
     front : take (n - 0) after ≡ memory
     front = rw (sub-zero, count, copied, take-length) (take-append_seam memory (drop (length memory) before))
 
--- a well_formed_lem page
+-- a well-formed page
 module _ (file memory buffer : List ℕ) (marks : ℕ) (p : Printed) (m : memory ≡ memory_of file) where
   pub long_memory : longest_memory < length memory → p ≡ printed (refusal_text memory_too_long) buffer → p ≡ printed (well_formed_text marks file) buffer
   unfolding well_formed_text

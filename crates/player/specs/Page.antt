@@ -32,7 +32,7 @@ answer_text (stopped n at count s) = state_text (Refused n) at count s
 unfoldable pub run_in : List ℕ → ℕ → List ℕ → Answer State
 run_in memory marks file = run_of 0 (code_of file) budget (state_of (start_of (mmx_of file) (integers_of file) marks) memory)
 
--- a well_formed_lem page is refused by 1 (its memory is too long), then by 2 (its code is), or run with its memory
+-- a well-formed page is refused by 1 (its memory is too long), then by 2 (its code is), or run with its memory
 unfoldable pub well_formed_text : ℕ → List ℕ → List ℕ
 well_formed_text marks file =
     cond (is_too_long (memory_of file)) (refusal_text memory_too_long)
