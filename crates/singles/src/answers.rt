@@ -6,7 +6,7 @@ use crate::halves::joined;
 use crate::tables::Half;
 
 // The register that is left; or nothing, where a half is undefined.
-#[derive(Drop)]
+#[derive(Clone, Copy)]
 pub enum Answer {
     Leaves(u64),
     Fails,

@@ -2,7 +2,7 @@
 ghost use Rattle.std.specs.Prelude.{◌≡◌};
 ghost use Rattle.singles.specs.inner.Numbers.{sort};
 
-#[derive(Drop)]
+#[derive(Clone, Copy)]
 pub enum Class {
     Zero,
     Normal(f32),

@@ -38,7 +38,7 @@ fn number_of(half: u32) -> f32
 }
 
 // A register read as a pair of single-precision numbers.
-#[derive(Drop)]
+#[derive(Clone, Copy)]
 pub struct Singles {
     pub low: f32,
     pub high: f32,

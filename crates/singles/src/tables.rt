@@ -7,7 +7,7 @@ use crate::classes::Class;
 use crate::words::rounded;
 
 // What a table gives for a half.
-#[derive(Drop)]
+#[derive(Clone, Copy)]
 pub enum Half {
     Made(u32),
     Undefined,
