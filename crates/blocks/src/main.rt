@@ -66,6 +66,7 @@ fn main(rt: HostRuntime) -> io::Result<()> {
     meetings::all(&mut out)?;
     loops::all(&mut out)?;
     loop_steps::all(&mut out)?;
+    out.flush()?;
     standard_input(&mut rt.reader(), &mut out)?;
     out.flush()
 }

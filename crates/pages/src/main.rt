@@ -1,20 +1,26 @@
 // Plays the page files that its arguments name, one after another, and writes the text of each after its name.
 #![tactic(auto)]
 
+use std::env::{Env, FillError};
 use std::fs::File;
+use std::io;
 use std::io::Read;
 use std::rt::Files;
-use std::{env, io};
 
 // One byte more than the longest page file has, so that a longer one is seen as such.
 const FILE_BYTES: u64 = pagefile::LONGEST_FILE as u64 + 1;
+
+// Room for any path.
+const NAME_BYTES: usize = 4096;
 
 fn write(rt: &impl Print, text: &[u8]) -> io::Result<()> {
     rt.write_all(text)
 }
 
-fn write_heading(rt: &impl Print, name: &str) -> io::Result<()> {
-    println!(rt; "== {name}")
+fn write_heading(rt: &impl Print, name: &[u8]) -> io::Result<()> {
+    write(rt, b"== ")?;
+    write(rt, name)?;
+    write(rt, b"\n")
 }
 
 // The text of a page, from an open file.
@@ -26,21 +32,38 @@ fn write_text<R: Read + Drop>(rt: &(impl Print + AllocGlobal), input: R) -> io::
     write(rt, &text[0..written])
 }
 
-fn play_named(rt: &(impl Files + Print + AllocGlobal), name: &str) -> io::Result<()> {
-    write_heading(rt, name)?;
-    match File::open(rt, name) {
+// What is written of a file that a text names.
+fn play_path(rt: &(impl Files + Print + AllocGlobal), path: &str) -> io::Result<()> {
+    match File::open(rt, path) {
         Ok(input) => write_text(rt, input),
         Err(_) => write(rt, b"this file cannot be opened\n"),
     }
 }
 
-fn play_argument(rt: &(impl Files + Print + AllocGlobal), argument: String) -> io::Result<()> {
-    play_named(rt, argument.as_str())
+fn play_named(rt: &(impl Files + Print + AllocGlobal), name: &[u8]) -> io::Result<()> {
+    write_heading(rt, name)?;
+    match std::str::from_utf8(name) {
+        Ok(path) => play_path(rt, path),
+        Err(_) => write(rt, b"this file cannot be opened\n"),
+    }
+}
+
+// Says whether there is such an argument. One that has no room is played as a file without a name.
+fn play_argument(rt: &(impl Env + Files + Print + AllocGlobal), i: usize) -> io::Result<bool> {
+    let mut name = [0u8; NAME_BYTES];
+    match rt.arg(i, &mut name) {
+        Ok(length) => play_named(rt, &name[..length])?,
+        Err(FillError::TooLong) => play_named(rt, b"")?,
+        Err(FillError::NotPresent) => return Ok(false),
+    }
+    Ok(true)
 }
 
 fn main(rt: HostRuntime) -> io::Result<()> {
-    for argument in env::args(&rt)?.skip(1) {
-        play_argument(&rt, argument)?;
+    for i in 1..usize::MAX {
+        if !play_argument(&rt, i)? {
+            return Ok(());
+        }
     }
     Ok(())
 }
