@@ -5,12 +5,10 @@ use Rattle.basis.proofs.Names.{sym, ap, ◌∙◌}
 use contract.Lifetimes.{Lfts}
 use borrow.Fn.Kinds.{Dens, res_t, ended_of}
 use denote.Triple.Clauses.{AtExit}
-use Rattle.manual.specs.State.{State}
 use Rattle.manual.specs.Places.{Place, mmx, integer, byte, zero_mark}
 use Rattle.machine.specs.declared.Machine.{Machine}
 use Rattle.machine.specs.declared.Ran.{Ran}
 use Rattle.machine.specs.State.{state_of}
-use Rattle.machine.specs.Runs.{paper_of_end}
 use Rattle.machine.proofs.Allowed.{After, machine_in, run_back, run_back_lem}
 use Rattle.studio.specs.declared.Place as declared
 use Rattle.studio.specs.declared.Place.TheVariants.{Mmx, Integer, Byte, ZeroMark}

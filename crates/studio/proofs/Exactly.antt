@@ -1,17 +1,16 @@
 -- Each answer to a question is given exactly where it is due: so the pair is said not to meet exactly where it does not, by 01's rule; and swapping
 -- the two numbers changes nothing.
-use Rattle.std.specs.Prelude.{◌≡◌, refl, ◌⊎◌, Bool, true, false, not, cond, ◌&&◌, ◌||◌, List, [], ◌∷◌, ◌++◌, ℕ, zero, suc, ◌+◌, ◌<◌, ◌≤◌, eqb, leb, ltb, length, ◌↔◌}
+use Rattle.std.specs.Prelude.{◌≡◌, refl, ◌⊎◌, Bool, true, false, not, cond, ◌&&◌, ◌||◌, List, [], ◌∷◌, ℕ, ◌<◌, ◌≤◌, eqb, leb, ltb, length, ◌↔◌}
 use Rattle.basis.specs.Names.{Memᴰ as In}
-use Rattle.basis.proofs.Names.{sym, ap, ap₂, subst, subst₂, ◌∙◌, inl, inr, ⊎_elim, false≢true, Memᴰ-head as here, Memᴰ-tail as later, Memᴰ-not_nil as not-nil, Memᴰ-append_cases as append_cases, arith, dec_lt, dec_le, ℕ_discrete, eq-eqb, ne_eqb, le-leb, lt-leb, lt-ltb, le-ltb, or-true, not-true}
-use Rattle.reorder.specs.Result.{Result, done}
+use Rattle.basis.proofs.Names.{sym, ap, subst, subst₂, ◌∙◌, inl, inr, false≢true, Memᴰ-head as here, Memᴰ-tail as later, Memᴰ-not_nil as not-nil, arith, dec_lt, eq-eqb, ne_eqb, le-leb, lt-leb, lt-ltb, le-ltb, or-true, not-true}
+use Rattle.reorder.specs.Result.{done}
 use Rattle.reorder.specs.Run.{Answer, finished, spent, stopped}
 use Rattle.reorder.specs.Footprint.{Footprint}
 use Rattle.reorder.specs.Footprint as places
 use Rattle.codec.specs.declared.Kind.{Kind}
 use Rattle.manual.specs.State.{State}
-use Rattle.manual.specs.Places.{Place, mmx, integer, byte, zero_mark}
+use Rattle.manual.specs.Places.{Place}
 use Rattle.manual.specs.Kinds.{kinds_meet, KindsMeet}
-use Rattle.manual.specs.Locations.{bytes_from}
 use Rattle.manual.specs.Runs.{run_of, reaches_jump, has_no_jump}
 use Rattle.manual.specs.Footprints.{footprint_in_run, Meets}
 use Rattle.manual.proofs.Demand3.{has_footprint}
@@ -19,7 +18,7 @@ use Rattle.manual.proofs.Having.{run_has}
 use Rattle.manual.proofs.Endings.{never_spent as run_never_spent}
 use Rattle.studio.specs.declared.Manner.{Manner}
 use Rattle.studio.specs.declared.Manner.TheVariants.{BothWrite, WriteRead, ReadWrite}
-use Rattle.studio.specs.Refusals.{numbers_wrong, block_jumps}
+use Rattle.studio.specs.Refusals.{numbers_wrong}
 use Rattle.studio.specs.Meetings.{Meeting, eight, all_places, meeting_at, lowest, among, meeting_of}
 use Rattle.studio.specs.Meetings as answers
 use Rattle.studio.specs.Whys.{budget, Reply, refusal, instead, told, meeting_in_run, reply_after, asked, why_not}

@@ -1,5 +1,4 @@
 -- `footprints::unmarked` meets its contract: each way has its footprint, unless its operand is refused.
-use Rattle.basis.proofs.Names.{rules}
 use Rattle.machine.proofs.laws.footprints.Forms.{traced_inside, form_rules}
 use Rattle.machine.proofs.footprints.unmarked.Statement.{statement}
 use Rattle.machine.proofs.footprints.unmarked.Tie as tie

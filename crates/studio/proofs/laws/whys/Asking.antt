@@ -1,5 +1,5 @@
 -- What is answered after a question's run, by how it ended and by what was traced between its parts.
-use Rattle.std.specs.Prelude.{◌≡◌, refl, Bool, true, false, not, cond, ◌||◌, List, ℕ, min, ◌≤◌, ◌<◌, eqb, leb, ltb, length}
+use Rattle.std.specs.Prelude.{◌≡◌, Bool, true, false, not, List, ℕ, min, ◌≤◌, ◌<◌, length}
 use Rattle.basis.proofs.Names.{sym, ap, ap₂, subst, ◌∙◌, arith, rules, eq-eqb, ne_eqb, le-leb, lt-leb, lt-ltb, le-ltb, ltb-false, or-true}
 use Rattle.reorder.specs.Run.{finished}
 use Rattle.manual.specs.State.{State, longest_memory}
