@@ -19,7 +19,7 @@ mod texts;
 
 use cases::{Form, Left};
 use std::io;
-use std::io::{BufWriter, Read, Write};
+use std::io::{Read, Write};
 
 // Room for the block on standard input, and the memory lent to it.
 const ROOM: usize = 4096;
@@ -57,7 +57,7 @@ fn standard_input(input: &mut impl Read, out: &mut impl Write) -> io::Result<()>
 }
 
 fn main(rt: HostRuntime) -> io::Result<()> {
-    let mut out = BufWriter::new(rt.alloc(), io::writer(&rt))?;
+    let mut out = io::writer(&rt);
     runs::all(&mut out)?;
     steps::all(&mut out)?;
     floors::all(&mut out)?;
@@ -66,7 +66,5 @@ fn main(rt: HostRuntime) -> io::Result<()> {
     meetings::all(&mut out)?;
     loops::all(&mut out)?;
     loop_steps::all(&mut out)?;
-    out.flush()?;
-    standard_input(&mut rt.reader(), &mut out)?;
-    out.flush()
+    standard_input(&mut rt.reader(), &mut out)
 }

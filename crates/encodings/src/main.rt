@@ -8,7 +8,7 @@ mod siblings;
 use codec::modes::SIB;
 use codec::{Instruction, Reading, Writing};
 use std::io;
-use std::io::{BufWriter, Write};
+use std::io::Write;
 use std::num::wrapping_add_u64;
 
 // What stands in the writer's buffer before it writes.
@@ -205,12 +205,11 @@ fn print_tally(out: &mut impl Write, name: &str, tally: Tally) -> io::Result<()>
 }
 
 fn main(rt: HostRuntime) -> io::Result<()> {
-    let mut out = BufWriter::new(rt.alloc(), io::writer(&rt))?;
+    let mut out = io::writer(&rt);
     print_tally(&mut out, "encodings", try_table())?;
     print_tally(&mut out, "encodings of loops", try_loops())?;
     let siblings = siblings::try_siblings();
     print_tally(&mut out, "encodings of siblings", siblings)?;
     edges::print(&mut out, "suffixes not listed", siblings.unlisted)?;
-    edges::print_edges(&mut out)?;
-    out.flush()
+    edges::print_edges(&mut out)
 }

@@ -7,7 +7,7 @@ ghost use Rattle.std.specs.Prelude.{◌<◌};
 use answers::{ANSWERS, DONE, NONE, SPENT, answer_of};
 use files::{ROOM, Sort};
 use std::io;
-use std::io::{BufWriter, Write};
+use std::io::Write;
 use std::num::wrapping_add_u64;
 
 mod answers;
@@ -118,7 +118,6 @@ fn main(rt: HostRuntime) -> io::Result<()> {
     let plain = tally(Sort::Plain, PLAIN);
     let headed = tally(Sort::Headed, HEADED);
     let likely = tally(Sort::Likely, LIKELY);
-    let mut out = BufWriter::new(rt.alloc(), io::writer(&rt))?;
-    write_table(&mut out, &plain, &headed, &likely)?;
-    out.flush()
+    let mut out = io::writer(&rt);
+    write_table(&mut out, &plain, &headed, &likely)
 }

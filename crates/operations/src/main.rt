@@ -6,7 +6,7 @@
 ghost use Rattle.std.specs.Prelude.{◌+◌, ◌<◌, ◌≤◌};
 
 use std::io;
-use std::io::{BufWriter, Read, Write};
+use std::io::{Read, Write};
 
 // How many lines there are: those of the 58 operations, of a number that names none, and of the five functions.
 const LINES: u8 = 64;
@@ -135,10 +135,9 @@ fn wide(x: u8) -> u64
 
 fn main(rt: HostRuntime) -> io::Result<()> {
     let mut input = [0u8; INPUT];
-    let mut out = BufWriter::new(rt.alloc(), io::writer(&rt))?;
+    let mut out = io::writer(&rt);
     match rt.reader().read_exact(&mut input) {
-        Ok(()) => print(&mut out, input[0], wide(input[1]) + BASE * wide(input[2]))?,
-        Err(_) => print_all(&mut out)?,
+        Ok(()) => print(&mut out, input[0], wide(input[1]) + BASE * wide(input[2])),
+        Err(_) => print_all(&mut out),
     }
-    out.flush()
 }

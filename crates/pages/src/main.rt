@@ -1,6 +1,8 @@
 // Plays the page files that its arguments name, one after another, and writes the text of each after its name.
 #![tactic(auto)]
 
+ghost use Rattle.std.specs.Prelude.{◌≤◌, length};
+
 use std::env::{Env, FillError};
 use std::fs::File;
 use std::io;
@@ -8,10 +10,25 @@ use std::io::Read;
 use std::rt::Files;
 
 // One byte more than the longest page file has, so that a longer one is seen as such.
-const FILE_BYTES: u64 = pagefile::LONGEST_FILE as u64 + 1;
+const FILE_BYTES: usize = pagefile::LONGEST_FILE + 1;
 
 // Room for any path.
 const NAME_BYTES: usize = 4096;
+
+// Reads until the buffer is full, the input ends or a read fails, and says how many bytes stand at its start.
+fn read_full(input: &mut impl Read, buffer: &mut [u8]) -> usize
+    ensures { result ≤ length buffer.new }
+{
+    let mut done = 0;
+    while done < buffer.len() {
+        match input.read(&mut buffer[done..]) {
+            Ok(0) => return done,
+            Ok(count) => done += count,
+            Err(_) => return done,
+        }
+    }
+    done
+}
 
 fn write(rt: &impl Print, text: &[u8]) -> io::Result<()> {
     rt.write_all(text)
@@ -24,23 +41,23 @@ fn write_heading(rt: &impl Print, name: &[u8]) -> io::Result<()> {
 }
 
 // The text of a page, from an open file.
-fn write_text<R: Read + Drop>(rt: &(impl Print + AllocGlobal), input: R) -> io::Result<()> {
-    let mut file = Vec::new(rt.alloc());
-    input.take(FILE_BYTES).read_to_end(&mut file)?;
+fn write_text(rt: &impl Print, input: &mut impl Read) -> io::Result<()> {
+    let mut file = [0u8; FILE_BYTES];
+    let n = read_full(input, &mut file);
     let mut text = printout::buffer();
-    let written = player::play(&file, &mut text);
+    let written = player::play(&file[..n], &mut text);
     write(rt, &text[0..written])
 }
 
 // What is written of a file that a text names.
-fn play_path(rt: &(impl Files + Print + AllocGlobal), path: &str) -> io::Result<()> {
+fn play_path(rt: &(impl Files + Print), path: &str) -> io::Result<()> {
     match File::open(rt, path) {
-        Ok(input) => write_text(rt, input),
+        Ok(mut input) => write_text(rt, &mut input),
         Err(_) => write(rt, b"this file cannot be opened\n"),
     }
 }
 
-fn play_named(rt: &(impl Files + Print + AllocGlobal), name: &[u8]) -> io::Result<()> {
+fn play_named(rt: &(impl Files + Print), name: &[u8]) -> io::Result<()> {
     write_heading(rt, name)?;
     match std::str::from_utf8(name) {
         Ok(path) => play_path(rt, path),
@@ -49,7 +66,7 @@ fn play_named(rt: &(impl Files + Print + AllocGlobal), name: &[u8]) -> io::Resul
 }
 
 // Says whether there is such an argument. One that has no room is played as a file without a name.
-fn play_argument(rt: &(impl Env + Files + Print + AllocGlobal), i: usize) -> io::Result<bool> {
+fn play_argument(rt: &(impl Env + Files + Print), i: usize) -> io::Result<bool> {
     let mut name = [0u8; NAME_BYTES];
     match rt.arg(i, &mut name) {
         Ok(length) => play_named(rt, &name[..length])?,

@@ -10,13 +10,12 @@ mod refusals;
 mod texts;
 
 use std::io;
-use std::io::{BufWriter, Write};
+use std::io::Write;
 
 fn main(rt: HostRuntime) -> io::Result<()> {
-    let mut out = BufWriter::new(rt.alloc(), io::writer(&rt))?;
+    let mut out = io::writer(&rt);
     blocks::all(&mut out)?;
     places::all(&mut out)?;
     refusals::all(&mut out)?;
-    limits::all(&mut out)?;
-    out.flush()
+    limits::all(&mut out)
 }
