@@ -2,8 +2,6 @@
 // meetings; loops; and then the block on standard input.
 #![tactic(auto)]
 
-ghost use Rattle.std.specs.Prelude.{◌≤◌, length};
-
 mod cases;
 mod floor_steps;
 mod floors;
@@ -26,24 +24,9 @@ const ROOM: usize = 4096;
 
 const MEMORY: usize = 256;
 
-// Reads until the buffer is full, the input ends or a read fails, and says how many bytes stand at its start.
-fn read_full(input: &mut impl Read, buffer: &mut [u8]) -> usize
-    ensures { result ≤ length buffer.new }
-{
-    let mut done = 0;
-    while done < buffer.len() {
-        match input.read(&mut buffer[done..]) {
-            Ok(0) => return done,
-            Ok(count) => done += count,
-            Err(_) => return done,
-        }
-    }
-    done
-}
-
 fn standard_input(input: &mut impl Read, out: &mut impl Write) -> io::Result<()> {
     let mut space = [0u8; ROOM];
-    let size = read_full(input, &mut space);
+    let size = inputs::read_full(input, &mut space);
     let mut memory = [0u8; MEMORY];
     texts::text(out, "standard input: ")?;
     cases::play(

@@ -1,30 +1,23 @@
-// The edges of reading and writing: codes that are cut short or refused, and records that have no bytes or no room.
+// The edges of reading: codes that are cut short or refused.
 use crate::siblings::SIBLING;
-use crate::{ADD, DEC, ESCAPE, FILL, ROOM};
-use codec::modes::REGISTER;
+use crate::{ADD, ESCAPE};
+use codec::Reading;
 use codec::refusals::{LONGEST_CODE, PREFIXED};
-use codec::{Instruction, Operand, Reading, Writing};
 use std::io;
 use std::io::Write;
 
 // The first bytes of MOV with register 0, and of JNZ.
-const MOV: u8 = 0xb8;
+pub(crate) const MOV: u8 = 0xb8;
 
-const JNZ: u8 = 0x75;
+pub(crate) const JNZ: u8 = 0x75;
 
-// A second byte with the usual operands; one with an immediate byte behind them; and one that is SFENCE's with this digit and rm 0 alone.
-const PADDB: u8 = 0xfc;
-
-const PSHUFW: u8 = 0x70;
-
-const OF_SFENCE: u8 = 0xae;
-
-const FENCE_DIGIT: u8 = 7;
+// A second byte that is SFENCE's with digit 7 and rm 0 alone.
+pub(crate) const OF_SFENCE: u8 = 0xae;
 
 // A suffix, and one that is not listed.
-const PFMAX: u8 = 0xa4;
+pub(crate) const PFMAX: u8 = 0xa4;
 
-const PFMUL: u8 = 0xb4;
+pub(crate) const PFMUL: u8 = 0xb4;
 
 // A line of a name and a number.
 pub(crate) fn print(out: &mut impl Write, name: &str, n: u64) -> io::Result<()> {
@@ -37,66 +30,6 @@ fn print_reading(out: &mut impl Write, name: &str, code: &[u8]) -> io::Result<()
         Reading::Read(_, _) => print(out, name, 0),
         Reading::Refused(refusal) => print(out, name, refusal as u64),
     }
-}
-
-// The refusal of writing an instruction, or 0.
-fn print_written(
-    out: &mut impl Write,
-    name: &str,
-    instruction: Instruction,
-    buffer: &mut [u8],
-) -> io::Result<()> {
-    match codec::write(instruction, buffer) {
-        Writing::Wrote(_) => print(out, name, 0),
-        Writing::Refused(refusal) => print(out, name, refusal as u64),
-    }
-}
-
-// An instruction with neither an SIB byte nor a displacement.
-fn instruction_of(first: u8, second: u8, mode: u8, reg: u8, rm: u8, immediate: u32) -> Instruction {
-    Instruction {
-        first: first,
-        second: second,
-        operand: Operand {
-            mode: mode,
-            reg: reg,
-            rm: rm,
-            scale: 0,
-            index: 0,
-            base: 0,
-            displacement: 0,
-        },
-        immediate: immediate,
-    }
-}
-
-// The refusal of one between registers.
-fn print_writing(
-    out: &mut impl Write,
-    name: &str,
-    second: u8,
-    reg: u8,
-    rm: u8,
-    immediate: u32,
-    buffer: &mut [u8],
-) -> io::Result<()> {
-    let instruction = instruction_of(ESCAPE, second, REGISTER, reg, rm, immediate);
-    print_written(out, name, instruction, buffer)
-}
-
-// That of one of loops, with this mod and rm.
-fn print_loop(
-    out: &mut impl Write,
-    name: &str,
-    first: u8,
-    second: u8,
-    mode: u8,
-    rm: u8,
-    immediate: u32,
-    buffer: &mut [u8],
-) -> io::Result<()> {
-    let instruction = instruction_of(first, second, mode, 0, rm, immediate);
-    print_written(out, name, instruction, buffer)
 }
 
 // A first byte that is refused as a prefix, on its own.
@@ -227,170 +160,7 @@ fn print_lengths(out: &mut impl Write) -> io::Result<()> {
     print_reading(out, "4097 bytes is", &[ESCAPE; LONGEST_CODE + 1])
 }
 
-fn print_writings(out: &mut impl Write) -> io::Result<()> {
-    let mut buffer = [FILL; ROOM];
-    print_writing(out, "register 8 is", PADDB, 0, 8, 0, &mut buffer)?;
-    print_writing(
-        out,
-        "a buffer of 2 bytes is",
-        PADDB,
-        0,
-        7,
-        0,
-        &mut buffer[0..2],
-    )
-}
-
-fn print_immediates(out: &mut impl Write) -> io::Result<()> {
-    let mut buffer = [FILL; ROOM];
-    print_writing(
-        out,
-        "PADDB with an immediate is",
-        PADDB,
-        0,
-        7,
-        1,
-        &mut buffer,
-    )?;
-    print_writing(out, "PSHUFW with 255 is", PSHUFW, 0, 7, 255, &mut buffer)?;
-    print_writing(out, "PSHUFW with 256 is", PSHUFW, 0, 7, 256, &mut buffer)?;
-    print_writing(
-        out,
-        "PSHUFW in 3 bytes is",
-        PSHUFW,
-        0,
-        7,
-        0,
-        &mut buffer[0..3],
-    )
-}
-
-fn print_written_fences(out: &mut impl Write) -> io::Result<()> {
-    let mut buffer = [FILL; ROOM];
-    print_writing(out, "SFENCE is", OF_SFENCE, FENCE_DIGIT, 0, 0, &mut buffer)?;
-    print_writing(
-        out,
-        "SFENCE with rm 1 is",
-        OF_SFENCE,
-        FENCE_DIGIT,
-        1,
-        0,
-        &mut buffer,
-    )?;
-    print_writing(
-        out,
-        "SFENCE with digit 5 is",
-        OF_SFENCE,
-        5,
-        0,
-        0,
-        &mut buffer,
-    )
-}
-
-fn print_written_siblings(out: &mut impl Write) -> io::Result<()> {
-    let mut buffer = [FILL; ROOM];
-    print_writing(out, "PFMAX is", SIBLING, 0, 7, PFMAX as u32, &mut buffer)?;
-    print_writing(
-        out,
-        "0F 0F with B4 is",
-        SIBLING,
-        0,
-        7,
-        PFMUL as u32,
-        &mut buffer,
-    )?;
-    print_writing(out, "0F 0F with 1A4 is", SIBLING, 0, 7, 0x1a4, &mut buffer)?;
-    print_writing(
-        out,
-        "PFMAX with register 8 is",
-        SIBLING,
-        0,
-        8,
-        PFMAX as u32,
-        &mut buffer,
-    )?;
-    print_writing(
-        out,
-        "PFMAX in 3 bytes is",
-        SIBLING,
-        0,
-        7,
-        PFMAX as u32,
-        &mut buffer[0..3],
-    )
-}
-
-fn print_written_loops(out: &mut impl Write) -> io::Result<()> {
-    let mut buffer = [FILL; ROOM];
-    print_loop(
-        out,
-        "MOV with FFFFFFFF is",
-        MOV,
-        0,
-        0,
-        0,
-        0xffffffff,
-        &mut buffer,
-    )?;
-    print_loop(out, "JNZ with 256 is", JNZ, 0, 0, 0, 256, &mut buffer)?;
-    print_loop(out, "ADD is", ADD, 0, REGISTER, 0, 255, &mut buffer)?;
-    print_loop(out, "ADD to memory is", ADD, 0, 0, 0, 255, &mut buffer)?;
-    print_loop(
-        out,
-        "ADD with register 8 is",
-        ADD,
-        0,
-        REGISTER,
-        8,
-        255,
-        &mut buffer,
-    )
-}
-
-fn print_written_decrements(out: &mut impl Write) -> io::Result<()> {
-    let mut buffer = [FILL; ROOM];
-    print_loop(
-        out,
-        "DEC with a second byte is",
-        DEC,
-        1,
-        0,
-        0,
-        0,
-        &mut buffer,
-    )?;
-    print_loop(
-        out,
-        "DEC with an operand is",
-        DEC,
-        0,
-        REGISTER,
-        0,
-        0,
-        &mut buffer,
-    )?;
-    print_loop(
-        out,
-        "DEC with an immediate is",
-        DEC,
-        0,
-        0,
-        0,
-        1,
-        &mut buffer,
-    )
-}
-
-fn print_short_loops(out: &mut impl Write) -> io::Result<()> {
-    let mut four = [FILL; 4];
-    let mut one = [FILL; 1];
-    print_loop(out, "MOV in 4 bytes is", MOV, 0, 0, 0, 0, &mut four)?;
-    print_loop(out, "DEC in 1 byte is", DEC, 0, 0, 0, 0, &mut one)?;
-    print_loop(out, "DEC in no byte is", DEC, 0, 0, 0, 0, &mut one[0..0])
-}
-
-// All of them.
+// All of reading.
 pub(crate) fn print_edges(out: &mut impl Write) -> io::Result<()> {
     print_prefixes(out)?;
     print_suffixes(out)?;
@@ -404,12 +174,5 @@ pub(crate) fn print_edges(out: &mut impl Write) -> io::Result<()> {
     print_escaped(out)?;
     print_siblings(out)?;
     print_displacements(out)?;
-    print_lengths(out)?;
-    print_writings(out)?;
-    print_immediates(out)?;
-    print_written_fences(out)?;
-    print_written_siblings(out)?;
-    print_written_loops(out)?;
-    print_written_decrements(out)?;
-    print_short_loops(out)
+    print_lengths(out)
 }

@@ -4,6 +4,7 @@
 
 mod edges;
 mod siblings;
+mod writings;
 
 use codec::modes::SIB;
 use codec::{Instruction, Reading, Writing};
@@ -211,5 +212,6 @@ fn main(rt: HostRuntime) -> io::Result<()> {
     let siblings = siblings::try_siblings();
     print_tally(&mut out, "encodings of siblings", siblings)?;
     edges::print(&mut out, "suffixes not listed", siblings.unlisted)?;
-    edges::print_edges(&mut out)
+    edges::print_edges(&mut out)?;
+    writings::print_edges(&mut out)
 }

@@ -1,5 +1,5 @@
 -- The text of what was read is that of the file in the input: all of the file was read, or it is too long either way.
-use Rattle.std.specs.Prelude.{◌≡◌, refl, ◌+◌, ◌≤◌, ◌<◌, List, [], ◌++◌, ℕ, Bool, true, false, ltb, length, take, Option, None, Some}
+use Rattle.std.specs.Prelude.{◌≡◌, ◌↔◌, refl, ◌+◌, ◌≤◌, ◌<◌, List, [], ◌++◌, ℕ, Bool, true, false, ltb, length, take, Option, None, Some}
 use Rattle.std.specs.Io.KnownBytes.{Consumes, IsAtEnd, Appends}
 use Rattle.basis.proofs.Names.{ap, ◌∙◌, sym, subst, arith, append-nil, length-append, length-take-le, lt-leb, ltb-true, ltb-false}
 use Rattle.pagefile.specs.Parsing.{well_formed, page_of, malformed}
@@ -29,3 +29,7 @@ prints_page None rest old new file n room within read text = tt
 prints_page (Some whole) None old new file n room within read text = absurd read.0
 prints_page (Some whole) (Some left) old new file n room within read text =
     subst (Appends old new) (read_alike whole left file n read.0 within room read.1) text
+
+-- of a file in the input, the output has grown by its text, exactly
+pub printed_exactly : (file old new : List ℕ) → PrintsPage (Some file) (Some old) (Some new) ↔ (new ≡ old ++ page_text file)
+printed_exactly file old new = (λ h. h, λ h. h)

@@ -1,8 +1,6 @@
 // Plays the page files that its arguments name, one after another, and writes the text of each after its name.
 #![tactic(auto)]
 
-ghost use Rattle.std.specs.Prelude.{◌≤◌, length};
-
 use std::env::{Env, FillError};
 use std::fs::File;
 use std::io;
@@ -14,21 +12,6 @@ const FILE_BYTES: usize = pagefile::LONGEST_FILE + 1;
 
 // Room for any path.
 const NAME_BYTES: usize = 4096;
-
-// Reads until the buffer is full, the input ends or a read fails, and says how many bytes stand at its start.
-fn read_full(input: &mut impl Read, buffer: &mut [u8]) -> usize
-    ensures { result ≤ length buffer.new }
-{
-    let mut done = 0;
-    while done < buffer.len() {
-        match input.read(&mut buffer[done..]) {
-            Ok(0) => return done,
-            Ok(count) => done += count,
-            Err(_) => return done,
-        }
-    }
-    done
-}
 
 fn write(rt: &impl Print, text: &[u8]) -> io::Result<()> {
     rt.write_all(text)
@@ -43,7 +26,7 @@ fn write_heading(rt: &impl Print, name: &[u8]) -> io::Result<()> {
 // The text of a page, from an open file.
 fn write_text(rt: &impl Print, input: &mut impl Read) -> io::Result<()> {
     let mut file = [0u8; FILE_BYTES];
-    let n = read_full(input, &mut file);
+    let n = inputs::read_full(input, &mut file);
     let mut text = printout::buffer();
     let written = player::play(&file[..n], &mut text);
     write(rt, &text[0..written])

@@ -2,31 +2,14 @@
 // page program prints of it.
 #![tactic(auto)]
 
-ghost use Rattle.std.specs.Prelude.{◌≤◌, length};
-
 use std::io;
-use std::io::{Read, Write};
+use std::io::Write;
 
 // How often the page is played.
 const ROUNDS: u32 = 20_000;
 
 // One byte more than the longest page file has, so that a longer one is seen as such.
 const FILE_BYTES: usize = pagefile::LONGEST_FILE + 1;
-
-// Reads until the buffer is full, the input ends or a read fails, and says how many bytes stand at its start.
-fn read_full(input: &mut impl Read, buffer: &mut [u8]) -> usize
-    ensures { result ≤ length buffer.new }
-{
-    let mut done = 0;
-    while done < buffer.len() {
-        match input.read(&mut buffer[done..]) {
-            Ok(0) => return done,
-            Ok(count) => done += count,
-            Err(_) => return done,
-        }
-    }
-    done
-}
 
 // All rounds but the last.
 fn play_before(file: &[u8], text: &mut [u8]) {
@@ -44,6 +27,6 @@ fn print(output: &mut impl Write, file: &[u8]) -> io::Result<()> {
 
 fn main(rt: HostRuntime) -> io::Result<()> {
     let mut file = [0u8; FILE_BYTES];
-    let n = read_full(&mut rt.stdin(), &mut file);
+    let n = inputs::read_full(&mut rt.stdin(), &mut file);
     print(&mut rt.stdout(), &file[..n])
 }

@@ -1,6 +1,6 @@
 -- A turn leaves what was read so far at the buffer's start.
 use Rattle.basis.proofs.Names.{rules}
-use Rattle.page.proofs.Readings.{read_more}
+use Rattle.inputs.proofs.Readings.{read_more}
 use Rattle.page.proofs.read.Goals as goal
 
 pub loop-n-preserved : goal.loop-n-preserved

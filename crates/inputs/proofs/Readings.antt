@@ -1,16 +1,10 @@
 -- What several reads put into a buffer, one behind the other, is what they took from the input.
-use Rattle.std.specs.Prelude.{◌≡◌, ◌≤◌, ◌+◌, List, ◌++◌, ℕ, length, take, Option, None, Some}
+use Rattle.std.specs.Prelude.{◌≡◌, ◌≤◌, ◌+◌, List, ◌++◌, ℕ, length, take, Option}
 use Rattle.std.specs.Io.KnownBytes.{Consumes}
+use Rattle.std.proofs.KnownBytes.{Consumes-trans}
 use borrow.Rule.Slice.PartMut.{put_mid, post_of}
 use Rattle.std.proofs.Math.Seq.{take-append-add}
-use Rattle.basis.proofs.Names.{ap, ◌∙◌, sym, subst, append_assoc, length-take-le, take-append-le}
-
--- two reads take what the one and the other take
-consumes_both : (a b c : Option (List ℕ)) (first second : List ℕ) → Consumes a b first → Consumes b c second → Consumes a c (first ++ second)
-consumes_both None b c first second p q = tt
-consumes_both (Some x) None c first second p q = absurd p
-consumes_both (Some x) (Some y) None first second p q = absurd q
-consumes_both (Some x) (Some y) (Some z) first second p q = p ∙ ap (λ (l : List ℕ). first ++ l) q ∙ sym (append_assoc first second z)
+use Rattle.basis.proofs.Names.{ap, ◌∙◌, sym, subst, length-take-le, take-append-le}
 
 -- the start of a buffer of which the part behind `n` was read into
 start_of : (n k more : ℕ) (old read : List ℕ) → n ≤ length old → more ≤ length read → take (n + more) (put_mid n k old read) ≡ take n old ++ take more read
@@ -23,4 +17,4 @@ start_of n k more old read within fits =
 pub read_more : (a b c : Option (List ℕ)) (n k more : ℕ) (old read : List ℕ) → n ≤ length old → more ≤ length read
     → Consumes a b (take n old) → Consumes b c (take more read) → Consumes a c (take (n + more) (put_mid n k old read))
 read_more a b c n k more old read within fits p q =
-    subst (Consumes a c) (sym (start_of n k more old read within fits)) (consumes_both a b c (take n old) (take more read) p q)
+    subst (Consumes a c) (sym (start_of n k more old read within fits)) (Consumes-trans a b c (take n old) (take more read) p q)

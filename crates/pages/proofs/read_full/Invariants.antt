@@ -1,9 +1,0 @@
--- `read_full` ends: what is not yet read falls, and stays within the buffer.
-use Rattle.std.specs.Prelude.{◌-◌, ◌≤◌, length}
-use Rattle.pages.proofs.read_full.Given as goal
-
-abbrev pub invariant-loop-done : goal.invariant-loop-done
-invariant-loop-done g l = l.done ≤ length l.buffer
-
-abbrev pub decreases-loop-done : goal.decreases-loop-done
-decreases-loop-done g l = length l.initial.buffer - l.done
