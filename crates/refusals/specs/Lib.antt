@@ -1,0 +1,2 @@
+-- The refusals by their numbers.
+pub mod Numbers
