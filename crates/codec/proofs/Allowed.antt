@@ -1,15 +1,17 @@
 -- Any two answers that a public contract allows at one input are equal, and so is what they leave in a lent buffer: each contract is one equation,
 -- and the paper's answers of different cases differ.
-use Rattle.std.specs.Prelude.{◌≡◌, List, ℕ}
-use Rattle.basis.proofs.Names.{sym, ◌∙◌}
+use Rattle.std.specs.Prelude.{◌≡◌, List, ℕ, Result, Ok, Err}
+use Rattle.basis.proofs.Names.{sym, ap, ◌∙◌}
 use contract.Lifetimes.{Lfts}
 use borrow.Fn.Kinds.{Dens, res_t, ended_of}
 use denote.Triple.Clauses.{AtExit}
+use Rattle.refusals.specs.declared.Refusal.{Refusal}
+use Rattle.refusals.specs.Numbers.{number_of}
+use Rattle.refusals.proofs.Distinct.{distinct}
 use Rattle.codec.specs.Answers.{paper_of_reading, paper_of_writing}
-use Rattle.codec.specs.declared.Reading.{Reading}
-use Rattle.codec.specs.declared.Reading.TheVariants as reading
-use Rattle.codec.specs.declared.Writing.{Writing}
-use Rattle.codec.specs.declared.Writing.TheVariants as writing
+use Rattle.codec.specs.Finding.{paper_of_found}
+use Rattle.codec.specs.declared.Instruction.{Instruction}
+use Rattle.codec.specs.declared.Found.{Found}
 use Rattle.codec.proofs.fields.is_suffix.Reads as is_suffix_reads
 use Rattle.codec.proofs.fields.is_suffix.Kinds as is_suffix_kinds
 use Rattle.codec.proofs.table.Reads as table_reads
@@ -21,17 +23,27 @@ use Rattle.codec.proofs.read.Kinds as read_kinds
 use Rattle.codec.proofs.write.Reads as write_reads
 use Rattle.codec.proofs.write.Kinds as write_kinds
 
-answer_one : (x y : Reading) → paper_of_reading x ≡ paper_of_reading y → x ≡ y
-answer_one (reading.Read i m) (reading.Read j n) e = cc
-answer_one (reading.Read i m) (reading.Refused n) e = cc
-answer_one (reading.Refused m) (reading.Read j n) e = cc
-answer_one (reading.Refused m) (reading.Refused n) e = cc
+-- one number is one refusal's
+refusal_one : {A : Type 0} (r s : Refusal) → number_of r ≡ number_of s → ◌≡◌ {A = Result A Refusal} (Err r) (Err s)
+refusal_one r s e = ap Err (distinct r s e)
 
-written_one : (x y : Writing) (a b : List ℕ) → paper_of_writing x a ≡ paper_of_writing y b → (x ≡ y) × (a ≡ b)
-written_one (writing.Wrote m) (writing.Wrote n) a b e = (cc, cc)
-written_one (writing.Wrote m) (writing.Refused n) a b e = (cc, cc)
-written_one (writing.Refused m) (writing.Wrote n) a b e = (cc, cc)
-written_one (writing.Refused m) (writing.Refused n) a b e = (cc, cc)
+reading_one : (x y : Result (Instruction × ℕ) Refusal) → paper_of_reading x ≡ paper_of_reading y → x ≡ y
+reading_one (Ok (i, m)) (Ok (j, n)) e = cc
+reading_one (Ok (i, m)) (Err s) e = cc
+reading_one (Err r) (Ok (j, n)) e = cc
+reading_one (Err r) (Err s) e = refusal_one r s (cc)
+
+found_one : (x y : Result Found Refusal) → paper_of_found x ≡ paper_of_found y → x ≡ y
+found_one (Ok f) (Ok g) e = let is : f ≡ g = cc in ap Ok is
+found_one (Ok f) (Err s) e = cc
+found_one (Err r) (Ok g) e = cc
+found_one (Err r) (Err s) e = refusal_one r s (cc)
+
+written_one : (x y : Result ℕ Refusal) (a b : List ℕ) → paper_of_writing x a ≡ paper_of_writing y b → (x ≡ y) × (a ≡ b)
+written_one (Ok m) (Ok n) a b e = (cc, cc)
+written_one (Ok m) (Err s) a b e = (cc, cc)
+written_one (Err r) (Ok n) a b e = (cc, cc)
+written_one (Err r) (Err s) a b e = (refusal_one r s (cc), cc)
 
 pub is_suffix_one : (κs : Lfts 0) (a : Dens κs is_suffix_kinds.ps) (r₁ r₂ : (res_t is_suffix_kinds.r κs).Denot)
     (s₁ s₂ : AtExit (ended_of 0 is_suffix_kinds.ps is_suffix_kinds.r) κs)
@@ -46,12 +58,12 @@ table_one κs a r₁ r₂ s₁ s₂ p q = p ∙ sym q
 pub read_from_one : (κs : Lfts 2) (a : Dens κs read_from_kinds.ps) (r₁ r₂ : (res_t read_from_kinds.r κs).Denot)
     (s₁ s₂ : AtExit (ended_of 2 read_from_kinds.ps read_from_kinds.r) κs)
     → read_from_reads.Post κs a r₁ s₁ → read_from_reads.Post κs a r₂ s₂ → r₁ ≡ r₂
-read_from_one κs a r₁ r₂ s₁ s₂ p q = p ∙ sym q
+read_from_one κs a r₁ r₂ s₁ s₂ p q = found_one r₁ r₂ (p ∙ sym q)
 
 pub read_one : (κs : Lfts 1) (a : Dens κs read_kinds.ps) (r₁ r₂ : (res_t read_kinds.r κs).Denot)
     (s₁ s₂ : AtExit (ended_of 1 read_kinds.ps read_kinds.r) κs)
     → read_reads.Post κs a r₁ s₁ → read_reads.Post κs a r₂ s₂ → r₁ ≡ r₂
-read_one κs a r₁ r₂ s₁ s₂ p q = answer_one r₁ r₂ (p ∙ sym q)
+read_one κs a r₁ r₂ s₁ s₂ p q = reading_one r₁ r₂ (p ∙ sym q)
 
 pub write_one : (κs : Lfts 1) (a : Dens κs write_kinds.ps) (r₁ r₂ : (res_t write_kinds.r κs).Denot)
     (s₁ s₂ : AtExit (ended_of 1 write_kinds.ps write_kinds.r) κs)

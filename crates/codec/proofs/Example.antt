@@ -1,9 +1,9 @@
 -- What the writer leaves, computed: in a buffer that is longer than the instruction, as long, and shorter; and of a record without bytes. What the
 -- reader and the writer give of loops, and of 3DNow's suffixes.
-use Rattle.std.specs.Prelude.{◌≡◌, refl, [], ◌∷◌, ℕ}
+use Rattle.std.specs.Prelude.{◌≡◌, refl, [], ◌∷◌, ℕ, Ok, Err}
 use Rattle.codec.specs.declared.Instruction.{Instruction}
 use Rattle.codec.specs.declared.Operand.{Operand}
-use Rattle.codec.specs.declared.Writing.TheVariants.{Wrote, Refused}
+use Rattle.refusals.specs.declared.Refusal.TheVariants.{NoBytes}
 use Rattle.codec.specs.Answers.{good, refused, wrote, refused_with, paper_of_writing}
 use Rattle.codec.specs.Forms.{allows}
 use Rattle.codec.specs.Opcodes.{form_at, form_of_first}
@@ -35,7 +35,7 @@ pub record WrittenExamples : Type 0 where
   -- register 8: 11, before 12
   pub no_bytes : write_to (load 8) (1 ∷ []) ≡ refused_with 11 (1 ∷ [])
   -- the paper's answer for what is handed back: the number, or the length
-  pub paper : (paper_of_writing (Refused 11) (1 ∷ []) ≡ refused_with 11 (1 ∷ [])) × (paper_of_writing (Wrote 4) (1 ∷ []) ≡ wrote 4 (1 ∷ []))
+  pub paper : (paper_of_writing (Err NoBytes) (1 ∷ []) ≡ refused_with 11 (1 ∷ [])) × (paper_of_writing (Ok 4) (1 ∷ []) ≡ wrote 4 (1 ∷ []))
 
 pub written : WrittenExamples
 unfolding allows form_at has_sib displacement_size sib_fits operand_fits operand_is_zero parts_fit opcode_fits has_bytes sib_bytes displacement_bytes operand_bytes parts_bytes bytes_of write_to

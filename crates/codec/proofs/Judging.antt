@@ -1,6 +1,6 @@
 -- An instruction with a suffix is read as one with an immediate, and then its suffix is looked at. Rules for the functions that do so.
-use Rattle.std.specs.Prelude.{ℕ, ◌+◌, ◌≡◌, refl, Bool, true, false, cond, List, [], ◌∷◌, eqb, leb, length, take, drop}
-use Rattle.basis.proofs.Names.{sym, ap, ◌∙◌, arith, rules, eq-eqb, ne_eqb, eqb-false}
+use Rattle.std.specs.Prelude.{ℕ, ◌+◌, ◌≡◌, refl, Bool, true, false, cond, List, [], ◌∷◌, eqb, leb, length, take, drop, Result, Ok, Err}
+use Rattle.basis.proofs.Names.{sym, ap, ◌∙◌, arith, rules, eq-eqb, ne_eqb, eqb-true, eqb-false}
 use Rattle.words.specs.Number.{number}
 use Rattle.codec.specs.Refusals.{code_ends, not_listed}
 use Rattle.codec.specs.Forms.{mmreg1←mmreg2/mem64+imm8, mmreg1·mmreg2/mem64+suffix, is_among, allows, accepts}
@@ -8,14 +8,12 @@ use Rattle.codec.specs.Table.{form_of}
 use Rattle.codec.specs.Operands.{upper, lower, has_sib}
 use Rattle.codec.specs.Reader.{Reader, whole, refuse, byte, field, reads}
 use Rattle.codec.specs.Reads.{immediate_reader, displacement_reader, sib_reader, modrm_reader}
-use Rattle.codec.specs.Finding.{refused_as, found}
+use Rattle.codec.specs.Finding.{found}
 use Rattle.codec.specs.inner.Entries.{read_as, judged_found, found_after}
 use Rattle.codec.specs.declared.Instruction.{Instruction}
 use Rattle.codec.specs.declared.Found.{Found}
 use Rattle.codec.specs.declared.reader.Opcode.{Opcode}
 use Rattle.codec.specs.Answers.{Decoded, good, refused}
-use Rattle.codec.proofs.Given.{Given, Refusal, modrm_gives}
-use Rattle.codec.proofs.Readers.{Holds, every}
 
 -- a suffix, and a reader of what has one, with the suffix looked at last
 
@@ -67,25 +65,21 @@ module _ (first second : ℕ) where
   modrm_judged = λ i. byte (λ modrm. sib_judged modrm i)
 
 -- what is found so
-found_judged : (entry : ℕ) (x : Decoded) (first second : ℕ) → Holds (Given first second) Refusal x → judged_found (found entry x) ≡ found entry (judgement x)
-found_judged entry (good i n) first second h = by (is_listed i)
+found_judged : (entry : ℕ) (x : Decoded) → judged_found (found entry x) ≡ found entry (judgement x)
+found_judged entry (good i n) = by (is_listed i)
   where
-    by : (t : Bool) → cond t (found entry (good i n)) (refused_as not_listed) ≡ found entry (cond t (good i n) (refused not_listed))
+    by : (t : Bool) → cond t (found entry (good i n)) (Err not_listed) ≡ found entry (cond t (good i n) (refused not_listed))
     by true = refl
     by false = refl
-found_judged entry (refused n) first second h = simp (ne_eqb n 0 (λ z. omega (arith, h.0)))
+found_judged entry (refused n) = refl
 
 -- from what the code has found
-module _ (x : Found) where
-  pub judged_refused : (x.refusal ≡ 0 → ⊥) → x ≡ judged_found x
-  judged_refused e = simp (ne_eqb x.refusal 0 e)
+module _ (x : Found) (t : Bool) (test : t ≡ is_among x.instruction.immediate mmreg1·mmreg2/mem64+suffix.suffixes) where
+  judged_listed : t ≡ true → Ok x ≡ judged_found (Ok x)
+  judged_listed e = simp (← test, e)
 
-  module _ (r : Found) (passed : x.refusal ≡ 0) (t : Bool) (test : t ≡ is_among x.instruction.immediate mmreg1·mmreg2/mem64+suffix.suffixes) where
-    pub judged_listed : t ≡ true → x ≡ judged_found x
-    judged_listed e = simp (eq-eqb x.refusal 0 passed, ← test, e)
-
-    pub judged_other : t ≡ false → r ≡ refused_as not_listed → r ≡ judged_found x
-    judged_other e h = simp (eq-eqb x.refusal 0 passed, ← test, e) h
+  judged_other : t ≡ false → Err not_listed ≡ judged_found (Ok x)
+  judged_other e = simp (← test, e)
 
 module _ (opcode : Opcode) (r : Opcode) where
   pub read-suffixed : opcode.form ≡ 16 → r ≡ record { first = opcode.first; second = opcode.second; entry = opcode.entry; form = 5 } → r ≡ read_as opcode
@@ -102,20 +96,35 @@ module _ (opcode : Opcode) (r : Opcode) where
         by true t e = omega arith
         by false t e = eqb-false opcode.form 16 t e
 
-    module _ (code : List ℕ) (at : ℕ) (x : Found) (f : x ≡ found_after r modrm_reader code at) where
+    module _ (code : List ℕ) (at : ℕ) (x : Result Found ℕ) (f : x ≡ found_after r modrm_reader code at) where
       pub operands_plain : (opcode.form ≡ 16 → ⊥) → x ≡ found_after opcode modrm_reader code at
       operands_plain e = f ∙ ap (λ (o : Opcode). found_after o modrm_reader code at) (is ∙ sym (read_other e))
 
-      pub operands_suffixed : (y : Found) → opcode.form ≡ 16 → y ≡ judged_found x → y ≡ found_after opcode modrm_reader code at
+      operands_suffixed : (y : Result Found ℕ) → opcode.form ≡ 16 → y ≡ judged_found x → y ≡ found_after opcode modrm_reader code at
       operands_suffixed y e h =
           let first = opcode.first in
           let second = opcode.second in
           let read = reads (modrm_reader mmreg1←mmreg2/mem64+imm8 first second) at (drop at code) in
           let shuffled : read_as opcode ≡ record { first = first; second = second; entry = opcode.entry; form = 5 } = simp (eq-eqb opcode.form 16 e) in
           let other : x ≡ found opcode.entry read = f ∙ ap (λ (o : Opcode). found_after o modrm_reader code at) (is ∙ shuffled) in
-          h ∙ ap judged_found other
-          ∙ found_judged opcode.entry read first second (every (Given first second) Refusal (modrm_reader mmreg1←mmreg2/mem64+imm8 first second) (modrm_gives mmreg1←mmreg2/mem64+imm8 first second) at (drop at code))
+          h ∙ ap judged_found other ∙ found_judged opcode.entry read
           ∙ ap (found opcode.entry) (sym (ap (λ (z : Reader). reads z at (drop at code)) (modrm_judged first second) ∙ reads_judged (modrm_reader mmreg1←mmreg2/mem64+imm8 first second) at (drop at code)))
           ∙ ap (λ (k : ℕ). found opcode.entry (reads (modrm_reader (form_of k) first second) at (drop at code))) (sym e)
 
-pub ruleset judging = (rules, judged_refused, judged_listed, judged_other, read-suffixed, read_other, read_plain, operands_plain, operands_suffixed)
+      -- a refusal before the suffix
+      pub operands_refused : (n : ℕ) → x ≡ Err n → Err n ≡ found_after opcode modrm_reader code at
+      operands_refused n h = sym h ∙ by (eqb opcode.form 16) refl
+        where
+          by : (t : Bool) → eqb opcode.form 16 ≡ t → x ≡ found_after opcode modrm_reader code at
+          by true t = operands_suffixed x (eqb-true opcode.form 16 t) (h ∙ ap judged_found (sym h))
+          by false t = operands_plain (eqb-false opcode.form 16 t)
+
+-- a record whose suffix is listed, if its form has one
+module _ (opcode r : Opcode) (is : r ≡ read_as opcode) (code : List ℕ) (at : ℕ) (x : Found) (f : Ok x ≡ found_after r modrm_reader code at) where
+  pub operands_listed : opcode.form ≡ 16 → is_among x.instruction.immediate mmreg1·mmreg2/mem64+suffix.suffixes ≡ true → Ok x ≡ found_after opcode modrm_reader code at
+  operands_listed e h = operands_suffixed opcode r is code at (Ok x) f (Ok x) e (judged_listed x true (sym h) refl)
+
+  pub operands_other : opcode.form ≡ 16 → is_among x.instruction.immediate mmreg1·mmreg2/mem64+suffix.suffixes ≡ false → Err not_listed ≡ found_after opcode modrm_reader code at
+  operands_other e h = operands_suffixed opcode r is code at (Ok x) f (Err not_listed) e (judged_other x false (sym h) refl)
+
+pub ruleset judging = (rules, read-suffixed, read_other, read_plain, operands_plain, operands_listed, operands_other, operands_refused)

@@ -1,16 +1,15 @@
 -- Reading with our table: what is found at a position, less that position, is the defined reading. Rules for `read`.
-use Rattle.std.specs.Prelude.{ℕ, ◌+◌, ◌-◌, ◌≤◌, ◌<◌, ◌≡◌, refl, Bool, cond, List, length, drop}
+use Rattle.std.specs.Prelude.{ℕ, ◌+◌, ◌-◌, ◌≤◌, ◌<◌, ◌≡◌, refl, Bool, cond, List, length, drop, Result, Ok, Err}
 use Rattle.basis.proofs.Names.{sym, ap, ◌∙◌, arith, add-zero, rules, lt-ltb, le-ltb}
 use Rattle.codec.specs.Refusals.{code_too_long}
 use Rattle.codec.specs.Opcodes.{form_at}
 use Rattle.codec.specs.Table.{opcode_table}
 use Rattle.codec.specs.Reader.{Reader, reads}
 use Rattle.codec.specs.Reads.{instruction_reader, longest_code, read_part, read_at}
-use Rattle.codec.specs.Finding.{found_in, find_with}
+use Rattle.codec.specs.Finding.{entry_for, found_in, find_with}
 use Rattle.codec.specs.declared.Found.{Found}
 use Rattle.codec.specs.Answers.{Decoded, good, refused}
-use Rattle.codec.proofs.Readers.{Holds, moved, reads_moved}
-use Rattle.codec.proofs.Given.{Known, Refusal, reads_known}
+use Rattle.codec.proofs.Readers.{moved, reads_moved}
 use Rattle.codec.proofs.Entries.{same_reader}
 
 module _ (code : List ℕ) (at : ℕ) where
@@ -32,33 +31,34 @@ module _ (code : List ℕ) (at : ℕ) where
   read_fits h = ap (λ (t : Bool). cond t (refused code_too_long) (read_part (drop at code))) (sym (le-ltb longest_code (length code) h))
 
   -- from what was found to the reading z
-  module _ (x : Found) where
-    found_good : (z : Decoded) → x ≡ found_in opcode_table (moved at z) → Holds (Known form_at) Refusal z → x.refusal ≡ 0
-        → (at ≤ x.next) × (good x.instruction (x.next - at) ≡ z)
-    found_good (good i n) e h r =
-        let p : x.next ≡ at + n = ap (λ (y : Found). y.next) e in
-        let q : x.next - at ≡ n = omega arith in
-        let j : x.instruction ≡ i = ap (λ (y : Found). y.instruction) e in
-        (omega arith, cc)
-    found_good (refused n) e h r =
-        let p : x.refusal ≡ n = ap (λ (y : Found). y.refusal) e in
-        absurd (omega (arith, h.0))
+  found_good : (x : Found) (z : Decoded) → Ok x ≡ found_in opcode_table (moved at z) → (at ≤ x.next) × (good x.instruction (x.next - at) ≡ z)
+  found_good x (good i n) e =
+      let is : x ≡ record { entry = entry_for opcode_table i; instruction = i; next = at + n } = cc in
+      let p : x.next ≡ at + n = ap (λ (y : Found). y.next) is in
+      let q : x.next - at ≡ n = omega arith in
+      let j : x.instruction ≡ i = ap (λ (y : Found). y.instruction) is in
+      (omega arith, cc)
+  found_good x (refused n) e = absurd (cc)
 
-    found-refused : (z : Decoded) → x ≡ found_in opcode_table (moved at z) → (x.refusal ≡ 0 → ⊥) → refused x.refusal ≡ z
-    found-refused (good i n) e r = absurd (r (ap (λ (y : Found). y.refusal) e))
-    found-refused (refused n) e r = ap (λ (y : Found). refused y.refusal) e
+  found-refused : (n : ℕ) (z : Decoded) → Err n ≡ found_in opcode_table (moved at z) → refused n ≡ z
+  found-refused n (good i k) e = absurd (cc)
+  found-refused n (refused k) e = cc
 
-    module _ (table : List ℕ) (t : table ≡ opcode_table) (e : x ≡ find_with table code at) where
-      pub found_ours : (z : Decoded) → read_part (drop at code) ≡ z → x ≡ found_in opcode_table (moved at z)
-      found_ours z r = e ∙ ap (λ (l : List ℕ). find_with l code at) t ∙ find_ours ∙ ap (λ (y : Decoded). found_in opcode_table (moved at y)) r
+  module _ (x : Result Found ℕ) (table : List ℕ) (t : table ≡ opcode_table) (e : x ≡ find_with table code at) where
+    pub found_ours : (z : Decoded) → read_part (drop at code) ≡ z → x ≡ found_in opcode_table (moved at z)
+    found_ours z r = e ∙ ap (λ (l : List ℕ). find_with l code at) t ∙ find_ours ∙ ap (λ (y : Decoded). found_in opcode_table (moved at y)) r
 
-      pub read_next : x.refusal ≡ 0 → at ≤ x.next
-      read_next r = (found_good (read_part (drop at code)) (found_ours _ refl) (reads_known form_at 0 (drop at code)) r).0
+  module _ (x : Found) (table : List ℕ) (t : table ≡ opcode_table) (e : Ok x ≡ find_with table code at) where
+    reading : (at ≤ x.next) × (good x.instruction (x.next - at) ≡ read_part (drop at code))
+    reading = found_good x (read_part (drop at code)) (found_ours (Ok x) table t e _ refl)
 
-      pub read_on : length code ≤ longest_code → x.refusal ≡ 0 → good x.instruction (x.next - at) ≡ read_at code at
-      read_on h r = (found_good (read_part (drop at code)) (found_ours _ refl) (reads_known form_at 0 (drop at code)) r).1 ∙ read_fits h
+    pub read_next : at ≤ x.next
+    read_next = reading.0
 
-      pub read_stop : length code ≤ longest_code → (x.refusal ≡ 0 → ⊥) → refused x.refusal ≡ read_at code at
-      read_stop h r = found-refused (read_part (drop at code)) (found_ours _ refl) r ∙ read_fits h
+    pub read_on : length code ≤ longest_code → good x.instruction (x.next - at) ≡ read_at code at
+    read_on h = reading.1 ∙ read_fits h
+
+  pub read_stop : (n : ℕ) (table : List ℕ) → table ≡ opcode_table → Err n ≡ find_with table code at → length code ≤ longest_code → refused n ≡ read_at code at
+  read_stop n table t e h = found-refused n (read_part (drop at code)) (found_ours (Err n) table t e _ refl) ∙ read_fits h
 
 pub ruleset our_table = (rules, read_long, read_next, read_on, read_stop)

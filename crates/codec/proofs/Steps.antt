@@ -1,5 +1,5 @@
 -- The reader at a position of a code: what each part gives, from what the code has found there. Rules for the reader's functions.
-use Rattle.std.specs.Prelude.{ℕ, ◌+◌, ◌-◌, ◌*◌, ◌/◌, ◌^◌, ◌≤◌, ◌<◌, ◌≡◌, refl, Bool, true, false, cond, List, eqb, length, get_or, take, drop}
+use Rattle.std.specs.Prelude.{ℕ, ◌+◌, ◌-◌, ◌*◌, ◌/◌, ◌^◌, ◌≤◌, ◌<◌, ◌≡◌, refl, Bool, true, false, cond, List, eqb, length, get_or, take, drop, Result, Err}
 use Rattle.basis.proofs.Names.{sym, ap, ap₂, ◌∙◌, false≢true, arith, add-zero, mul-zero, rules, eq-eqb, ne_eqb, eqb-true, drop_of_length-le}
 use Rattle.words.specs.Number.{number}
 use Rattle.words.proofs.Laws.{and_both}
@@ -12,7 +12,7 @@ use Rattle.codec.specs.Operands.{upper, middle, lower, has_sib, displacement_siz
 use Rattle.codec.specs.inner.Fields.{Sized}
 use Rattle.codec.specs.Reader.{Reader, whole, refuse, byte, field, reads}
 use Rattle.codec.specs.Reads.{instruction_of, immediate_reader, displacement_reader, sib_reader, modrm_reader, form_reader, second_reader, first_reader, instruction_reader, refusal_of}
-use Rattle.codec.specs.Finding.{refused_as, found, found_in, find_with}
+use Rattle.codec.specs.Finding.{found, found_in, find_with}
 use Rattle.codec.specs.declared.Operand.{Operand}
 use Rattle.codec.specs.declared.Found.{Found}
 use Rattle.codec.specs.Answers.{Decoded, good, refused}
@@ -71,8 +71,8 @@ module _ (n first second at : ℕ) (s : List ℕ) (there : n ≡ 0 → ⊥) wher
 
 module _ (code : List ℕ) (at : ℕ) where
   -- the first byte
-  module _ (table : List ℕ) (x : Found) where
-    pub first_none : x ≡ refused_as code_ends → length code ≤ at → x ≡ find_with table code at
+  module _ (table : List ℕ) (x : Result Found ℕ) where
+    pub first_none : x ≡ Err code_ends → length code ≤ at → x ≡ find_with table code at
     unfolding find_with instruction_reader
     first_none e q = e ∙ ap (λ (s : List ℕ). found_in table (reads (instruction_reader (form_in table)) at s)) (sym (drop_of_length-le code q))
 
@@ -105,7 +105,7 @@ module _ (code : List ℕ) (at : ℕ) where
           ∙ ap (found_in table) (sym (first_here ∙ reads_no _ _ _ (at + 1) s other))
 
   -- what follows a first byte other than 0F, by the number n of its form
-  module _ (first n : ℕ) (x : Found) (g : n ≡ (form_of_first first).number) where
+  module _ (first n : ℕ) (x : Result Found ℕ) (g : n ≡ (form_of_first first).number) where
     -- x is what the first byte gives
     abbrev FindsFirst : Type 0
     FindsFirst = x ≡ found (entry_of_first first) (reads (first_reader first) at (drop at code))
@@ -113,10 +113,10 @@ module _ (code : List ℕ) (at : ℕ) where
     form_is : form_of n ≡ form_of_first first
     form_is = ap form_of g ∙ first_form_is first
 
-    pub first_stop : (r : ℕ) → n ≡ 0 → r ≡ refusal_of first → x ≡ refused_as r → FindsFirst
+    pub first_stop : (r : ℕ) → n ≡ 0 → r ≡ refusal_of first → x ≡ Err r → FindsFirst
     unfolding first_reader
     first_stop r e p h =
-        h ∙ ap refused_as p
+        h ∙ ap Err p
         ∙ ap (found (entry_of_first first)) (sym (reads_yes (is_absent (form_of_first first)) _ _ at (drop at code) (ap (λ (k : ℕ). eqb k 0) (sym g ∙ e))))
 
     module _ (there : n ≡ 0 → ⊥) (o : Bool) (has : o ≡ has_operand (form_of n)) (entry : ℕ) (numbered : entry ≡ n * 2 ^ 24) where
@@ -136,12 +136,12 @@ module _ (code : List ℕ) (at : ℕ) where
       first_modrm e h = first_found (h ∙ ap (found entry) (sym (form_on n first 0 at (drop at code) there (sym has ∙ e))))
 
   -- the second byte, after 0F
-  module _ (table : List ℕ) (x : Found) where
+  module _ (table : List ℕ) (x : Result Found ℕ) where
     -- x is what the table and the second byte give
     abbrev FindsSecond : Type 0
     FindsSecond = x ≡ found_in table (reads (second_reader (form_in table) escape) at (drop at code))
 
-    pub second_none : x ≡ refused_as code_ends → length code ≤ at → FindsSecond
+    pub second_none : x ≡ Err code_ends → length code ≤ at → FindsSecond
     unfolding second_reader
     second_none e q = e ∙ ap (λ (s : List ℕ). found_in table (reads (second_reader (form_in table) escape) at s)) (sym (drop_of_length-le code q))
 
@@ -165,7 +165,7 @@ module _ (code : List ℕ) (at : ℕ) where
           h ∙ ap (λ (e : ℕ). found e (reads (form_reader form escape second) (at + 1) s)) g
           ∙ keeps table escape second (form_reader form escape second) (at + 1) s (form_gives form escape second) ∙ ap (found_in table) (sym second_here)
 
-      pub second_absent : entry / 2 ^ 24 ≡ 0 → x ≡ refused_as not_listed → FindsSecond
+      pub second_absent : entry / 2 ^ 24 ≡ 0 → x ≡ Err not_listed → FindsSecond
       unfolding form_reader
       second_absent e h =
           second_found (h ∙ ap (found entry) (sym (reads_yes _ _ _ (at + 1) (drop (at + 1) code) (ap (λ (k : ℕ). is_absent (form_of k)) e))))
@@ -180,13 +180,13 @@ module _ (code : List ℕ) (at : ℕ) where
         second_on e h =
             second_found (h ∙ ap (found entry) (sym (form_on (entry / 2 ^ 24) escape second (at + 1) (drop (at + 1) code) there (sym has ∙ e))))
 
-  module _ (form : Form) (first second entry : ℕ) (x : Found) where
+  module _ (form : Form) (first second entry : ℕ) (x : Result Found ℕ) where
     -- x is what a reader finds at a position
     abbrev Finds : Reader → ℕ → Type 0
     Finds reader n = x ≡ found entry (reads reader n (drop n code))
 
     -- the ModRM byte
-    pub modrm_none : x ≡ refused_as code_ends → length code ≤ at → Finds (modrm_reader form first second) at
+    pub modrm_none : x ≡ Err code_ends → length code ≤ at → Finds (modrm_reader form first second) at
     unfolding modrm_reader
     modrm_none e q = e ∙ ap (λ (s : List ℕ). found entry (reads (modrm_reader form first second) at s)) (sym (drop_of_length-le code q))
 
@@ -202,7 +202,7 @@ module _ (code : List ℕ) (at : ℕ) where
           ap (reads (modrm_reader form first second) at) (drop_here code at q)
           ∙ ap (λ (u : Bool). reads (cond u (sib_reader form first second modrm) (refuse not_allowed)) (at + 1) (drop (at + 1) code)) (sym g)
 
-      pub modrm_stop : t ≡ false → x ≡ refused_as not_allowed → Finds (modrm_reader form first second) at
+      pub modrm_stop : t ≡ false → x ≡ Err not_allowed → Finds (modrm_reader form first second) at
       modrm_stop e h = h ∙ ap (found entry) (sym (modrm_here ∙ reads_no t _ _ (at + 1) (drop (at + 1) code) e))
 
       pub modrm_on : t ≡ true → Finds (sib_reader form first second (get_or code at 0)) (at + 1) → Finds (modrm_reader form first second) at
@@ -219,7 +219,7 @@ module _ (code : List ℕ) (at : ℕ) where
         unfolding sib_reader
         sib_here = ap (λ (u : Bool). reads (cond u sib_next (displacement_reader form first second modrm 0)) at (drop at code)) (sym g)
 
-        pub sib_none : t ≡ true → length code ≤ at → x ≡ refused_as code_ends → Finds (sib_reader form first second modrm) at
+        pub sib_none : t ≡ true → length code ≤ at → x ≡ Err code_ends → Finds (sib_reader form first second modrm) at
         sib_none e q h =
             h ∙ ap (found entry) (sym (sib_here ∙ reads_yes t _ _ at (drop at code) e ∙ ap (reads sib_next at) (drop_of_length-le code q)))
 
@@ -240,7 +240,7 @@ module _ (code : List ℕ) (at : ℕ) where
         unfolding displacement_reader
         displacement_is = ap (λ (j : ℕ). field j next) (sym e)
 
-        pub displacement_none : length code - at < k → x ≡ refused_as code_ends → Finds (displacement_reader form first second modrm sib) at
+        pub displacement_none : length code - at < k → x ≡ Err code_ends → Finds (displacement_reader form first second modrm sib) at
         displacement_none q h =
             h ∙ ap (found entry) (sym (ap (λ (r : Reader). reads r at (drop at code)) displacement_is ∙ field_none code at k next q))
 
@@ -268,7 +268,7 @@ module _ (code : List ℕ) (at : ℕ) where
       unfolding immediate_reader
       immediate_is = ap (λ (j : ℕ). field j after) (sym e)
 
-      pub immediate_none : length code - at < k → x ≡ refused_as code_ends → Finds (immediate_reader form first second w) at
+      pub immediate_none : length code - at < k → x ≡ Err code_ends → Finds (immediate_reader form first second w) at
       immediate_none q h =
           h ∙ ap (found entry) (sym (ap (λ (r : Reader). reads r at (drop at code)) immediate_is ∙ field_none code at k after q))
 
@@ -304,7 +304,7 @@ module _ (code : List ℕ) (at : ℕ) where
       (simp (z.four n m, drop_here code at p0, drop_here code (at + 1) p1, e2, drop_here code (at + 2) p2, e3, drop_here code (at + 3) p3, mul-zero, add-zero))
 
   -- by the number n of a form
-  module _ (n first second entry : ℕ) (x : Found) (w : Operand) where
+  module _ (n first second entry : ℕ) (x : Result Found ℕ) (w : Operand) where
     abbrev ends : Type 0
     ends = x ≡ found entry (reads (immediate_reader (form_of n) first second w) at (drop at code))
 
@@ -314,7 +314,7 @@ module _ (code : List ℕ) (at : ℕ) where
     number_on k v plain e q y h = immediate_on (form_of n) first second entry x w k e v q y true (accepted_other n v plain) refl h
 
 -- the ModRM byte of ADD, which allows registers alone
-module _ (code : List ℕ) (at n first second entry : ℕ) (x : Found) (adds : n ≡ 11) (t : Bool)
+module _ (code : List ℕ) (at n first second entry : ℕ) (x : Result Found ℕ) (adds : n ≡ 11) (t : Bool)
     (g : t ≡ allows (form_of n) (upper (get_or code at 0)) (middle (get_or code at 0)) (lower (get_or code at 0))) (q : at < length code) where
   in_register : t ≡ true → (192 ≤ get_or code at 0) × (get_or code at 0 < 256)
   unfolding allows

@@ -1,6 +1,6 @@
 -- The theorems of the codec: bytes and records match one to one, reading is local, and what is read is in range.
-use Rattle.std.specs.Prelude.{ℕ, ◌≤◌, ◌≡◌, refl, Bool, true, false, cond, List, [], ◌++◌, eqb, ltb, leb, length, take, drop, ◌↔◌}
-use Rattle.basis.proofs.Names.{sym, ap, ◌∙◌, false≢true, append-nil, arith, le-ltb}
+use Rattle.std.specs.Prelude.{ℕ, ◌≤◌, ◌≡◌, refl, Bool, true, false, cond, List, [], ◌++◌, eqb, ltb, leb, length, take, drop, ◌↔◌, Ok}
+use Rattle.basis.proofs.Names.{sym, ap, subst, ◌∙◌, false≢true, append-nil, arith, le-ltb}
 use Rattle.words.specs.Number.{AllBytes}
 use Rattle.codec.specs.Refusals.{code_too_long, no_bytes, buffer_ends}
 use Rattle.codec.specs.Opcodes.{form_at, escape}
@@ -8,14 +8,15 @@ use Rattle.codec.specs.inner.Fields.{Registers}
 use Rattle.codec.specs.Table.{form_in}
 use Rattle.codec.specs.Reader.{reads}
 use Rattle.codec.specs.Reads.{second_reader, first_reader, instruction_reader, longest_code, read_part, read_at}
-use Rattle.codec.specs.Finding.{found_in, find_with}
+use Rattle.codec.specs.Finding.{entry_for, found_in, find_with}
 use Rattle.codec.specs.Fits.{has_bytes}
 use Rattle.codec.specs.Writes.{bytes_of, write_to}
 use Rattle.codec.specs.declared.Instruction.{Instruction}
+use Rattle.codec.specs.declared.Found.{Found}
 use Rattle.codec.specs.Answers.{Decoded, good, refused, wrote, refused_with}
 use Rattle.words.proofs.Numbers.{all_drop}
 use Rattle.codec.proofs.Readers.{Holds, own, takes_one}
-use Rattle.codec.proofs.Given.{no_registers, Known, Refusal, reads_known}
+use Rattle.codec.proofs.Given.{Known, Refusal, reads_known}
 use Rattle.codec.proofs.Spelling.{read_spells}
 use Rattle.codec.proofs.ReadingBack.{bytes_read, bytes_are_bytes}
 use Rattle.codec.proofs.Ranges.{InRange, has_in_range}
@@ -95,11 +96,13 @@ reading_is_local s i n e =
 pub reading_in_range : (s : List ℕ) (i : Instruction) (n : ℕ) → AllBytes s → read_part s ≡ good i n → InRange i
 reading_in_range s i n b e = has_in_range i (read_spells s i n b e).0
 
--- With any table and any code, found or refused, the registers are below 8.
-pub found_registers : (table code : List ℕ) (at : ℕ) → Registers (find_with table code at).instruction.operand
+-- With any table and any code, the registers of what is found are below 8.
+pub found_registers : (table code : List ℕ) (at : ℕ) (x : Found) → Ok x ≡ find_with table code at → Registers x.instruction.operand
 unfolding find_with
-found_registers table code at = by (reads (instruction_reader (form_in table)) at (drop at code)) (reads_known (form_in table) at (drop at code))
+found_registers table code at x e = by (reads (instruction_reader (form_in table)) at (drop at code)) (reads_known (form_in table) at (drop at code)) e
   where
-    by : (z : Decoded) → Holds (Known (form_in table)) Refusal z → Registers (found_in table z).instruction.operand
-    by (good i n) g = g.registers
-    by (refused n) g = no_registers
+    by : (z : Decoded) → Holds (Known (form_in table)) Refusal z → Ok x ≡ found_in table z → Registers x.instruction.operand
+    by (good i n) g e =
+        let is : record { entry = entry_for table i; instruction = i; next = n } ≡ x = cc in
+        subst (λ (y : Found). Registers y.instruction.operand) is g.registers
+    by (refused n) g e = absurd (cc)

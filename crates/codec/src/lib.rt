@@ -5,7 +5,7 @@ ghost use Rattle.std.specs.Prelude.{◌≡◌};
 ghost use Rattle.codec.specs.Answers.{paper_of_reading, paper_of_writing};
 ghost use Rattle.codec.specs.Table.{opcode_table};
 ghost use Rattle.codec.specs.Reads.{read_at};
-ghost use Rattle.codec.specs.Finding.{find_with};
+ghost use Rattle.codec.specs.Finding.{find_with, paper_of_found};
 ghost use Rattle.codec.specs.Writes.{write_to};
 
 pub mod fields;
@@ -14,12 +14,14 @@ pub mod modes;
 mod opcodes;
 pub mod prefixes;
 mod reader;
-pub mod refusals;
 pub mod suffixes;
 mod writer;
 
 use prefixes::ESCAPE;
-use refusals::{BUFFER_ENDS, CODE_ENDS, CODE_TOO_LONG, LONGEST_CODE, NO_BYTES};
+use refusals::Refusal;
+
+// The longest code, in bytes.
+pub const LONGEST_CODE: usize = 4096;
 
 // The fields of the ModRM byte and of the SIB byte, and the displacement, as they stood; a field that is not there is 0.
 #[derive(Clone, Copy)]
@@ -53,24 +55,9 @@ pub enum Kind {
     Loop,
 }
 
-// What reading gives: the instruction and its length, or the refusal.
-#[derive(Clone, Copy)]
-pub enum Reading {
-    Read(Instruction, usize),
-    Refused(u8),
-}
-
-// What writing gives: the instruction's length, or the refusal.
-#[derive(Clone, Copy)]
-pub enum Writing {
-    Wrote(usize),
-    Refused(u8),
-}
-
-// What reading with a table gives, as plain numbers: the refusal, or 0 with the entry of the opcode bytes, the instruction and the position after it.
+// What reading with a table finds: the entry of the opcode bytes, the instruction and the position after it.
 #[derive(Clone, Copy)]
 pub struct Found {
-    pub refusal: u8,
     pub entry: u32,
     pub instruction: Instruction,
     pub next: usize,
@@ -84,11 +71,12 @@ pub fn table() -> [u32; 256]
 }
 
 // Reads the instruction at a position, with the entries of a table that is lent.
-pub fn read_from(table: &[u32; 256], code: &[u8], at: usize) -> Found
-    ensures { result ≡ find_with table.now code.now at }
+#[tactic(auto, using(crate::proofs::Steps::reading))]
+pub fn read_from(table: &[u32; 256], code: &[u8], at: usize) -> Result<Found, Refusal>
+    ensures { paper_of_found result ≡ find_with table.now code.now at }
 {
     if code.len() <= at {
-        return reader::refused(CODE_ENDS);
+        return Err(Refusal::CodeEnds);
     }
     let first = code[at];
     if first == ESCAPE {
@@ -98,38 +86,31 @@ pub fn read_from(table: &[u32; 256], code: &[u8], at: usize) -> Found
     }
 }
 
-// Reads the instruction at a position.
-pub fn read(code: &[u8], at: usize) -> Reading
+// Reads the instruction at a position, and says its length.
+#[tactic(auto, using(crate::proofs::OurTable::our_table))]
+pub fn read(code: &[u8], at: usize) -> Result<(Instruction, usize), Refusal>
     ensures { paper_of_reading result ≡ read_at code.now at }
 {
     if LONGEST_CODE < code.len() {
-        return Reading::Refused(CODE_TOO_LONG);
+        return Err(Refusal::CodeTooLong);
     }
-    let table = table();
-    let found = read_from(&table, code, at);
-    let refusal = found.refusal;
-    if refusal == 0 {
-        let instruction = found.instruction;
-        Reading::Read(instruction, found.next - at)
-    } else {
-        Reading::Refused(refusal)
-    }
+    let found = read_from(&table(), code, at)?;
+    Ok((found.instruction, found.next - at))
 }
 
-// Writes an instruction at the start of a buffer; a refused one changes no byte of it.
-pub fn write(instruction: Instruction, buffer: &mut [u8]) -> Writing
+// Writes an instruction at the start of a buffer, and answers its length; a refused one changes no byte of it.
+#[tactic(auto, using(crate::proofs::Puts::puts))]
+pub fn write(instruction: Instruction, buffer: &mut [u8]) -> Result<usize, Refusal>
     ensures { paper_of_writing result buffer.new ≡ write_to instruction buffer.old }
 {
     let form = opcodes::form_for(instruction.first, instruction.second);
-    if writer::has_bytes(form, instruction) {
-        let size = writer::size_of(form, instruction);
-        if size <= buffer.len() {
-            writer::put(buffer, form, instruction);
-            Writing::Wrote(size)
-        } else {
-            Writing::Refused(BUFFER_ENDS)
-        }
-    } else {
-        Writing::Refused(NO_BYTES)
+    if !writer::has_bytes(form, instruction) {
+        return Err(Refusal::NoBytes);
     }
+    let size = writer::size_of(form, instruction);
+    if buffer.len() < size {
+        return Err(Refusal::BufferEnds);
+    }
+    writer::put(buffer, form, instruction);
+    Ok(size)
 }

@@ -1,8 +1,9 @@
 // The first byte: 0F, or why one that starts no instruction is refused, the prefixes by 4, every other by 5.
 ghost use Rattle.std.specs.Prelude.{◌≡◌};
+ghost use Rattle.refusals.specs.Numbers.{number_of};
 ghost use Rattle.codec.specs.Reads.{refusal_of};
 
-use crate::refusals::{NOT_LISTED, PREFIXED};
+use refusals::Refusal;
 
 // The first byte of every opcode of two.
 pub const ESCAPE: u8 = 0x0f;
@@ -33,41 +34,14 @@ const REPNE: u8 = 0xf2;
 const REP: u8 = 0xf3;
 
 // Why an instruction is refused whose first byte is neither 0F nor one of loops.
-pub(crate) fn first_refusal(first: u8) -> u8
-    ensures { result ≡ refusal_of first }
+#[tactic(auto, unfolding(crate::specs::Reads::refusal_of))]
+pub(crate) fn first_refusal(first: u8) -> Refusal
+    ensures { number_of result ≡ refusal_of first }
 {
-    if first == ES {
-        return PREFIXED;
+    match first {
+        ES | CS | SS | DS | FS | GS => Refusal::Prefixed,
+        OPERAND_SIZE | ADDRESS_SIZE => Refusal::Prefixed,
+        LOCK | REPNE | REP => Refusal::Prefixed,
+        _ => Refusal::NotListed,
     }
-    if first == CS {
-        return PREFIXED;
-    }
-    if first == SS {
-        return PREFIXED;
-    }
-    if first == DS {
-        return PREFIXED;
-    }
-    if first == FS {
-        return PREFIXED;
-    }
-    if first == GS {
-        return PREFIXED;
-    }
-    if first == OPERAND_SIZE {
-        return PREFIXED;
-    }
-    if first == ADDRESS_SIZE {
-        return PREFIXED;
-    }
-    if first == LOCK {
-        return PREFIXED;
-    }
-    if first == REPNE {
-        return PREFIXED;
-    }
-    if first == REP {
-        return PREFIXED;
-    }
-    NOT_LISTED
 }

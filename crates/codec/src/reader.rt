@@ -1,4 +1,6 @@
 // The reader: one function for each part of an instruction, from left to right, each handing on the position after it.
+#![tactic(auto, using(crate::proofs::Steps::reading, crate::proofs::Judging::judging))]
+
 ghost use Rattle.std.specs.Prelude.{◌≡◌, ◌+◌, ◌*◌, ◌≤◌, length, take, drop};
 ghost use Rattle.words.specs.Number.{number};
 ghost use Rattle.codec.specs.Opcodes.{escape};
@@ -7,13 +9,13 @@ ghost use Rattle.codec.specs.Operands.{operand_of};
 ghost use Rattle.codec.specs.inner.Fields.{Sized};
 ghost use Rattle.codec.specs.Reader.{reads};
 ghost use Rattle.codec.specs.Reads.{immediate_reader, displacement_reader, sib_reader, modrm_reader, first_reader, second_reader};
-ghost use Rattle.codec.specs.Finding.{refused_as, found, found_in};
-ghost use Rattle.codec.specs.inner.Entries.{found_after, read_as, judged_found};
+ghost use Rattle.codec.specs.Finding.{found, found_in, paper_of_found};
+ghost use Rattle.codec.specs.inner.Entries.{found_after, read_as};
 
 use crate::forms::{ABSENT, FORM, SHUFFLE, SUFFIXED};
 use crate::prefixes::ESCAPE;
-use crate::refusals::{CODE_ENDS, NOT_ALLOWED, NOT_LISTED};
 use crate::{Found, Instruction, Operand, fields, opcodes, prefixes};
+use refusals::Refusal;
 
 // A ModRM byte from here on has mod 11.
 const REGISTERS: u8 = 0xc0;
@@ -38,23 +40,6 @@ pub(crate) struct Opcode {
     pub(crate) form: u32,
 }
 
-// A refusal: all else is zero.
-pub(crate) fn refused(refusal: u8) -> Found
-    ensures { result ≡ refused_as refusal }
-{
-    Found {
-        refusal: refusal,
-        entry: 0,
-        instruction: Instruction {
-            first: 0,
-            second: 0,
-            operand: NO_OPERAND,
-            immediate: 0,
-        },
-        next: 0,
-    }
-}
-
 // The number of k bytes at a position, the lowest first.
 fn number_at(code: &[u8], at: usize, k: usize) -> u32
     requires { (at + k ≤ length code.now) × Sized k }
@@ -77,17 +62,16 @@ fn joined(a: u8, b: u8, c: u8, d: u8) -> u32
 }
 
 // The immediate, if the form has one, and the whole record, where the immediate is no suffix.
-fn number_after(code: &[u8], at: usize, opcode: Opcode, operand: Operand) -> Found
+fn number_after(code: &[u8], at: usize, opcode: Opcode, operand: Operand) -> Result<Found, Refusal>
     requires { (at ≤ length code.now) × (opcode.form ≡ 16 → ⊥) }
-    ensures { result ≡ found_after opcode (λ form first second. immediate_reader form first second operand) code.now at }
+    ensures { paper_of_found result ≡ found_after opcode (λ form first second. immediate_reader form first second operand) code.now at }
 {
     let k = fields::immediate_size(opcode.form);
     if code.len() - at < k {
-        return refused(CODE_ENDS);
+        return Err(Refusal::CodeEnds);
     }
     let immediate = number_at(code, at, k);
-    Found {
-        refusal: 0,
+    Ok(Found {
         entry: opcode.entry,
         instruction: Instruction {
             first: opcode.first,
@@ -96,13 +80,19 @@ fn number_after(code: &[u8], at: usize, opcode: Opcode, operand: Operand) -> Fou
             immediate: immediate,
         },
         next: at + k,
-    }
+    })
 }
 
 // The displacement, if the ModRM and SIB bytes ask for one, and what follows it.
-fn displacement_at(code: &[u8], at: usize, opcode: Opcode, modrm: u8, sib: u8) -> Found
+fn displacement_at(
+    code: &[u8],
+    at: usize,
+    opcode: Opcode,
+    modrm: u8,
+    sib: u8,
+) -> Result<Found, Refusal>
     requires { (at ≤ length code.now) × (opcode.form ≡ 16 → ⊥) }
-    ensures { result ≡ found_after opcode (λ form first second. displacement_reader form first second modrm sib) code.now at }
+    ensures { paper_of_found result ≡ found_after opcode (λ form first second. displacement_reader form first second modrm sib) code.now at }
 {
     let k = fields::displacement_size(
         modrm / fields::UPPER,
@@ -110,7 +100,7 @@ fn displacement_at(code: &[u8], at: usize, opcode: Opcode, modrm: u8, sib: u8) -
         sib % fields::VALUES,
     );
     if code.len() - at < k {
-        return refused(CODE_ENDS);
+        return Err(Refusal::CodeEnds);
     }
     let displacement = number_at(code, at, k);
     number_after(code, at + k, opcode, operand_of(modrm, sib, displacement))
@@ -132,16 +122,16 @@ fn operand_of(modrm: u8, sib: u8, displacement: u32) -> Operand
 }
 
 // The SIB byte, if the ModRM byte asks for one, and what follows it.
-fn sib_at(code: &[u8], at: usize, opcode: Opcode, modrm: u8) -> Found
+fn sib_at(code: &[u8], at: usize, opcode: Opcode, modrm: u8) -> Result<Found, Refusal>
     requires { (at ≤ length code.now) × (opcode.form ≡ 16 → ⊥) }
-    ensures { result ≡ found_after opcode (λ form first second. sib_reader form first second modrm) code.now at }
+    ensures { paper_of_found result ≡ found_after opcode (λ form first second. sib_reader form first second modrm) code.now at }
 {
     if REGISTERS <= modrm {
         return number_after(code, at, opcode, operand_of(modrm, 0, 0));
     }
     if fields::sib_follows(modrm / fields::UPPER, modrm % fields::VALUES) {
         if code.len() <= at {
-            return refused(CODE_ENDS);
+            return Err(Refusal::CodeEnds);
         }
         displacement_at(code, at + 1, opcode, modrm, code[at])
     } else {
@@ -150,12 +140,12 @@ fn sib_at(code: &[u8], at: usize, opcode: Opcode, modrm: u8) -> Found
 }
 
 // The ModRM byte, and what follows it.
-fn modrm_at(code: &[u8], at: usize, opcode: Opcode) -> Found
+fn modrm_at(code: &[u8], at: usize, opcode: Opcode) -> Result<Found, Refusal>
     requires { opcode.form ≡ 16 → ⊥ }
-    ensures { result ≡ found_after opcode modrm_reader code.now at }
+    ensures { paper_of_found result ≡ found_after opcode modrm_reader code.now at }
 {
     if code.len() <= at {
-        return refused(CODE_ENDS);
+        return Err(Refusal::CodeEnds);
     }
     let modrm = code[at];
     if fields::allowed(
@@ -166,7 +156,7 @@ fn modrm_at(code: &[u8], at: usize, opcode: Opcode) -> Found
     ) {
         sib_at(code, at + 1, opcode, modrm)
     } else {
-        refused(NOT_ALLOWED)
+        Err(Refusal::NotAllowed)
     }
 }
 
@@ -176,49 +166,33 @@ fn read_as(opcode: Opcode) -> Opcode
 {
     if opcode.form == SUFFIXED {
         return Opcode {
-            first: opcode.first,
-            second: opcode.second,
-            entry: opcode.entry,
             form: SHUFFLE,
+            ..opcode
         };
     }
     opcode
 }
 
-// What was read with a suffix, which must be listed.
-fn judged(found: Found) -> Found
-    ensures { result ≡ judged_found found }
-{
-    let refusal = found.refusal;
-    if refusal != 0 {
-        return found;
-    }
-    let instruction = found.instruction;
-    if fields::is_suffix(instruction.immediate) {
-        return found;
-    }
-    refused(NOT_LISTED)
-}
-
 // The operands, the immediate, and then the suffix, if it is one. (What hands back a record without being copied into its caller would keep it in
 // memory for every instruction: so the suffix is looked at last.)
-fn operands_at(code: &[u8], at: usize, opcode: Opcode) -> Found
-    ensures { result ≡ found_after opcode modrm_reader code.now at }
+fn operands_at(code: &[u8], at: usize, opcode: Opcode) -> Result<Found, Refusal>
+    ensures { paper_of_found result ≡ found_after opcode modrm_reader code.now at }
 {
-    let found = modrm_at(code, at, read_as(opcode));
-    if opcode.form == SUFFIXED {
-        return judged(found);
+    let found = modrm_at(code, at, read_as(opcode))?;
+    if opcode.form == SUFFIXED && !fields::is_suffix(found.instruction.immediate) {
+        return Err(Refusal::NotListed);
     }
-    found
+    Ok(found)
 }
 
 // The ModRM byte of ADD, which names a register, and the immediate. (`modrm_at` has one caller and is copied into it; with a second it would not be.)
-fn register_at(code: &[u8], at: usize, opcode: Opcode) -> Found
+#[tactic(auto, using(crate::proofs::Steps::reading, crate::proofs::Steps::register_on))]
+fn register_at(code: &[u8], at: usize, opcode: Opcode) -> Result<Found, Refusal>
     requires { opcode.form ≡ 11 }
-    ensures { result ≡ found_after opcode modrm_reader code.now at }
+    ensures { paper_of_found result ≡ found_after opcode modrm_reader code.now at }
 {
     if code.len() <= at {
-        return refused(CODE_ENDS);
+        return Err(Refusal::CodeEnds);
     }
     let modrm = code[at];
     if fields::allowed(
@@ -229,17 +203,18 @@ fn register_at(code: &[u8], at: usize, opcode: Opcode) -> Found
     ) {
         return number_after(code, at + 1, opcode, operand_of(modrm, 0, 0));
     }
-    refused(NOT_ALLOWED)
+    Err(Refusal::NotAllowed)
 }
 
 // What follows a first byte other than 0F, by its form.
-pub(crate) fn first_at(code: &[u8], at: usize, first: u8) -> Found
+#[tactic(auto, using(crate::proofs::Steps::reading, crate::proofs::Steps::first_adds))]
+pub(crate) fn first_at(code: &[u8], at: usize, first: u8) -> Result<Found, Refusal>
     requires { at ≤ length code.now }
-    ensures { result ≡ found (entry_of_first first) (reads (first_reader first) at (drop at code.now)) }
+    ensures { paper_of_found result ≡ found (entry_of_first first) (reads (first_reader first) at (drop at code.now)) }
 {
     let form = opcodes::first_form(first);
     if form == ABSENT {
-        return refused(prefixes::first_refusal(first));
+        return Err(prefixes::first_refusal(first));
     }
     let opcode = Opcode {
         first: first,
@@ -255,11 +230,11 @@ pub(crate) fn first_at(code: &[u8], at: usize, first: u8) -> Found
 }
 
 // The second byte, after 0F, and what follows it by its form.
-pub(crate) fn second_at(table: &[u32; 256], code: &[u8], at: usize) -> Found
-    ensures { result ≡ found_in table.now (reads (second_reader (form_in table.now) escape) at (drop at code.now)) }
+pub(crate) fn second_at(table: &[u32; 256], code: &[u8], at: usize) -> Result<Found, Refusal>
+    ensures { paper_of_found result ≡ found_in table.now (reads (second_reader (form_in table.now) escape) at (drop at code.now)) }
 {
     if code.len() <= at {
-        return refused(CODE_ENDS);
+        return Err(Refusal::CodeEnds);
     }
     let second = code[at];
     let entry = opcodes::entry_in(table, second);
@@ -271,7 +246,7 @@ pub(crate) fn second_at(table: &[u32; 256], code: &[u8], at: usize) -> Found
         form: form,
     };
     if form == ABSENT {
-        return refused(NOT_LISTED);
+        return Err(Refusal::NotListed);
     }
     if fields::has_operand(form) {
         operands_at(code, at + 1, opcode)

@@ -1,8 +1,8 @@
 // The edges of reading: codes that are cut short or refused.
 use crate::siblings::SIBLING;
 use crate::{ADD, ESCAPE};
-use codec::Reading;
-use codec::refusals::{LONGEST_CODE, PREFIXED};
+use codec::LONGEST_CODE;
+use refusals::Refusal;
 use std::io;
 use std::io::Write;
 
@@ -24,20 +24,26 @@ pub(crate) fn print(out: &mut impl Write, name: &str, n: u64) -> io::Result<()> 
     writeln!(out, "{name} {n}")
 }
 
-// The refusal of reading a code at its start, or 0.
-fn print_reading(out: &mut impl Write, name: &str, code: &[u8]) -> io::Result<()> {
-    match codec::read(code, 0) {
-        Reading::Read(_, _) => print(out, name, 0),
-        Reading::Refused(refusal) => print(out, name, refusal as u64),
+// The refusal of an answer, or 0.
+pub(crate) fn print_refusal<T: Drop>(
+    out: &mut impl Write,
+    name: &str,
+    answer: Result<T, Refusal>,
+) -> io::Result<()> {
+    match answer {
+        Ok(_) => print(out, name, 0),
+        Err(refusal) => print(out, name, u64::from(refusal.number())),
     }
+}
+
+// That of reading a code at its start.
+fn print_reading(out: &mut impl Write, name: &str, code: &[u8]) -> io::Result<()> {
+    print_refusal(out, name, codec::read(code, 0))
 }
 
 // A first byte that is refused as a prefix, on its own.
 fn is_prefix(first: u8) -> bool {
-    match codec::read(&[first], 0) {
-        Reading::Read(_, _) => false,
-        Reading::Refused(refusal) => refusal == PREFIXED,
-    }
+    matches!(codec::read(&[first], 0), Err(Refusal::Prefixed))
 }
 
 // The prefixes among all 256 first bytes, in hex.
@@ -53,10 +59,7 @@ fn print_prefixes(out: &mut impl Write) -> io::Result<()> {
 
 // A suffix that is listed.
 fn is_suffix(suffix: u8) -> bool {
-    match codec::read(&[ESCAPE, SIBLING, 0xc1, suffix], 0) {
-        Reading::Read(_, _) => true,
-        Reading::Refused(_) => false,
-    }
+    codec::read(&[ESCAPE, SIBLING, 0xc1, suffix], 0).is_ok()
 }
 
 // The suffixes among all 256 bytes, in hex.

@@ -6,11 +6,11 @@ mod edges;
 mod siblings;
 mod writings;
 
+use codec::Instruction;
 use codec::modes::SIB;
-use codec::{Instruction, Reading, Writing};
+use refusals::Refusal;
 use std::io;
 use std::io::Write;
-use std::num::wrapping_add_u64;
 
 // What stands in the writer's buffer before it writes.
 pub(crate) const FILL: u8 = 0xcc;
@@ -39,9 +39,6 @@ const SIB_AT: usize = 3;
 
 const ADDED_AT: usize = 2;
 
-// The refusal of an opcode or a suffix that is not listed.
-const NOT_LISTED: u8 = 5;
-
 // What was tried so far: what is read, how often it is not written back, its bytes, and what is not listed.
 #[derive(Clone, Copy)]
 pub(crate) struct Tally {
@@ -60,64 +57,44 @@ pub(crate) const NOTHING: Tally = Tally {
 
 // Whether a buffer starts with the first n bytes of a code and is as it was behind them.
 fn agrees(code: &[u8; ROOM], buffer: &[u8; ROOM], n: usize) -> bool {
-    for k in 0..ROOM {
-        if k < n {
-            if buffer[k] != code[k] {
-                return false;
-            }
-        } else {
-            if buffer[k] != FILL {
-                return false;
-            }
-        }
-    }
-    true
+    buffer
+        .iter()
+        .zip(code)
+        .take(n)
+        .all(|(there, read)| *there == *read)
+        && buffer.iter().skip(n).all(|there| *there == FILL)
 }
 
 // Whether the instruction of n bytes that a code starts with is written as it stands there.
 fn writes_back(code: &[u8; ROOM], instruction: Instruction, n: usize) -> bool {
     let mut buffer = [FILL; ROOM];
-    match codec::write(instruction, &mut buffer) {
-        Writing::Wrote(m) => {
-            if m == n {
-                agrees(code, &buffer, n)
-            } else {
-                false
-            }
-        }
-        Writing::Refused(_) => false,
-    }
+    codec::write(instruction, &mut buffer) == Ok(n) && agrees(code, &buffer, n)
 }
 
 // One code more that is refused.
-fn refused(tally: Tally, refusal: u8) -> Tally {
-    if refusal != NOT_LISTED {
-        return tally;
-    }
-    Tally {
-        encodings: tally.encodings,
-        differences: tally.differences,
-        bytes: tally.bytes,
-        unlisted: wrapping_add_u64(tally.unlisted, 1),
+fn refused(tally: Tally, refusal: Refusal) -> Tally {
+    match refusal {
+        Refusal::NotListed => Tally {
+            unlisted: tally.unlisted.wrapping_add(1),
+            ..tally
+        },
+        _ => tally,
     }
 }
 
 // Reads a code and writes it back, if it is an encoding.
 pub(crate) fn try_code(tally: Tally, code: &[u8; ROOM]) -> Tally {
     match codec::read(code, 0) {
-        Reading::Read(instruction, n) => {
-            let mut differences = tally.differences;
-            if !writes_back(code, instruction, n) {
-                differences = wrapping_add_u64(differences, 1);
-            }
+        Ok((instruction, n)) => {
+            let differs = !writes_back(code, instruction, n);
             Tally {
-                encodings: wrapping_add_u64(tally.encodings, 1),
-                differences: differences,
-                bytes: wrapping_add_u64(tally.bytes, n as u64),
-                unlisted: tally.unlisted,
+                encodings: tally.encodings.wrapping_add(1),
+                differences: tally.differences.wrapping_add(u64::from(differs)),
+                bytes: tally.bytes.wrapping_add(n as u64),
+                ..tally
             }
         }
-        Reading::Refused(refusal) => refused(tally, refusal),
+        Err(refusal) => refused(tally, refusal),
     }
 }
 

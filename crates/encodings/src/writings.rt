@@ -1,9 +1,9 @@
 // The edges of writing: records that have no bytes or no room.
-use crate::edges::{JNZ, MOV, OF_SFENCE, PFMAX, PFMUL, print};
+use crate::edges::{JNZ, MOV, OF_SFENCE, PFMAX, PFMUL, print_refusal};
 use crate::siblings::SIBLING;
 use crate::{ADD, DEC, ESCAPE, FILL, ROOM};
 use codec::modes::REGISTER;
-use codec::{Instruction, Operand, Writing};
+use codec::{Instruction, Operand};
 use std::io;
 use std::io::Write;
 
@@ -22,10 +22,7 @@ fn print_written(
     instruction: Instruction,
     buffer: &mut [u8],
 ) -> io::Result<()> {
-    match codec::write(instruction, buffer) {
-        Writing::Wrote(_) => print(out, name, 0),
-        Writing::Refused(refusal) => print(out, name, refusal as u64),
-    }
+    print_refusal(out, name, codec::write(instruction, buffer))
 }
 
 // An instruction with neither an SIB byte nor a displacement.

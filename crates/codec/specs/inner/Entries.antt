@@ -1,11 +1,11 @@
 -- What the code has of an entry: the operation that it names, and what is found after an opcode.
-use Rattle.std.specs.Prelude.{ℕ, ◌/◌, ◌%◌, ◌^◌, List, Bool, true, false, ◌&&◌, cond, eqb, drop}
+use Rattle.std.specs.Prelude.{ℕ, ◌/◌, ◌%◌, ◌^◌, List, Bool, true, false, ◌&&◌, cond, eqb, drop, Result, Ok, Err}
 use Rattle.lanes.specs.Operations.{Operation, PSRLW, PSRLD, PSRLQ, PSRAW, PSRAD, PSLLW, PSLLD, PSLLQ, KEEP, operation_of}
 use Rattle.codec.specs.Refusals.{not_listed}
 use Rattle.codec.specs.Forms.{Form, mmreg1←mmreg2/mem64+imm8, mmreg1·mmreg2/mem64+suffix, is_any, accepts}
 use Rattle.codec.specs.Table.{form_of}
 use Rattle.codec.specs.Reader.{Reader, reads}
-use Rattle.codec.specs.Finding.{refused_as, found}
+use Rattle.codec.specs.Finding.{found}
 use Rattle.codec.specs.declared.Kind.{Kind}
 use Rattle.codec.specs.declared.Kind.TheVariants.{Ordinary, Emms, Silent, Loop}
 use Rattle.codec.specs.declared.reader.Opcode.{Opcode}
@@ -43,10 +43,11 @@ read_as opcode =
     cond (eqb opcode.form 16) (record { first = opcode.first; second = opcode.second; entry = opcode.entry; form = mmreg1←mmreg2/mem64+imm8.number }) opcode
 
 -- what was found so, where its immediate is listed as a suffix
-abbrev pub judged_found : Found → Found
-judged_found x = cond (eqb x.refusal 0) (cond (accepts mmreg1·mmreg2/mem64+suffix x.instruction.immediate) x (refused_as not_listed)) x
+abbrev pub judged_found : Result Found ℕ → Result Found ℕ
+judged_found (Ok x) = cond (accepts mmreg1·mmreg2/mem64+suffix x.instruction.immediate) (Ok x) (Err not_listed)
+judged_found (Err refusal) = Err refusal
 
 -- what is found at a position after an opcode, by one of the readers of its form
-abbrev pub found_after : Opcode → (Form → ℕ → ℕ → Reader) → List ℕ → ℕ → Found
+abbrev pub found_after : Opcode → (Form → ℕ → ℕ → Reader) → List ℕ → ℕ → Result Found ℕ
 found_after opcode reader code at =
     found opcode.entry (reads (reader (form_of opcode.form) opcode.first opcode.second) at (drop at code))
