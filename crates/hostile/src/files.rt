@@ -4,7 +4,7 @@ ghost use Rattle.std.specs.Prelude.{◌<◌, ◌≤◌, length};
 use crate::code::put_instructions;
 use crate::dice::{is_half, is_rare, roll};
 use crate::put::{put, put_random, put_small};
-use codec::refusals::LONGEST_CODE;
+use codec::LONGEST_CODE;
 use machine::refusals::LONGEST_MEMORY;
 use pagefile::LONGEST_FILE;
 

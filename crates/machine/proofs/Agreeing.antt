@@ -1,11 +1,13 @@
 -- What reading, step, run and footprint hand back agrees: one number for one refusal, whichever of them was asked.
-use Rattle.std.specs.Prelude.{◌≡◌, List, ℕ, ◌↔◌}
+use Rattle.std.specs.Prelude.{◌≡◌, List, ℕ, ◌↔◌, Result, Err}
 use Rattle.basis.proofs.Names.{sym, ap, subst, ◌∙◌, false≢true}
-use Rattle.reorder.specs.Result.{Result, done, refused, map_result}
+use Rattle.reorder.specs.Result.{done, refused, map_result}
+use Rattle.reorder.specs.Result as outcome
 use Rattle.reorder.specs.Run.{stopped}
 use Rattle.reorder.specs.Footprint as places
-use Rattle.codec.specs.declared.Reading.{Reading}
-use Rattle.codec.specs.declared.Reading.TheVariants as reading
+use Rattle.refusals.specs.declared.Refusal.{Refusal}
+use Rattle.refusals.specs.Numbers.{number_of}
+use Rattle.codec.specs.declared.Instruction.{Instruction}
 use Rattle.codec.specs.Answers.{paper_of_reading}
 use Rattle.codec.specs.Reads.{read_at}
 use Rattle.codec.specs.declared.Kind.{Kind}
@@ -39,12 +41,12 @@ step_refused stepped memory n at s e = by stepped.answer e
     by (taken.Refused m) e = cc
 
 -- where reading is refused, so is the step there, unless the memory is too long or the floor too high
-pub reading_as_step : (floor : ℕ) (code memory : List ℕ) (at n : ℕ) (s : State) (r : Reading) (stepped : Stepped) → Fits floor s
-    → paper_of_reading r ≡ read_at code at → r ≡ reading.Refused n → paper_of_step stepped memory ≡ step_at floor code at s
-    → stepped.answer ≡ taken.Refused n
+pub reading_as_step : (floor : ℕ) (code memory : List ℕ) (at : ℕ) (refusal : Refusal) (s : State) (r : Result (Instruction × ℕ) Refusal) (stepped : Stepped) → Fits floor s
+    → paper_of_reading r ≡ read_at code at → r ≡ Err refusal → paper_of_step stepped memory ≡ step_at floor code at s
+    → stepped.answer ≡ taken.Refused (number_of refusal)
 unfolding instruction_at step_at
-reading_as_step floor code memory at n s r stepped fits read_is refusal step =
-    step_refused stepped memory n at s (step ∙ simp (fits.memory_fits, fits.floor_fits, sym read_is ∙ ap paper_of_reading refusal))
+reading_as_step floor code memory at refusal s r stepped fits read_is is step =
+    step_refused stepped memory (number_of refusal) at s (step ∙ simp (fits.memory_fits, fits.floor_fits, sym read_is ∙ ap paper_of_reading is))
 
 -- "It has no answer for a step that is refused: that step's refusal is given", over floor 0
 pub footprint_as_step : (code memory : List ℕ) (at n : ℕ) (s : State) (stepped : Stepped) (p : Tracing)
@@ -54,7 +56,7 @@ unfolding masked_at
 footprint_as_step code memory at n s stepped p step masked_is =
     by stepped.answer p (footprint_at 0 code at s) (subst (λ (o : Outcome). Together o (footprint_at 0 code at s)) (sym step) (footprint_exactly 0 code at s)) masked_is
   where
-    by : (a : Taken) (q : Tracing) (o : Result (places.Footprint Place Kind))
+    by : (a : Taken) (q : Tracing) (o : outcome.Result (places.Footprint Place Kind))
         → Together (paper_of_taken a stepped.at (state_of stepped.machine memory)) o → paper_of_footprint q ≡ map_result masked o
         → (a ≡ taken.Refused n) ↔ (q ≡ tracing.Refused n)
     by taken.Completed (tracing.Traced f) o t e = (λ h. absurd (false≢true (cc)), λ h. absurd (false≢true (cc)))

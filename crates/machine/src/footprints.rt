@@ -13,8 +13,8 @@ use crate::ways::Way;
 use crate::{Footprint, Machine, Places, Tracing, gathering, loops, reaches, ways};
 use codec::forms::{FORM, SUFFIXED};
 use codec::prefixes::ESCAPE;
-use codec::refusals::{CODE_TOO_LONG, LONGEST_CODE};
-use codec::{Instruction, Kind, Operand};
+use codec::{Instruction, Kind, LONGEST_CODE, Operand};
+use refusals::Refusal;
 use works::REFUSE;
 
 // What is read, with the address registers, and what is written.
@@ -151,6 +151,7 @@ fn unmarked(machine: Machine, entry: u32, instruction: Instruction, memory: &[u8
 
 impl Machine {
     // What the step at a position reads and writes.
+    #[tactic(auto, using(crate::proofs::laws::footprints::Tests::position_rules))]
     pub fn footprint(self, code: &[u8], at: usize, memory: &[u8]) -> Tracing
         ensures { paper_of_footprint result ≡ masked_at code.now at (state_of self memory.now) }
     {
@@ -158,14 +159,13 @@ impl Machine {
             return Tracing::Refused(MEMORY_TOO_LONG);
         }
         if LONGEST_CODE < code.len() {
-            return Tracing::Refused(CODE_TOO_LONG);
+            return Tracing::Refused(Refusal::CodeTooLong.number());
         }
         let table = codec::table();
-        let found = codec::read_from(&table, code, at);
-        let refusal = found.refusal;
-        if refusal != 0 {
-            return Tracing::Refused(refusal);
-        }
+        let found = match codec::read_from(&table, code, at) {
+            Ok(found) => found,
+            Err(refusal) => return Tracing::Refused(refusal.number()),
+        };
         let instruction = found.instruction;
         if instruction.first != ESCAPE {
             return loops::traced(

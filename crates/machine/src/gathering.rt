@@ -189,11 +189,10 @@ pub(crate) fn gathered(
     if what != REFUSE {
         return work;
     }
-    let found = codec::read_from(table, code, at);
-    let refusal = found.refusal;
-    if refusal != 0 {
-        return refused(refusal);
-    }
+    let found = match codec::read_from(table, code, at) {
+        Ok(found) => found,
+        Err(refusal) => return refused(refusal.number()),
+    };
     let instruction = found.instruction;
     if instruction.first != ESCAPE {
         return loops::looped(

@@ -12,7 +12,8 @@ ghost use Rattle.machine.specs.inner.Runs.{remaining};
 
 use crate::refusals::{FLOOR_TOO_HIGH, LONGEST_MEMORY, MEMORY_TOO_LONG};
 use crate::{End, Machine, Ran, Stepped, Taken, stepping};
-use codec::refusals::{CODE_ENDS, CODE_TOO_LONG, LONGEST_CODE};
+use codec::LONGEST_CODE;
+use refusals::Refusal;
 
 impl Machine {
     // The instructions from a position on, where memory, floor and code are within their limits: steps over lent registers, as many as the budget
@@ -93,6 +94,7 @@ impl Machine {
     }
 
     // The instructions from position 0 on, over a floor.
+    #[tactic(auto, using(crate::proofs::laws::running::Budgets::starting))]
     pub fn run(self, code: &[u8], memory: &mut [u8], floor: usize, budget: u32) -> Ran
         ensures { paper_of_run result memory.new ≡ run_of floor code.now budget (state_of self memory.old) }
     {
@@ -114,7 +116,7 @@ impl Machine {
         }
         if LONGEST_CODE < code.len() {
             return Ran {
-                end: End::Refused(CODE_TOO_LONG),
+                end: End::Refused(Refusal::CodeTooLong.number()),
                 at: 0,
                 count: 0,
                 machine: self,
@@ -124,6 +126,7 @@ impl Machine {
     }
 
     // The instruction at a position, over a floor.
+    #[tactic(auto, using(crate::proofs::laws::running::Answering::answering))]
     pub fn step(self, code: &[u8], at: usize, memory: &mut [u8], floor: usize) -> Stepped
         ensures { paper_of_step result memory.new ≡ step_at floor code.now at (state_of self memory.old) }
     {
@@ -143,14 +146,14 @@ impl Machine {
         }
         if LONGEST_CODE < code.len() {
             return Stepped {
-                answer: Taken::Refused(CODE_TOO_LONG),
+                answer: Taken::Refused(Refusal::CodeTooLong.number()),
                 machine: self,
                 at: at,
             };
         }
         if code.len() <= at {
             return Stepped {
-                answer: Taken::Refused(CODE_ENDS),
+                answer: Taken::Refused(Refusal::CodeEnds.number()),
                 machine: self,
                 at: at,
             };

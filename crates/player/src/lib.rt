@@ -5,10 +5,11 @@ ghost use Rattle.std.specs.Prelude.{◌≡◌, ◌≤◌, length};
 ghost use Rattle.printout.specs.Printing.{printing, printed};
 ghost use Rattle.player.specs.Page.{answer_text, run_in, well_formed_text, page_text};
 
-use codec::refusals::{CODE_TOO_LONG, LONGEST_CODE};
+use codec::LONGEST_CODE;
 use machine::Machine;
 use machine::refusals::{LONGEST_MEMORY, MEMORY_TOO_LONG};
 use pagefile::Page;
+use refusals::Refusal;
 
 // The instructions that a page may run.
 const BUDGET: u32 = 4096;
@@ -40,6 +41,7 @@ fn run_copied(file: &[u8], marks: u8, memory: &[u8], buffer: &mut [u8], out: &mu
 }
 
 // What is printed of a well-formed page.
+#[tactic(auto, using(crate::proofs::Playing::playing))]
 fn play_well_formed(file: &[u8], marks: u8, out: &mut [u8]) -> usize
     ensures { printing result out.new ≡ printed (well_formed_text marks file.now) out.old }
 {
@@ -48,7 +50,7 @@ fn play_well_formed(file: &[u8], marks: u8, out: &mut [u8]) -> usize
         return printout::refusal(out, MEMORY_TOO_LONG);
     }
     if LONGEST_CODE < pagefile::code(file).len() {
-        return printout::refusal(out, CODE_TOO_LONG);
+        return printout::refusal(out, Refusal::CodeTooLong.number());
     }
     let mut buffer = [0u8; LONGEST_MEMORY];
     run_copied(file, marks, memory, &mut buffer, out)

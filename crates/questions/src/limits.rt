@@ -1,6 +1,6 @@
 // The limits: the longest memory and code, one byte more, and as many instructions as the budget has.
 use crate::cases::{ask, ask_in};
-use codec::refusals::LONGEST_CODE;
+use codec::LONGEST_CODE;
 use machine::refusals::LONGEST_MEMORY;
 use std::io;
 use std::io::Write;

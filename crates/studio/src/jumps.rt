@@ -2,12 +2,13 @@
 ghost use Rattle.std.specs.Prelude.{◌≡◌};
 ghost use Rattle.manual.specs.Runs.{reaches_jump};
 
-use codec::refusals::LONGEST_CODE;
+use codec::LONGEST_CODE;
 
 // The first byte of a jump.
 const JUMP_IF_NOT_ZERO: u8 = 0x75;
 
 // Reading from 0 onward reaches a jump. A code that is too long is not read.
+#[tactic(auto, using(crate::proofs::laws::jumps::Reaching::reaching))]
 pub(crate) fn reaches_jump(code: &[u8]) -> bool
     ensures { result ≡ reaches_jump code.now }
 {
@@ -17,10 +18,9 @@ pub(crate) fn reaches_jump(code: &[u8]) -> bool
     let table = codec::table();
     let mut at: usize = 0;
     while at < code.len() {
-        let found = codec::read_from(&table, code, at);
-        if found.refusal != 0 {
+        let Ok(found) = codec::read_from(&table, code, at) else {
             return false;
-        }
+        };
         if found.instruction.first == JUMP_IF_NOT_ZERO {
             return true;
         }

@@ -1,5 +1,5 @@
 -- What the code knows of an instruction that it has read and gathered at once.
-use Rattle.std.specs.Prelude.{◌≡◌, true, cond, List, [], ℕ, ◌+◌, ◌/◌, ◌%◌, ◌^◌, ◌≤◌, ◌<◌, leb, length, get_or, drop}
+use Rattle.std.specs.Prelude.{◌≡◌, true, cond, List, [], ℕ, ◌+◌, ◌/◌, ◌%◌, ◌^◌, ◌≤◌, ◌<◌, leb, length, get_or, drop, Result, Ok}
 use Rattle.reorder.specs.Result.{done}
 use Rattle.codec.specs.Opcodes.{escape}
 use Rattle.words.specs.Buffer.{loaded}
@@ -18,14 +18,15 @@ use Rattle.machine.specs.inner.Ways.{is_store}
 use Rattle.machine.specs.inner.Works.{effect_in, Listed, put_work, take_work, Does}
 
 -- a work does what was found, where that has an entry of our table
-pub record Quick (work : Work) (registers integers memory : List ℕ) (x : Found) : Type 0 where
-  pub passed : x.refusal ≡ 0
+pub record Quick (work : Work) (registers integers memory : List ℕ) (reading : Result Found ℕ) : Type 0 where
+  pub x : Found
+  pub passed : Ok x ≡ reading
   pub present : x.entry / 2 ^ 24 ≡ 0 → ⊥
   pub escaped : x.instruction.first ≡ escape
   pub does : Listed x.entry → Does work registers integers memory (effect_in x.entry x.instruction) (done x.next)
 
 -- what is found at a position after an opcode, by the table's entry for it
-abbrev pub after_opcode : ℕ → ℕ → List ℕ → ℕ → Found
+abbrev pub after_opcode : ℕ → ℕ → List ℕ → ℕ → Result Found ℕ
 after_opcode entry second code at = found entry (reads (form_reader (form_of (entry / 2 ^ 24)) escape second) at (drop at code))
 
 -- a work does what is found there, whatever the second byte that has this entry; with any memory; and with any registers

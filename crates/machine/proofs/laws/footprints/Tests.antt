@@ -6,6 +6,7 @@ use Rattle.reorder.specs.Result.{Result, refused, and_then, map_result, provided
 use Rattle.reorder.specs.Plan.{Plan}
 use Rattle.reorder.specs.Footprint.{footprint_in}
 use Rattle.reorder.proofs.Results.{provided_done, provided-map}
+use Rattle.std.specs.Prelude.{Ok, Err}
 use Rattle.codec.specs.Answers.{Decoded, good}
 use Rattle.codec.specs.Answers as decoded
 use Rattle.codec.specs.Opcodes.{escape}
@@ -62,58 +63,58 @@ module _ (code : List ℕ) (at : ℕ) (machine : Machine) (memory : List ℕ) wh
     traced_code_long h = sym (by_reading (decoded.refused code_too_long) (read_long code at h))
 
     -- with our table
-    module _ (fits : length code ≤ longest_code) (table : List ℕ) (x : Found) (ours : table ≡ opcode_table) (e : x ≡ find_with table code at) where
-      pub traced_unread : (x.refusal ≡ 0 → ⊥) → refused x.refusal ≡ masked_at code at here
-      traced_unread h = sym (by_reading (decoded.refused x.refusal) (read_stop code at x table ours e fits h))
+    module _ (fits : length code ≤ longest_code) (table : List ℕ) (ours : table ≡ opcode_table) where
+      pub traced_unread : (n : ℕ) → Err n ≡ find_with table code at → refused n ≡ masked_at code at here
+      traced_unread n e = sym (by_reading (decoded.refused n) (read_stop code at n table ours e fits))
 
-      module _ (passed : x.refusal ≡ 0) where
-        abbrev answered : Result Footprint
-        answered = unmarked_footprint (effect_in x.entry x.instruction) here
+    module _ (fits : length code ≤ longest_code) (table : List ℕ) (x : Found) (ours : table ≡ opcode_table) (e : Ok x ≡ find_with table code at) where
+      abbrev answered : Result Footprint
+      answered = unmarked_footprint (effect_in x.entry x.instruction) here
 
-        -- where the run goes on
-        abbrev further : Result ℕ
-        further = next (length code) x.instruction here x.next
+      -- where the run goes on
+      abbrev further : Result ℕ
+      further = next (length code) x.instruction here x.next
 
-        behind : at + (x.next - at) ≡ x.next
-        behind = omega (arith, read_next code at x table ours e passed)
+      behind : at + (x.next - at) ≡ x.next
+      behind = omega (arith, read_next code at x table ours e)
 
-        traced_found : masked_at code at here ≡ unless_marked (heeded (effect_in x.entry x.instruction).kind machine.marks) (provided answered further)
-        unfolding footprint unmarked_footprint
-        traced_found =
-            by_reading (good x.instruction (x.next - at)) (read_on code at x table ours e fits passed)
-            ∙ ap (λ (n : ℕ). map_result masked (provided (footprint 0 x.instruction here) (next (length code) x.instruction here n))) behind
-            ∙ provided-map masked (footprint 0 x.instruction here) further
-            ∙ past_marks (λ (o : Result (Plan Place Kind)). provided (map_result masked (footprint_in look (via (effect_of x.instruction)) here o)) further) (λ n. refl)
-            (heeded (effect_of x.instruction).kind machine.marks) _
-            ∙ ap (λ (o : Result (Plan Place Kind)). unless_marked (heeded (effect_of x.instruction).kind machine.marks) (provided (map_result masked (footprint_in look (via (effect_of x.instruction)) here o)) further))
-            (placed_zero (effect_of x.instruction) here)
-            ∙ ap (λ (y : Effect). unless_marked (heeded y.kind machine.marks) (provided (unmarked_footprint y here) further)) (sym (effect_found table code at x ours e passed))
+      traced_found : masked_at code at here ≡ unless_marked (heeded (effect_in x.entry x.instruction).kind machine.marks) (provided answered further)
+      unfolding footprint unmarked_footprint
+      traced_found =
+          by_reading (good x.instruction (x.next - at)) (read_on code at x table ours e fits)
+          ∙ ap (λ (n : ℕ). map_result masked (provided (footprint 0 x.instruction here) (next (length code) x.instruction here n))) behind
+          ∙ provided-map masked (footprint 0 x.instruction here) further
+          ∙ past_marks (λ (o : Result (Plan Place Kind)). provided (map_result masked (footprint_in look (via (effect_of x.instruction)) here o)) further) (λ n. refl)
+          (heeded (effect_of x.instruction).kind machine.marks) _
+          ∙ ap (λ (o : Result (Plan Place Kind)). unless_marked (heeded (effect_of x.instruction).kind machine.marks) (provided (map_result masked (footprint_in look (via (effect_of x.instruction)) here o)) further))
+          (placed_zero (effect_of x.instruction) here)
+          ∙ ap (λ (y : Effect). unless_marked (heeded y.kind machine.marks) (provided (unmarked_footprint y here) further)) (sym (effect_found table code at x ours e))
 
-        -- one of loops, by its own footprint
-        pub traced_looped : (o : Result Footprint) → (x.instruction.first ≡ escape → ⊥)
-            → o ≡ map_result (λ position. loop_footprint (x.entry / 2 ^ 24) x.instruction) (onward_by (length code) x.instruction machine.marks.zero x.next)
-            → o ≡ masked_at code at here
-        traced_looped o other p =
-            p
-            ∙ sym (traced_found
-            ∙ ap (λ (k : Kind). unless_marked (heeded k machine.marks) (provided answered further)) (kind_found table code at x ours e passed other)
-            ∙ ap (λ (y : Result Footprint). provided y further) (loop_footprint_lem x.entry x.instruction (is_looping table code at x ours e passed other) here))
+      -- one of loops, by its own footprint
+      pub traced_looped : (o : Result Footprint) → (x.instruction.first ≡ escape → ⊥)
+          → o ≡ map_result (λ position. loop_footprint (x.entry / 2 ^ 24) x.instruction) (onward_by (length code) x.instruction machine.marks.zero x.next)
+          → o ≡ masked_at code at here
+      traced_looped o other p =
+          p
+          ∙ sym (traced_found
+          ∙ ap (λ (k : Kind). unless_marked (heeded k machine.marks) (provided answered further)) (kind_found table code at x ours e other)
+          ∙ ap (λ (y : Result Footprint). provided y further) (loop_footprint_lem x.entry x.instruction (is_looping table code at x ours e other) here))
 
-        -- the number of the marks that stop it, or 0, where its first byte is 0F
-        module _ (escaped : x.instruction.first ≡ escape) (bar stop : ℕ) (found : bar ≡ barred_by machine.marks) (stopping : stop ≡ stopping_by bar (x.entry / 2 ^ 24)) where
-          stops_it_lem : stop ≡ barred_by (heeded (effect_in x.entry x.instruction).kind machine.marks)
-          stops_it_lem = stopping ∙ ap (λ (k : ℕ). stopping_by k (x.entry / 2 ^ 24)) found ∙ sym (stopped_by (x.entry / 2 ^ 24) machine.marks x.instruction.immediate)
+      -- the number of the marks that stop it, or 0, where its first byte is 0F
+      module _ (escaped : x.instruction.first ≡ escape) (bar stop : ℕ) (found : bar ≡ barred_by machine.marks) (stopping : stop ≡ stopping_by bar (x.entry / 2 ^ 24)) where
+        stops_it_lem : stop ≡ barred_by (heeded (effect_in x.entry x.instruction).kind machine.marks)
+        stops_it_lem = stopping ∙ ap (λ (k : ℕ). stopping_by k (x.entry / 2 ^ 24)) found ∙ sym (stopped_by (x.entry / 2 ^ 24) machine.marks x.instruction.immediate)
 
-          traced_behind : masked_at code at here ≡ unless_marked (heeded (effect_in x.entry x.instruction).kind machine.marks) answered
-          traced_behind =
-              traced_found
-              ∙ ap (unless_marked (heeded (effect_in x.entry x.instruction).kind machine.marks))
-              (ap (provided answered) (no_jump (length code) x.instruction here x.next (λ z. omega (arith, escaped))) ∙ provided_done answered x.next)
+        traced_behind : masked_at code at here ≡ unless_marked (heeded (effect_in x.entry x.instruction).kind machine.marks) answered
+        traced_behind =
+            traced_found
+            ∙ ap (unless_marked (heeded (effect_in x.entry x.instruction).kind machine.marks))
+            (ap (provided answered) (no_jump (length code) x.instruction here x.next (λ z. omega (arith, escaped))) ∙ provided_done answered x.next)
 
-          pub traced_barred : (stop ≡ 0 → ⊥) → refused stop ≡ masked_at code at here
-          traced_barred h = ap refused stops_it_lem ∙ sym (traced_behind ∙ barred_by_lem _ _ (λ z. h (stops_it_lem ∙ z)))
+        pub traced_barred : (stop ≡ 0 → ⊥) → refused stop ≡ masked_at code at here
+        traced_barred h = ap refused stops_it_lem ∙ sym (traced_behind ∙ barred_by_lem _ _ (λ z. h (stops_it_lem ∙ z)))
 
-          pub traced_unbarred : (r : Tracing) → stop ≡ 0 → paper_of_footprint r ≡ answered → paper_of_footprint r ≡ masked_at code at here
-          traced_unbarred r h p = p ∙ sym (traced_behind ∙ unbarred_by _ _ (sym stops_it_lem ∙ h))
+        pub traced_unbarred : (r : Tracing) → stop ≡ 0 → paper_of_footprint r ≡ answered → paper_of_footprint r ≡ masked_at code at here
+        traced_unbarred r h p = p ∙ sym (traced_behind ∙ unbarred_by _ _ (sym stops_it_lem ∙ h))
 
-pub ruleset position_rules = (rules, names_registers, is_listed_lem, traced_long, traced_code_long, traced_unread, traced_barred, traced_unbarred)
+pub ruleset position_rules = (rules, names_registers, is_listed_lem, is_looping, traced_looped, traced_long, traced_code_long, traced_unread, traced_barred, traced_unbarred)

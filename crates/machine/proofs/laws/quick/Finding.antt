@@ -1,5 +1,5 @@
 -- What is found after an opcode: two registers, or a register and memory, and perhaps a suffix, a shift's register and immediate, or nothing more.
-use Rattle.std.specs.Prelude.{◌≡◌, refl, true, List, ℕ, ◌+◌, ◌/◌, ◌^◌, ◌≤◌, ◌<◌, length, get_or, drop}
+use Rattle.std.specs.Prelude.{◌≡◌, refl, true, List, ℕ, ◌+◌, ◌/◌, ◌^◌, ◌≤◌, ◌<◌, length, get_or, drop, Result, Ok}
 use Rattle.basis.proofs.Names.{sym, ap, ap₂, ◌∙◌, add-zero, arith}
 use Rattle.codec.specs.Forms.{Form, has_operand, allows, immediate_size, accepts}
 use Rattle.codec.specs.Opcodes.{escape}
@@ -17,8 +17,8 @@ use Rattle.machine.specs.inner.Pointers.{Points}
 use Rattle.machine.specs.inner.Quick.{after_opcode}
 
 -- an instruction with this opcode, as it is found
-abbrev pub found_as : ℕ → ℕ → Operand → ℕ → ℕ → Found
-found_as entry second w immediate next = record { refusal = 0; entry = entry; instruction = instruction_of escape second w immediate; next = next }
+abbrev pub found_as : ℕ → ℕ → Operand → ℕ → ℕ → Result Found ℕ
+found_as entry second w immediate next = Ok (record { entry = entry; instruction = instruction_of escape second w immediate; next = next })
 
 module _ (entry second : ℕ) (code : List ℕ) (at : ℕ) where
   abbrev n : ℕ
@@ -39,7 +39,7 @@ module _ (entry second : ℕ) (code : List ℕ) (at : ℕ) where
 
   -- a ModRM byte, which the form has, and allows
   module _ (here : at < length code) where
-    after_modrm : (x : Found) → (n ≡ 0 → ⊥) → true ≡ has_operand form → true ≡ allows form (upper modrm) (middle modrm) (lower modrm)
+    after_modrm : (x : Result Found ℕ) → (n ≡ 0 → ⊥) → true ≡ has_operand form → true ≡ allows form (upper modrm) (middle modrm) (lower modrm)
         → x ≡ found entry (reads (sib_reader form escape second modrm) (at + 1) (drop (at + 1) code)) → x ≡ after_opcode entry second code at
     after_modrm x there has t e =
         modrm_on code at form escape second entry x true t here refl e
@@ -80,7 +80,7 @@ module _ (entry second : ℕ) (code : List ℕ) (at : ℕ) where
 
     -- a register and memory
     after_pointed : (integers : List ℕ) (p : Pointer) (from byte : ℕ) → from ≡ at + 1 → byte ≡ modrm → (t : Points p integers code from byte) → byte < 192 → 15 ≤ n
-        → (x : Found) → x ≡ found entry (reads (immediate_reader form escape second (operand_of byte t.sib t.displacement)) p.next (drop p.next code))
+        → (x : Result Found ℕ) → x ≡ found entry (reads (immediate_reader form escape second (operand_of byte t.sib t.displacement)) p.next (drop p.next code))
         → x ≡ after_opcode entry second code at
     after_pointed integers p from byte f e t b h x found_there =
         after_modrm x (λ z. omega arith) (operand_past n (omega arith)) (allowed_in_memory n _ _ _ h (λ z. omega arith))

@@ -1,11 +1,11 @@
 -- What was read and gathered at once is what the reader finds, and so it is the step. Rules for the functions that read from the start.
-use Rattle.std.specs.Prelude.{◌≡◌, refl, Bool, true, false, List, ℕ, zero, suc, ◌+◌, ◌/◌, ◌^◌, ◌≤◌, eqb, length, get_or, drop, replicate}
+use Rattle.std.specs.Prelude.{◌≡◌, refl, Bool, true, false, List, ℕ, zero, suc, ◌+◌, ◌/◌, ◌^◌, ◌≤◌, eqb, length, get_or, drop, replicate, Result, Ok}
 use Rattle.basis.proofs.Names.{sym, ap, subst, ◌∙◌, arith, rules, eq-eqb, eqb-true}
 use Rattle.codec.specs.Opcodes.{escape}
 use Rattle.codec.specs.Table.{form_of, form_in, opcode_table}
 use Rattle.codec.specs.Reader.{reads}
 use Rattle.codec.specs.Reads.{longest_code, form_reader, instruction_reader}
-use Rattle.codec.specs.Finding.{found, found_in, find_with}
+use Rattle.codec.specs.Finding.{found, entry_for, found_in, find_with}
 use Rattle.codec.specs.declared.Found.{Found}
 use Rattle.codec.specs.Answers.{Decoded, good, refused}
 use Rattle.codec.proofs.Steps.{first_on, second_found}
@@ -35,7 +35,7 @@ module _ (table code : List ℕ) (at entry : ℕ) (room : at + 3 ≤ length code
 
   module _ (A : Type 0) (work : Work) (registers integers m : List ℕ) where
     pub found_after : Unless A (QuickAfter work registers integers m entry code (at + 2)) → Unless A (Quick work registers integers m (find_with table code at))
-    found_after = follows (λ q. subst (λ (x : Found). Quick work registers integers m x) past_opcode (q.quick (get_or code (at + 1) 0)))
+    found_after = follows (λ q. subst (λ (x : Result Found ℕ). Quick work registers integers m x) past_opcode (q.quick (get_or code (at + 1) 0)))
 
     pub found_anywhere : Unless A (QuickAnywhere work registers integers entry code (at + 2)) → Unless A (Quick work registers integers m (find_with table code at))
     found_anywhere u = found_after (follows (λ q. q.quick m) u)
@@ -50,23 +50,26 @@ zeros (suc n) zero = refl
 zeros (suc n) (suc k) = zeros n k
 
 -- nothing is found in a table without an entry
-none_found : (code : List ℕ) (at : ℕ) → let x = find_with (replicate 256 0) code at in x.instruction.first ≡ escape → x.entry ≡ 0
+none_found : (code : List ℕ) (at : ℕ) (x : Found) → Ok x ≡ find_with (replicate 256 0) code at → x.instruction.first ≡ escape → x.entry ≡ 0
 unfolding find_with
-none_found code at = by (reads (instruction_reader (form_in (replicate 256 0))) at (drop at code))
+none_found code at x r = by (reads (instruction_reader (form_in (replicate 256 0))) at (drop at code)) r
   where
-    by : (z : Decoded) → let x = found_in (replicate 256 0) z in x.instruction.first ≡ escape → x.entry ≡ 0
-    by (good i n) e = simp (eq-eqb i.first escape e) (zeros 256 i.second)
-    by (refused n) e = refl
+    by : (z : Decoded) → Ok x ≡ found_in (replicate 256 0) z → x.instruction.first ≡ escape → x.entry ≡ 0
+    by (good i n) r e =
+        let is : x ≡ record { entry = entry_for (replicate 256 0) i; instruction = i; next = n } = cc in
+        let first : i.first ≡ escape = ap (λ (y : Found). y.instruction.first) (sym is) ∙ e in
+        ap (λ (y : Found). y.entry) is ∙ simp (eq-eqb i.first escape first) (zeros 256 i.second)
+    by (refused n) r e = absurd (cc)
 
 -- ---- the step
 
 module _ (quick code : List ℕ) (at : ℕ) (registers integers m : List ℕ) (bar : ℕ) (zero : Bool) (work : Work) (o : quick ≡ open_table bar)
     (u : Unless (work.what ≡ to_refuse) (Quick work registers integers m (find_with quick code at))) (answered : work.what ≡ to_refuse → ⊥) where
-  abbrev x : Found
-  x = find_with quick code at
-
-  abbrev q : Quick work registers integers m x
+  abbrev q : Quick work registers integers m (find_with quick code at)
   q = u.holds answered
+
+  abbrev x : Found
+  x = q.x
 
   shut : eqb bar 0 ≡ false → open_table bar ≡ replicate 256 0
   unfolding open_table
@@ -78,8 +81,7 @@ module _ (quick code : List ℕ) (at : ℕ) (registers integers m : List ℕ) (b
       by : (t : Bool) → eqb bar 0 ≡ t → bar ≡ 0
       by true t = eqb-true bar 0 t
       by false t =
-          let none : x.entry ≡ 0 =
-          subst (λ (l : List ℕ). (find_with l code at).instruction.first ≡ escape → (find_with l code at).entry ≡ 0) (sym (o ∙ shut t)) (none_found code at) q.escaped in
+          let none : x.entry ≡ 0 = none_found code at x (q.passed ∙ ap (λ (l : List ℕ). find_with l code at) (o ∙ shut t)) q.escaped in
           absurd (q.present (ap (λ (n : ℕ). n / 2 ^ 24) none))
 
   ours : quick ≡ opcode_table
@@ -88,7 +90,7 @@ module _ (quick code : List ℕ) (at : ℕ) (registers integers m : List ℕ) (b
 
   pub gathered_quick : length code ≤ longest_code → length m ≤ longest_memory → Gathered work registers integers bar zero code at m
   gathered_quick code_fits memory_fits =
-      gathered_sorted quick code at x ours refl registers integers m bar zero code_fits memory_fits work q.passed q.escaped _ refl (none_stops bar (x.entry / 2 ^ 24) unbarred)
-      (q.does (is_listed_lem quick code at x ours refl q.passed q.escaped))
+      gathered_sorted quick code at x ours q.passed registers integers m bar zero code_fits memory_fits work q.escaped _ refl (none_stops bar (x.entry / 2 ^ 24) unbarred)
+      (q.does (is_listed_lem quick code at x ours q.passed q.escaped))
 
 pub ruleset quickening = (rules, gathered_quick)

@@ -1,6 +1,6 @@
 -- What was found past the ModRM byte, or without one, and the work that does it: two registers, a register and memory, a shift by an immediate, EMMS.
 -- Rules for the functions that read and gather.
-use Rattle.std.specs.Prelude.{◌≡◌, refl, Bool, true, false, List, ℕ, ◌+◌, ◌/◌, ◌%◌, ◌^◌, ◌≤◌, ◌<◌, leb, length, get_or}
+use Rattle.std.specs.Prelude.{◌≡◌, refl, Bool, true, false, List, ℕ, ◌+◌, ◌/◌, ◌%◌, ◌^◌, ◌≤◌, ◌<◌, leb, length, get_or, Result}
 use Rattle.basis.proofs.Names.{sym, ap, ap₂, subst, ◌∙◌, arith, rules, ne_eqb}
 use Rattle.lanes.specs.Operations.{operation_of, described, MOVE}
 use Rattle.words.specs.Buffer.{loaded}
@@ -36,19 +36,19 @@ use Rattle.machine.proofs.laws.quick.Finding.{found_as, after_alone, after_regis
 
 -- a work that does what was found after an opcode, with any memory, and with any registers
 module _ (entry : ℕ) (code : List ℕ) (at : ℕ) (work : Work) where
-  abbrev Finds : ℕ → Found → Type 0
+  abbrev Finds : ℕ → Result Found ℕ → Type 0
   Finds second x = x ≡ after_opcode entry second code at
 
-  does_found : (registers integers m : List ℕ) (second : ℕ) (x : Found) → Finds second x → Quick work registers integers m x
+  does_found : (registers integers m : List ℕ) (second : ℕ) (x : Result Found ℕ) → Finds second x → Quick work registers integers m x
       → Quick work registers integers m (after_opcode entry second code at)
-  does_found registers integers m second x e q = subst (λ (y : Found). Quick work registers integers m y) e q
+  does_found registers integers m second x e q = subst (λ (y : Result Found ℕ). Quick work registers integers m y) e q
 
-  any_memory : (registers integers : List ℕ) (x : ℕ → Found) → ((second : ℕ) → Finds second (x second))
+  any_memory : (registers integers : List ℕ) (x : ℕ → Result Found ℕ) → ((second : ℕ) → Finds second (x second))
       → ((m : List ℕ) (second : ℕ) → Quick work registers integers m (x second)) → QuickAnywhere work registers integers entry code at
   any_memory registers integers x e q =
       record { quick = λ m. record { quick = λ second. does_found registers integers m second (x second) (e second) (q m second) } }
 
-  any_registers : (x : ℕ → Found) → ((second : ℕ) → Finds second (x second))
+  any_registers : (x : ℕ → Result Found ℕ) → ((second : ℕ) → Finds second (x second))
       → ((registers integers m : List ℕ) (second : ℕ) → Quick work registers integers m (x second)) → QuickAnyhow work entry code at
   any_registers x e q = record { quick = λ registers integers. any_memory registers integers x e (q registers integers) }
 
@@ -76,6 +76,7 @@ module _ (entry modrm : ℕ) (code : List ℕ) (at : ℕ) (here : at < length co
                 any_memory entry code at work registers integers (λ second. found_as entry second w 0 (at + 1)) found_here
                 (λ m second.
                 record {
+                  x = _;
                   passed = refl;
                   escaped = refl;
                   present = λ z. omega arith;
@@ -145,6 +146,7 @@ module _ (entry modrm : ℕ) (code : List ℕ) (at : ℕ) (here : at < length co
           any_memory entry code at work registers integers (λ second. found_as entry second w (suffix q) (at + 1 + 1)) (found_here q)
           (λ m second.
           record {
+            x = _;
             passed = refl;
             escaped = refl;
             present = λ z. omega arith;
@@ -174,6 +176,7 @@ module _ (entry modrm : ℕ) (code : List ℕ) (at : ℕ) (here : at < length co
               any_registers entry code at work (λ second. found_as entry second w v (at + 2)) found_here
               (λ registers integers m second.
               record {
+                x = _;
                 passed = refl;
                 escaped = refl;
                 present = λ z. omega arith;
@@ -200,6 +203,7 @@ module _ (entry modrm : ℕ) (code : List ℕ) (at : ℕ) (here : at < length co
       (λ second. after_alone entry second code at e (omega arith))
       (λ registers integers m second.
       record {
+        x = _;
         passed = refl;
         escaped = refl;
         present = λ z. omega arith;
@@ -221,6 +225,7 @@ module _ (entry modrm : ℕ) (code : List ℕ) (at : ℕ) (here : at < length co
             does_found entry code at work registers integers m second (found_as entry second w 0 p.next)
             (after_memory entry second code at here integers p (at + 1) modrm refl named t memory a.two a.plain)
             (record {
+              x = _;
               passed = refl;
               escaped = refl;
               present = λ z. omega (arith, a.two);
@@ -247,6 +252,7 @@ module _ (entry modrm : ℕ) (code : List ℕ) (at : ℕ) (here : at < length co
             (after_memory_suffix entry second code at here integers p (at + 1) modrm refl named t memory v is
             (ap (λ (k : ℕ). accepts (form_of k) v) is ∙ q.suffixed.listed) q.suffixed.room refl)
             (record {
+              x = _;
               passed = refl;
               escaped = refl;
               present = λ z. omega arith;

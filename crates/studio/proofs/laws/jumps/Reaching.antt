@@ -1,6 +1,6 @@
 -- Whether reading reaches a jump, as the code's loop finds it: reading from the position that the loop has come to reaches one just where reading
 -- from 0 does.
-use Rattle.std.specs.Prelude.{◌≡◌, true, false, Bool, ◌||◌, List, ℕ, ◌+◌, ◌-◌, ◌≤◌, ◌<◌, length, drop}
+use Rattle.std.specs.Prelude.{◌≡◌, true, false, Bool, ◌||◌, List, ℕ, ◌+◌, ◌-◌, ◌≤◌, ◌<◌, length, drop, Ok, Err}
 use Rattle.basis.proofs.Names.{sym, ap, ◌∙◌, arith, rules, eq-eqb, ne_eqb, lt-ltb, le-ltb, length-drop, drop-drop, drop_of_length-le}
 use Rattle.reorder.specs.Result.{done}
 use Rattle.reorder.specs.Run.{Fetched}
@@ -32,44 +32,43 @@ module _ (code : List ℕ) where
     pub ends_without : length code ≤ at → false ≡ reaches_jump code
     ends_without h = answered false (ap (reaches read is_jump) (drop_of_length-le code h))
 
-    -- what was found at the position
-    module _ (table : List ℕ) (x : Found) (ours : table ≡ opcode_table) (e : x ≡ find_with table code at) where
-      reading : read_at code at ≡ read_part (drop at code)
-      unfolding read_at
-      reading = simp (le-ltb longest_code (length code) fits)
+    reading : read_at code at ≡ read_part (drop at code)
+    unfolding read_at
+    reading = simp (le-ltb longest_code (length code) fits)
 
-      pub unread_without : (x.refusal ≡ 0 → ⊥) → false ≡ reaches_jump code
+    -- nothing was found at the position
+    pub unread_without : (n : ℕ) (table : List ℕ) → table ≡ opcode_table → Err n ≡ find_with table code at → false ≡ reaches_jump code
+    unfolding read
+    unread_without n table ours e =
+        answered false
+        (reaches_unread read local_reader is_jump (drop at code) n (ap result_of (sym (read_stop code at n table ours e fits ∙ reading))))
+
+    -- an instruction was
+    module _ (table : List ℕ) (x : Found) (ours : table ≡ opcode_table) (e : Ok x ≡ find_with table code at) where
+      abbrev found : Fetched Instruction
+      found = record { instruction = x.instruction; size = x.next - at }
+
+      stands : read (drop at code) ≡ done found
       unfolding read
-      unread_without r =
-          answered false
-          (reaches_unread read local_reader is_jump (drop at code) x.refusal (ap result_of (sym (read_stop code at x table ours e fits r ∙ reading))))
+      stands = ap result_of (sym (read_on code at x table ours e fits ∙ reading))
 
-      -- an instruction
-      module _ (passed : x.refusal ≡ 0) where
-        abbrev found : Fetched Instruction
-        found = record { instruction = x.instruction; size = x.next - at }
+      -- what is left of the code is less
+      pub nearer : length code - x.next < length code - at
+      nearer = omega (arith, local_reader.some_bytes (drop at code) found stands, length-drop at code)
 
-        stands : read (drop at code) ≡ done found
-        unfolding read
-        stands = ap result_of (sym (read_on code at x table ours e fits passed ∙ reading))
+      first : reaches read is_jump (drop at code) ≡ (is_jump x.instruction || reaches read is_jump (drop x.next code))
+      first =
+          reaches_first read local_reader is_jump (drop at code) found stands
+          ∙ ap (λ (bytes : List ℕ). is_jump x.instruction || reaches read is_jump bytes)
+          (drop-drop (x.next - at) at code ∙ ap (λ (n : ℕ). drop n code) behind)
+        where
+          behind : at + (x.next - at) ≡ x.next
+          behind = omega (arith, read_next code at x table ours e)
 
-        -- what is left of the code is less
-        pub nearer : length code - x.next < length code - at
-        nearer = omega (arith, local_reader.some_bytes (drop at code) found stands, length-drop at code)
+      pub jump_found : x.instruction.first ≡ jump_if_not_zero → true ≡ reaches_jump code
+      jump_found jump = answered true (simp (eq-eqb x.instruction.first jump_if_not_zero jump) at first)
 
-        first : reaches read is_jump (drop at code) ≡ (is_jump x.instruction || reaches read is_jump (drop x.next code))
-        first =
-            reaches_first read local_reader is_jump (drop at code) found stands
-            ∙ ap (λ (bytes : List ℕ). is_jump x.instruction || reaches read is_jump bytes)
-            (drop-drop (x.next - at) at code ∙ ap (λ (n : ℕ). drop n code) behind)
-          where
-            behind : at + (x.next - at) ≡ x.next
-            behind = omega (arith, read_next code at x table ours e passed)
-
-        pub jump_found : x.instruction.first ≡ jump_if_not_zero → true ≡ reaches_jump code
-        jump_found jump = answered true (simp (eq-eqb x.instruction.first jump_if_not_zero jump) at first)
-
-        pub passed_by : (x.instruction.first ≡ jump_if_not_zero → ⊥) → reaches read is_jump (drop x.next code) ≡ reaches read is_jump code
-        passed_by other = sym (simp (ne_eqb x.instruction.first jump_if_not_zero other) at first) ∙ same
+      pub passed_by : (x.instruction.first ≡ jump_if_not_zero → ⊥) → reaches read is_jump (drop x.next code) ≡ reaches read is_jump code
+      passed_by other = sym (simp (ne_eqb x.instruction.first jump_if_not_zero other) at first) ∙ same
 
 pub ruleset reaching = (rules, not_read, ends_without, unread_without, nearer, jump_found, passed_by)
