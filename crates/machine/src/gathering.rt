@@ -19,7 +19,7 @@ use codec::forms::{FORM, LANE, PART};
 use codec::prefixes::ESCAPE;
 use codec::{Instruction, Operand};
 use lanes::MOVE;
-use works::{EMPTY, OPERATE, PASS, REFUSE, STORE, TO_INTEGER, Work, refused, work_of};
+use works::{EMPTY, OPERATE, PASS, STORE, TO_INTEGER, Work, refused, work_of};
 
 // The refusal of the control marks, or 0, where they stop the form of an entry; else 0.
 pub(crate) fn stopping(bar: u8, entry: u32) -> u8
@@ -184,9 +184,7 @@ pub(crate) fn gathered(
     requires { (table.now ≡ opcode_table) × ((quick.now ≡ open_table bar) × ((length code.now ≤ longest_code) × (length memory.now ≤ longest_memory))) }
     ensures { Gathered result mmx.now integers.now bar zero code.now at memory.now }
 {
-    let work = quick::at_once(quick, mmx, integers, code, at, memory);
-    let what = work.what;
-    if what != REFUSE {
+    if let Some(work) = quick::at_once(quick, mmx, integers, code, at, memory) {
         return work;
     }
     let found = match codec::read_from(table, code, at) {

@@ -1,13 +1,12 @@
-// Instructions read and gathered at once. One that is to be refused has no answer here, nor have those of loops, the odd forms of manual 000 and EMMS
-// as the code's last two bytes: they are left to the reader.
-ghost use Rattle.std.specs.Prelude.{◌≡◌, ◌/◌, ◌%◌, ◌^◌, ◌≤◌, ◌<◌, length, get_or};
+// Instructions read and gathered at once. One that the reader or the memory refuses has no answer here, nor have those of loops, the odd forms of
+// manual 000 and EMMS as the code's last two bytes: they are left to the reader.
+ghost use Rattle.std.specs.Prelude.{◌≡◌, ◌/◌, ◌%◌, ◌^◌, ◌≤◌, ◌<◌, length, get_or, IfSome};
 ghost use Rattle.words.specs.Buffer.{loaded};
 ghost use Rattle.codec.specs.Forms.{is_among};
 ghost use Rattle.codec.specs.Table.{form_of};
 ghost use Rattle.codec.specs.Finding.{find_with};
-ghost use Rattle.machine.specs.inner.Pointers.{Unless};
 ghost use Rattle.machine.specs.inner.Quick.{Quick, QuickAfter, QuickAnywhere, QuickAnyhow, Within, SuffixAt, SuffixInMemory, AtAddress};
-ghost use Rattle.works.specs.Works.{to_operate, to_store, to_empty, to_refuse, work_of, refused_work};
+ghost use Rattle.works.specs.Works.{to_operate, to_store, to_empty, work_of};
 
 use crate::{gathering, pointers, shifts};
 use codec::fields::{MIDDLE, UPPER, VALUES, is_suffix};
@@ -34,25 +33,27 @@ const OPERANDS: u32 = FORM * TWO_OPERANDS;
 
 const FROM_MMX: u32 = FORM * LOAD_Q;
 
-// No answer: the instruction is left to the reader.
-fn none() -> Work
-    ensures { result ≡ refused_work 0 }
-{
-    works::refused(0)
-}
-
 // An operation on a register with so many bytes of memory.
-fn load(entry: u32, register: usize, address: usize, size: u8, next: usize, memory: &[u8]) -> Work
-    ensures { Unless (result.what ≡ to_refuse) (Within result (work_of to_operate (entry % 256) register (loaded memory.now address size) next) address size (length memory.now)) }
+#[tactic(auto, using(crate::proofs::laws::quick::Operands::answered_within, crate::proofs::laws::quick::Operands::loads_value))]
+fn load(
+    entry: u32,
+    register: usize,
+    address: usize,
+    size: u8,
+    next: usize,
+    memory: &[u8],
+) -> Option<Work>
+    ensures { IfSome result (λ work. Within work (work_of to_operate (entry % 256) register (loaded memory.now address size) next) address size (length memory.now)) }
 {
     if works::is_inside(memory.len(), address, size as usize) {
         let value = words::load(memory, address, size as usize);
-        return work_of(OPERATE, (entry % PART) as u8, register, value, next);
+        return Some(work_of(OPERATE, (entry % PART) as u8, register, value, next));
     }
-    none()
+    None
 }
 
 // A store of so many bytes of a register.
+#[tactic(auto, using(crate::proofs::laws::quick::Operands::answered_within))]
 fn store(
     mmx: &[u64; 8],
     register: usize,
@@ -60,38 +61,30 @@ fn store(
     size: u8,
     next: usize,
     room: usize,
-) -> Work
+) -> Option<Work>
     requires { register < 8 }
-    ensures { Unless (result.what ≡ to_refuse) (Within result (work_of to_store size address (get_or mmx.now register 0) next) address size room) }
+    ensures { IfSome result (λ work. Within work (work_of to_store size address (get_or mmx.now register 0) next) address size room) }
 {
     if works::is_inside(room, address, size as usize) {
-        return work_of(STORE, size, address, mmx[register], next);
+        return Some(work_of(STORE, size, address, mmx[register], next));
     }
-    none()
-}
-
-// A byte as a number of the sort that an immediate is, which a suffix is.
-fn suffix_of(byte: u8) -> u32
-    ensures { result ≡ byte }
-{
-    byte as u32
+    None
 }
 
 // The suffix at a position, with what the register held and the operand's number.
-fn suffixed(old: u64, register: usize, value: u64, code: &[u8], at: usize) -> Work
-    ensures { Unless (result.what ≡ to_refuse) (SuffixAt result old register value code.now at) }
+#[tactic(auto, using(crate::proofs::laws::quick::Operands::answered_suffix))]
+fn suffixed(old: u64, register: usize, value: u64, code: &[u8], at: usize) -> Option<Work>
+    ensures { IfSome result (λ work. SuffixAt work old register value code.now at) }
 {
-    if code.len() <= at {
-        return none();
-    }
-    let suffix = suffix_of(code[at]);
+    let suffix = u32::from(*code.get(at)?);
     if is_suffix(suffix) {
-        return works::of_suffix(suffix, old, value, register, at + 1);
+        return Some(works::of_suffix(suffix, old, value, register, at + 1));
     }
-    none()
+    None
 }
 
 // The same, with an operand in memory.
+#[tactic(auto, using(crate::proofs::laws::quick::Operands::answered_in_memory))]
 fn suffixed_in_memory(
     old: u64,
     register: usize,
@@ -99,17 +92,18 @@ fn suffixed_in_memory(
     code: &[u8],
     at: usize,
     memory: &[u8],
-) -> Work
-    ensures { Unless (result.what ≡ to_refuse) (SuffixInMemory result old register memory.now address code.now at) }
+) -> Option<Work>
+    ensures { IfSome result (λ work. SuffixInMemory work old register memory.now address code.now at) }
 {
     if works::is_inside(memory.len(), address, QUADWORD as usize) {
         let value = words::load(memory, address, QUADWORD as usize);
         return suffixed(old, register, value, code, at);
     }
-    none()
+    None
 }
 
 // An operation on an MMX register with memory.
+#[tactic(auto, using(crate::proofs::laws::quick::Operands::loads_low, crate::proofs::laws::quick::Operands::loads_quadword))]
 fn from_address(
     mmx: &[u64; 8],
     entry: u32,
@@ -117,9 +111,9 @@ fn from_address(
     address: usize,
     next: usize,
     memory: &[u8],
-) -> Work
+) -> Option<Work>
     requires { 0x14000000 ≤ entry }
-    ensures { Unless (result.what ≡ to_refuse) (AtAddress result mmx.now memory.now entry register address next) }
+    ensures { IfSome result (λ work. AtAddress work mmx.now memory.now entry register address next) }
 {
     if entry / FORM == LOW {
         return load(entry, register, address, DOUBLEWORD, next, memory);
@@ -128,6 +122,7 @@ fn from_address(
 }
 
 // A move between an MMX register and memory, by the form.
+#[tactic(auto, using(crate::proofs::laws::quick::Operands::stores_quadword, crate::proofs::laws::quick::Operands::stores_doubleword, crate::proofs::laws::quick::Operands::loads_doubleword))]
 fn at_address(
     mmx: &[u64; 8],
     entry: u32,
@@ -135,9 +130,9 @@ fn at_address(
     address: usize,
     next: usize,
     memory: &[u8],
-) -> Work
+) -> Option<Work>
     requires { (register < 8) × ((15 ≤ entry / 2 ^ 24) × ((entry / 2 ^ 24 ≡ 16 → ⊥) × (entry < 0x14000000))) }
-    ensures { Unless (result.what ≡ to_refuse) (AtAddress result mmx.now memory.now entry register address next) }
+    ensures { IfSome result (λ work. AtAddress work mmx.now memory.now entry register address next) }
 {
     let form = entry / FORM;
     if form == STORE_D {
@@ -151,13 +146,13 @@ fn at_address(
 }
 
 // EMMS, whose opcode ends here.
-fn alone(entry: u32, at: usize) -> Work
-    ensures { Unless (result.what ≡ to_refuse) ((entry / 2 ^ 24 ≡ 1) × (result ≡ work_of to_empty 0 0 0 at)) }
+fn alone(entry: u32, at: usize) -> Option<Work>
+    ensures { IfSome result (λ work. (entry / 2 ^ 24 ≡ 1) × (work ≡ work_of to_empty 0 0 0 at)) }
 {
     if entry / FORM == EMMS {
-        return work_of(EMPTY, 0, 0, 0, at);
+        return Some(work_of(EMPTY, 0, 0, 0, at));
     }
-    none()
+    None
 }
 
 // Whether a form of the shifts by an immediate has this digit (codec's own is private, since it asks for such a form).
@@ -177,58 +172,64 @@ fn has_digit(form: u32, digit: u8) -> bool
     false
 }
 
-// The shift of that number, of a register by an immediate.
-fn shift(number: u8, register: u8, immediate: u8, next: usize) -> Work
-    ensures { result ≡ work_of to_operate number register immediate next }
-{
-    work_of(OPERATE, number, register as usize, immediate as u64, next)
-}
-
 // A shift by an immediate of the register that rm names, or EMMS; no other form.
-fn shifted(entry: u32, modrm: u8, code: &[u8], at: usize) -> Work
+#[tactic(auto, using(crate::proofs::laws::quick::Working::shifts_immediate, crate::proofs::laws::quick::Working::empties))]
+fn shifted(entry: u32, modrm: u8, code: &[u8], at: usize) -> Option<Work>
     requires { (at < length code.now) × ((192 ≤ modrm) × (modrm ≡ get_or code.now at 0)) }
-    ensures { Unless (result.what ≡ to_refuse) (QuickAnyhow result entry code.now at) }
+    ensures { IfSome result (λ work. QuickAnyhow work entry code.now at) }
 {
     let form = entry / FORM;
     if form < SHIFT_WD {
         return alone(entry, at);
     }
     if SHIFT_Q < form {
-        return none();
-    }
-    if code.len() <= at + 1 {
-        return none();
+        return None;
     }
     let digit = modrm / MIDDLE % VALUES;
     if has_digit(form, digit) {
+        let immediate = *code.get(at + 1)?;
         let number = shifts::shift_number((entry / LANE % PART) as u8, digit);
-        return shift(number, modrm % VALUES, code[at + 1], at + 2);
+        return Some(work_of(
+            OPERATE,
+            number,
+            usize::from(modrm % VALUES),
+            u64::from(immediate),
+            at + 2,
+        ));
     }
-    none()
+    None
 }
 
 // A move between an MMX register and another by its form, or a form without two operands, or of memory alone.
-fn moved(mmx: &[u64; 8], integers: &[u32; 8], entry: u32, modrm: u8, code: &[u8], at: usize) -> Work
+#[tactic(auto, using(crate::proofs::laws::quick::Working::takes_integer, crate::proofs::laws::quick::Working::puts_mmx, crate::proofs::laws::quick::Working::puts_integer, crate::proofs::laws::quick::Working::suffix_behind, crate::proofs::laws::quick::Working::anyhow))]
+fn moved(
+    mmx: &[u64; 8],
+    integers: &[u32; 8],
+    entry: u32,
+    modrm: u8,
+    code: &[u8],
+    at: usize,
+) -> Option<Work>
     requires { (at < length code.now) × ((192 ≤ modrm) × (modrm ≡ get_or code.now at 0)) }
-    ensures { Unless (result.what ≡ to_refuse) (QuickAnywhere result mmx.now integers.now entry code.now at) }
+    ensures { IfSome result (λ work. QuickAnywhere work mmx.now integers.now entry code.now at) }
 {
     let register = (modrm / MIDDLE % VALUES) as usize;
     let other = (modrm % VALUES) as usize;
     let form = entry / FORM;
     if form == STORE_Q {
-        return work_of(OPERATE, MOVE, other, mmx[register], at + 1);
+        return Some(work_of(OPERATE, MOVE, other, mmx[register], at + 1));
     }
     if form == STORE_D {
-        return work_of(TO_INTEGER, 0, other, mmx[register], at + 1);
+        return Some(work_of(TO_INTEGER, 0, other, mmx[register], at + 1));
     }
     if form == LOAD_D {
-        return work_of(
+        return Some(work_of(
             OPERATE,
             (entry % PART) as u8,
             register,
             gathering::widened(integers[other]),
             at + 1,
-        );
+        ));
     }
     if form == SUFFIXED {
         return suffixed(mmx[register], register, mmx[other], code, at + 1);
@@ -237,6 +238,7 @@ fn moved(mmx: &[u64; 8], integers: &[u32; 8], entry: u32, modrm: u8, code: &[u8]
 }
 
 // A ModRM byte with mod 11.
+#[tactic(auto, using(crate::proofs::laws::quick::Working::takes_mmx))]
 fn in_registers(
     mmx: &[u64; 8],
     integers: &[u32; 8],
@@ -244,23 +246,24 @@ fn in_registers(
     modrm: u8,
     code: &[u8],
     at: usize,
-) -> Work
+) -> Option<Work>
     requires { (at < length code.now) × ((192 ≤ modrm) × (modrm ≡ get_or code.now at 0)) }
-    ensures { Unless (result.what ≡ to_refuse) (QuickAnywhere result mmx.now integers.now entry code.now at) }
+    ensures { IfSome result (λ work. QuickAnywhere work mmx.now integers.now entry code.now at) }
 {
     if FROM_MMX <= entry {
-        return work_of(
+        return Some(work_of(
             OPERATE,
             (entry % PART) as u8,
             (modrm / MIDDLE % VALUES) as usize,
             mmx[(modrm % VALUES) as usize],
             at + 1,
-        );
+        ));
     }
     moved(mmx, integers, entry, modrm, code, at)
 }
 
 // A ModRM byte with another mod, or the byte that follows EMMS.
+#[tactic(auto, using(crate::proofs::laws::quick::Working::in_place, crate::proofs::laws::quick::Working::suffix_in_place, crate::proofs::laws::quick::Working::empties_after))]
 fn in_memory(
     mmx: &[u64; 8],
     integers: &[u32; 8],
@@ -269,18 +272,15 @@ fn in_memory(
     code: &[u8],
     at: usize,
     memory: &[u8],
-) -> Work
+) -> Option<Work>
     requires { (at < length code.now) × ((modrm < 192) × (modrm ≡ get_or code.now at 0)) }
-    ensures { Unless (result.what ≡ to_refuse) (QuickAfter result mmx.now integers.now memory.now entry code.now at) }
+    ensures { IfSome result (λ work. QuickAfter work mmx.now integers.now memory.now entry code.now at) }
 {
     if entry < OPERANDS {
         return alone(entry, at);
     }
-    let pointer = pointers::pointer_at(integers, code, at + 1, modrm);
+    let pointer = pointers::pointer_at(integers, code, at + 1, modrm)?;
     let next = pointer.next;
-    if next == 0 {
-        return none();
-    }
     let register = (modrm / MIDDLE % VALUES) as usize;
     let address = pointer.address as usize;
     if FROM_MMX <= entry {
@@ -300,6 +300,7 @@ fn entry_in(table: &[u32; 256], second: u8) -> u32
 }
 
 // The instruction at a position, with a table of `works::table`.
+#[tactic(auto, using(crate::proofs::laws::quick::Joining::found_after, crate::proofs::laws::quick::Joining::found_anywhere))]
 pub(crate) fn at_once(
     quick: &[u32; 256],
     mmx: &[u64; 8],
@@ -307,17 +308,17 @@ pub(crate) fn at_once(
     code: &[u8],
     at: usize,
     memory: &[u8],
-) -> Work
-    ensures { Unless (result.what ≡ to_refuse) (Quick result mmx.now integers.now memory.now (find_with quick.now code.now at)) }
+) -> Option<Work>
+    ensures { IfSome result (λ work. Quick work mmx.now integers.now memory.now (find_with quick.now code.now at)) }
 {
     if code.len() <= at {
-        return none();
+        return None;
     }
     if code.len() < at + HEAD {
-        return none();
+        return None;
     }
     if code[at] != ESCAPE {
-        return none();
+        return None;
     }
     let entry = entry_in(quick, code[at + 1]);
     let modrm = code[at + OPCODE];

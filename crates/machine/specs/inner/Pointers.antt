@@ -9,10 +9,6 @@ use Rattle.codec.specs.Finding.{found}
 use Rattle.manual.specs.Addresses.{displacement_of, address_of, address}
 use Rattle.machine.specs.declared.pointers.Pointer.{Pointer}
 
--- something holds, unless there is no answer
-pub record Unless (none : Type 0) (something : Type 0) : Type 0 where
-  pub holds : (none → ⊥) → something
-
 -- past a displacement of so many bytes, which a mode extends, added to a start
 pub record Displaced (p : Pointer) (start mode size : ℕ) (code : List ℕ) (at : ℕ) : Type 0 where
   pub room : at + size ≤ length code

@@ -3,11 +3,11 @@
 use Rattle.basis.proofs.Names.{ap, ◌∙◌}
 use Rattle.works.specs.Works.{refused_work}
 use Rattle.machine.proofs.laws.gathering.Fetching.{names_registers, is_listed_lem, is_looping, gathered_unread, gathered_looped, gathered_barred, gathered_sorted}
-use Rattle.machine.proofs.laws.quick.Joining.{quickening}
+use Rattle.machine.proofs.laws.quick.Joining.{gathered_quick}
 use Rattle.machine.proofs.gathering.gathered.Goals as goal
 
-pub returns-then-what-ne-REFUSE : goal.returns-then-what-ne-REFUSE
-returns-then-what-ne-REFUSE c = search quickening
+pub returns-in-Some : goal.returns-in-Some
+returns-in-Some c = gathered_quick _ _ _ _ _ _ _ _ _ c.requires.1.0 c.in-Some.ensures c.requires.1.1.0 c.requires.1.1.1
 
 pub returns-in-Err : goal.returns-in-Err
 returns-in-Err c =

@@ -1,26 +1,20 @@
 -- Past the bytes of an operand in memory: what the code has read is what the reader reads, and what it has summed up is the address. Rules for the
 -- functions of pointers.
-use Rattle.std.specs.Prelude.{◌≡◌, refl, Bool, false, true, cond, List, ℕ, ◌+◌, ◌*◌, ◌/◌, ◌%◌, ◌^◌, ◌≤◌, ◌<◌, eqb, length, get_or, take, drop}
+use Rattle.std.specs.Prelude.{◌≡◌, refl, Bool, false, true, cond, List, ℕ, ◌+◌, ◌*◌, ◌/◌, ◌%◌, ◌^◌, ◌≤◌, ◌<◌, eqb, length, get_or, take, drop, Option, IfSome}
+use Rattle.std.proofs.lemmas.Option.{IfSome_then}
 use Rattle.basis.specs.Names.{some}
-use Rattle.basis.proofs.Names.{sym, ap, subst, ◌∙◌, add-zero, zero-add, add-mod-mod, mod-add-mod, mod-mod, and-false, or-false, arith, rules, eq-eqb, ne_eqb, le-leb}
+use Rattle.basis.proofs.Names.{sym, ap, subst, ◌∙◌, add-zero, zero-add, add-mod-mod, mod-add-mod, mod-mod, and-false, or-false, arith, eq-eqb, ne_eqb, le-leb}
 use Rattle.words.specs.Number.{number}
 use Rattle.words.specs.Buffer.{loaded}
 use Rattle.codec.specs.Operands.{has_sib, displacement_size, operand_of}
 use Rattle.codec.proofs.Steps.{sib_on, sib_not, displacement_on, number_1}
 use Rattle.manual.specs.Addresses.{signed_byte, displacement_of, base_of, index_of, register_part, address}
 use Rattle.machine.specs.declared.pointers.Pointer.{Pointer}
-use Rattle.machine.specs.inner.Pointers.{Unless, Displaced, Points}
+use Rattle.machine.specs.inner.Pointers.{Displaced, Points}
 use Rattle.machine.proofs.laws.addresses.Addressing.{base_is, base_is_five, no_base, sum_plain, sum_sib}
 
 abbrev pointer : ℕ → ℕ → Pointer
 pointer address next = record { address = address; next = next }
-
--- no answer, and what follows from one
-pub no_pointer : (A : Type 0) → Unless (◌≡◌ {A = ℕ} 0 0) A
-no_pointer A = record { holds = λ h. absurd (h refl) }
-
-pub follows : {none A B : Type 0} → (A → B) → Unless none A → Unless none B
-follows f u = record { holds = λ h. f (u.holds h) }
 
 module _ (start : ℕ) (code : List ℕ) (at : ℕ) where
   -- no displacement, a byte, and four bytes
@@ -35,28 +29,24 @@ module _ (start : ℕ) (code : List ℕ) (at : ℕ) where
       none true = refl
       none false = refl
 
-  pub past_byte : (A : Type 0) (modrm x r : ℕ) → 64 ≤ modrm → modrm < 128 → at < length code → x ≡ signed_byte (get_or code at 0) % 2 ^ 32
-      → r ≡ (start + x) % 2 ^ 32 → Unless A (Displaced (pointer r (at + 1)) start (modrm / 64) (displacement_size (modrm / 64) 0 0) code at)
+  pub past_byte : (modrm byte x r : ℕ) → 64 ≤ modrm → modrm < 128 → (at < length code) × ((d : ℕ) → byte ≡ get_or code at d) → x ≡ signed_byte byte % 2 ^ 32
+      → r ≡ (start + x) % 2 ^ 32 → Displaced (pointer r (at + 1)) start (modrm / 64) (displacement_size (modrm / 64) 0 0) code at
   unfolding displacement_size displacement_of
-  past_byte A modrm x r h k l e f =
+  past_byte modrm byte x r h k (l, b) e f =
       let m : modrm / 64 ≡ 1 = omega arith in
-      let d : get_or code at 0 ≡ number (take 1 (drop at code)) = number_1 code at 1 (get_or code at 0) refl (omega arith) (omega arith) in
-      record {
-        holds = λ z. simp m (record { room = omega arith; next = refl; address = f ∙ ap (λ (n : ℕ). (start + n) % 2 ^ 32) (e ∙ ap (λ (n : ℕ). signed_byte n % 2 ^ 32) d) });
-      }
+      let d : byte ≡ number (take 1 (drop at code)) = b 0 ∙ number_1 code at 1 (get_or code at 0) refl (omega arith) (omega arith) in
+      simp m (record { room = omega arith; next = refl; address = f ∙ ap (λ (n : ℕ). (start + n) % 2 ^ 32) (e ∙ ap (λ (n : ℕ). signed_byte n % 2 ^ 32) d) })
 
-  pub past_four : (A : Type 0) (d r : ℕ) → at + 4 ≤ length code → d ≡ loaded code at 4 → r ≡ (start + d) % 2 ^ 32
-      → Unless A (Displaced (pointer r (at + 4)) start 2 4 code at)
+  pub past_four : (d r : ℕ) → at + 4 ≤ length code → d ≡ loaded code at 4 → r ≡ (start + d) % 2 ^ 32
+      → Displaced (pointer r (at + 4)) start 2 4 code at
   unfolding loaded displacement_of
-  past_four A d r l e f =
+  past_four d r l e f =
       let n : d ≡ number (take 4 (drop at code)) = e ∙ simp (le-leb (at + 4) (length code) l) in
-      record {
-        holds = λ z. record { room = omega arith; next = refl; address = rw (← n) (f ∙ sym (add-mod-mod start d (2 ^ 32))) };
-      }
+      record { room = omega arith; next = refl; address = rw (← n) (f ∙ sym (add-mod-mod start d (2 ^ 32))) }
 
-  module _ (p : Pointer) (modrm : ℕ) (A : Type 0) where
-    pub past_long : Unless A (Displaced p start 2 4 code at) → 128 ≤ modrm → modrm < 192
-        → Unless A (Displaced p start (modrm / 64) (displacement_size (modrm / 64) 0 0) code at)
+  module _ (r : Option Pointer) (modrm : ℕ) where
+    pub past_long : IfSome r (λ p. Displaced p start 2 4 code at) → 128 ≤ modrm → modrm < 192
+        → IfSome r (λ p. Displaced p start (modrm / 64) (displacement_size (modrm / 64) 0 0) code at)
     unfolding displacement_size
     past_long u h k = let m : modrm / 64 ≡ 2 = omega arith in simp m u
 
@@ -85,7 +75,7 @@ module _ (base : ℕ) where
   size_plain mode h = simp (ne_eqb base 4 h, or-false)
 
 -- what the base adds to the index, at mod 00, 01 and 10
-module _ (integers : List ℕ) (base index : ℕ) (code : List ℕ) (at modrm : ℕ) (A : Type 0) where
+module _ (integers : List ℕ) (base index : ℕ) (code : List ℕ) (at modrm : ℕ) where
   abbrev mode : ℕ
   mode = modrm / 64
 
@@ -109,38 +99,35 @@ module _ (integers : List ℕ) (base index : ℕ) (code : List ℕ) (at modrm : 
     based : base_of mode base ≡ some base → start % 2 ^ 32 ≡ (register_part integers (base_of mode base) + index) % 2 ^ 32
     based e = rw (summed, e) (mod-mod (get_or integers base 0 + index) (2 ^ 32))
 
-    pub base_displaced : (p : Pointer) → 64 ≤ modrm → Unless A (Displaced p start mode (displacement_size mode 0 0) code at) → Unless A (PastBase p)
-    base_displaced p h =
+    pub base_displaced : (r : Option Pointer) → 64 ≤ modrm → IfSome r (λ p. Displaced p start mode (displacement_size mode 0 0) code at) → IfSome r PastBase
+    base_displaced r h given =
         let other : mode ≡ 0 → ⊥ = λ z. omega arith in
-        follows (λ d. from_start p start mode refl (based (base_is_five base mode other)) (rw (size_past base mode other) d))
+        IfSome_then r given (λ p d. from_start p start mode refl (based (base_is_five base mode other)) (rw (size_past base mode other) d))
 
-    pub base_bare : modrm < 64 → (base ≡ 5 → ⊥) → start < 2 ^ 32 → at ≤ length code → Unless A (PastBase (pointer start at))
+    pub base_bare : modrm < 64 → (base ≡ 5 → ⊥) → start < 2 ^ 32 → at ≤ length code → PastBase (pointer start at)
     base_bare h other fits l =
         let none : mode ≡ 0 = omega arith in
-        record {
-          holds = λ z.
-              from_start (pointer start at) start mode refl (based (base_is base mode other))
-              (subst (λ (k : ℕ). Displaced (pointer start at) start mode k code at) (sym (ap (λ (m : ℕ). displacement_size m 4 base) none ∙ size_nothing base other))
-              (past_nothing start code at mode fits l));
-        }
+        from_start (pointer start at) start mode refl (based (base_is base mode other))
+        (subst (λ (k : ℕ). Displaced (pointer start at) start mode k code at) (sym (ap (λ (m : ℕ). displacement_size m 4 base) none ∙ size_nothing base other))
+        (past_nothing start code at mode fits l))
 
-  pub base_absent : (p : Pointer) → modrm < 64 → base ≡ 5 → Unless A (Displaced p index 2 4 code at) → Unless A (PastBase p)
-  base_absent p h five =
+  pub base_absent : (r : Option Pointer) → modrm < 64 → base ≡ 5 → IfSome r (λ p. Displaced p index 2 4 code at) → IfSome r PastBase
+  base_absent r h five given =
       let none : mode ≡ 0 = omega arith in
-      follows
-      (λ d.
+      IfSome_then r given
+      (λ p d.
       from_start p index 0 (sym none) (rw (no_base base mode five none, zero-add) refl)
       (subst (λ (k : ℕ). Displaced p index 0 k code at) (sym (ap (λ (m : ℕ). displacement_size m 4 base) none ∙ size_four base five)) (bare_mode d)))
 
 -- past all that a ModRM byte asks for
-module _ (integers code : List ℕ) (at modrm : ℕ) (memory : modrm < 192) (p : Pointer) (A : Type 0) where
+module _ (integers code : List ℕ) (at modrm : ℕ) (memory : modrm < 192) (r : Option Pointer) where
   pub points_plain : (modrm % 8 ≡ 4 → ⊥)
-      → Unless A (Displaced p (register_part integers (base_of (modrm / 64) (modrm % 8)) + 0) (modrm / 64) (displacement_size (modrm / 64) 4 (modrm % 8)) code at)
-      → Unless A (Points p integers code at modrm)
+      → IfSome r (λ p. Displaced p (register_part integers (base_of (modrm / 64) (modrm % 8)) + 0) (modrm / 64) (displacement_size (modrm / 64) 4 (modrm % 8)) code at)
+      → IfSome r (λ p. Points p integers code at modrm)
   unfolding has_sib
-  points_plain plain =
-      follows
-      (λ d.
+  points_plain plain given =
+      IfSome_then r given
+      (λ p d.
       let size = displacement_size (modrm / 64) 4 (modrm % 8) in
       let v = number (take size (drop at code)) in
       record {
@@ -156,12 +143,12 @@ module _ (integers code : List ℕ) (at modrm : ℕ) (memory : modrm < 192) (p :
 
   pub points_sib : (sib x : ℕ) → modrm % 8 ≡ 4 → at < length code → sib ≡ get_or code at 0
       → x ≡ register_part integers (index_of (sib / 8 % 8)) * 2 ^ (sib / 64) % 2 ^ 32
-      → Unless A (Displaced p (register_part integers (base_of (modrm / 64) (sib % 8)) + x) (modrm / 64) (displacement_size (modrm / 64) 4 (sib % 8)) code (at + 1))
-      → Unless A (Points p integers code at modrm)
+      → IfSome r (λ p. Displaced p (register_part integers (base_of (modrm / 64) (sib % 8)) + x) (modrm / 64) (displacement_size (modrm / 64) 4 (sib % 8)) code (at + 1))
+      → IfSome r (λ p. Points p integers code at modrm)
   unfolding has_sib
-  points_sib sib x four here e scaled =
-      follows
-      (λ d.
+  points_sib sib x four here e scaled given =
+      IfSome_then r given
+      (λ p d.
       let size = displacement_size (modrm / 64) 4 (sib % 8) in
       let v = number (take size (drop (at + 1) code)) in
       let other : modrm / 64 ≡ 3 → ⊥ = λ z. omega arith in
@@ -182,9 +169,3 @@ module _ (integers code : List ℕ) (at modrm : ℕ) (memory : modrm < 192) (p :
 
 pub index_scaled : (part index scale r : ℕ) → index ≡ part → r ≡ index * 2 ^ scale % 2 ^ 32 → r ≡ part * 2 ^ scale % 2 ^ 32
 index_scaled part index scale r e h = rw (← e) h
-
-pub ruleset basing = (rules, base_displaced, base_bare, base_absent, index_scaled)
-
-pub ruleset pointing = (rules, no_pointer, points_plain, points_sib)
-
-pub ruleset displacing = (rules, no_pointer, past_byte, past_four, past_long)

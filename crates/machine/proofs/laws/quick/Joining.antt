@@ -1,6 +1,7 @@
 -- What was read and gathered at once is what the reader finds, and so it is the step. Rules for the functions that read from the start.
-use Rattle.std.specs.Prelude.{◌≡◌, refl, Bool, true, false, List, ℕ, zero, suc, ◌+◌, ◌/◌, ◌^◌, ◌≤◌, eqb, length, get_or, drop, replicate, Result, Ok}
-use Rattle.basis.proofs.Names.{sym, ap, subst, ◌∙◌, arith, rules, eq-eqb, eqb-true}
+use Rattle.std.specs.Prelude.{◌≡◌, refl, Bool, true, false, List, ℕ, zero, suc, ◌+◌, ◌/◌, ◌^◌, ◌≤◌, eqb, length, get_or, drop, replicate, Option, IfSome, Result, Ok}
+use Rattle.std.proofs.lemmas.Option.{IfSome_then}
+use Rattle.basis.proofs.Names.{sym, ap, subst, ◌∙◌, arith, eq-eqb, eqb-true}
 use Rattle.codec.specs.Opcodes.{escape}
 use Rattle.codec.specs.Table.{form_of, form_in, opcode_table}
 use Rattle.codec.specs.Reader.{reads}
@@ -12,14 +13,10 @@ use Rattle.codec.proofs.Steps.{first_on, second_found}
 use Rattle.manual.specs.State.{longest_memory}
 use Rattle.works.specs.declared.Work.{Work}
 use Rattle.works.specs.Bars.{open_table}
-use Rattle.machine.specs.inner.Pointers.{Unless}
 use Rattle.machine.specs.inner.Quick.{Quick, after_opcode, QuickAfter, QuickAnywhere}
-use Rattle.works.specs.Works.{to_refuse}
 use Rattle.machine.specs.inner.Works.{Gathered}
 use Rattle.machine.proofs.laws.gathering.Fetching.{is_listed_lem, gathered_sorted}
 use Rattle.machine.proofs.laws.gathering.Testing.{none_stops}
-use Rattle.machine.proofs.laws.pointers.Pointing.{follows}
-use Rattle.machine.proofs.laws.quick.Operands.{unanswered}
 
 -- ---- the opcode
 
@@ -33,14 +30,13 @@ module _ (table code : List ℕ) (at entry : ℕ) (room : at + 3 ≤ length code
       ap (λ (k : ℕ). found entry (reads (form_reader (form_of (entry / 2 ^ 24)) escape second) k (drop k code))) (omega arith) in
       first_on code at table x (omega arith) escaped (second_found code (at + 1) table x (omega arith) entry looked_up same)
 
-  module _ (A : Type 0) (work : Work) (registers integers m : List ℕ) where
-    pub found_after : Unless A (QuickAfter work registers integers m entry code (at + 2)) → Unless A (Quick work registers integers m (find_with table code at))
-    found_after = follows (λ q. subst (λ (x : Result Found ℕ). Quick work registers integers m x) past_opcode (q.quick (get_or code (at + 1) 0)))
+  module _ (r : Option Work) (registers integers m : List ℕ) where
+    pub found_after : IfSome r (λ work. QuickAfter work registers integers m entry code (at + 2)) → IfSome r (λ work. Quick work registers integers m (find_with table code at))
+    found_after given =
+        IfSome_then r given (λ work q. subst (λ (x : Result Found ℕ). Quick work registers integers m x) past_opcode (q.quick (get_or code (at + 1) 0)))
 
-    pub found_anywhere : Unless A (QuickAnywhere work registers integers entry code (at + 2)) → Unless A (Quick work registers integers m (find_with table code at))
-    found_anywhere u = found_after (follows (λ q. q.quick m) u)
-
-pub ruleset joining = (rules, unanswered, found_after, found_anywhere)
+    pub found_anywhere : IfSome r (λ work. QuickAnywhere work registers integers entry code (at + 2)) → IfSome r (λ work. Quick work registers integers m (find_with table code at))
+    found_anywhere given = found_after (IfSome_then r given (λ work q. q.quick m))
 
 -- ---- the table
 
@@ -64,10 +60,7 @@ none_found code at x r = by (reads (instruction_reader (form_in (replicate 256 0
 -- ---- the step
 
 module _ (quick code : List ℕ) (at : ℕ) (registers integers m : List ℕ) (bar : ℕ) (zero : Bool) (work : Work) (o : quick ≡ open_table bar)
-    (u : Unless (work.what ≡ to_refuse) (Quick work registers integers m (find_with quick code at))) (answered : work.what ≡ to_refuse → ⊥) where
-  abbrev q : Quick work registers integers m (find_with quick code at)
-  q = u.holds answered
-
+    (q : Quick work registers integers m (find_with quick code at)) where
   abbrev x : Found
   x = q.x
 
@@ -92,5 +85,3 @@ module _ (quick code : List ℕ) (at : ℕ) (registers integers m : List ℕ) (b
   gathered_quick code_fits memory_fits =
       gathered_sorted quick code at x ours q.passed registers integers m bar zero code_fits memory_fits work q.escaped _ refl (none_stops bar (x.entry / 2 ^ 24) unbarred)
       (q.does (is_listed_lem quick code at x ours q.passed q.escaped))
-
-pub ruleset quickening = (rules, gathered_quick)

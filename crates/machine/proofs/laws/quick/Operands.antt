@@ -1,6 +1,7 @@
 -- The works with two operands: an MMX register and memory by the form, and what such a work does. Rules for the functions that make them.
-use Rattle.std.specs.Prelude.{◌≡◌, refl, ◌⊎◌, Bool, true, false, ◌||◌, List, ℕ, ◌+◌, ◌/◌, ◌%◌, ◌^◌, ◌≤◌, ◌<◌, eqb, leb, length, get_or}
-use Rattle.basis.proofs.Names.{sym, ap, subst, ◌∙◌, inl, inr, false≢true, or-true, arith, rules, eq-eqb, ne_eqb, eqb-true, eqb-false}
+use Rattle.std.specs.Prelude.{◌≡◌, refl, ◌⊎◌, Bool, true, false, ◌||◌, List, ℕ, ◌+◌, ◌/◌, ◌%◌, ◌^◌, ◌≤◌, ◌<◌, eqb, leb, length, get_or, Option, IfSome}
+use Rattle.std.proofs.lemmas.Option.{IfSome_then}
+use Rattle.basis.proofs.Names.{sym, ap, subst, ◌∙◌, inl, inr, false≢true, or-true, arith, eq-eqb, ne_eqb, eqb-true, eqb-false}
 use Rattle.words.specs.Buffer.{loaded}
 use Rattle.reorder.specs.Result.{done}
 use Rattle.codec.specs.Forms.{mmreg1·mmreg2/mem64+suffix, is_among, memory_size}
@@ -12,51 +13,40 @@ use Rattle.codec.proofs.Bytes.{among}
 use Rattle.codec.proofs.FormNumbers.{in_range}
 use Rattle.works.specs.declared.Work.{Work}
 use Rattle.machine.specs.declared.ways.Way.TheVariants.{Stores}
-use Rattle.machine.specs.inner.Pointers.{Unless}
 use Rattle.machine.specs.inner.Quick.{Within, SuffixAt, SuffixInMemory, work_at, AtAddress}
 use Rattle.machine.specs.inner.Spots.{other_of, spot_of}
 use Rattle.machine.specs.inner.Ways.{is_store, way_of}
-use Rattle.works.specs.Works.{to_operate, to_store, to_empty, to_refuse, work_of, refused_work}
+use Rattle.works.specs.Works.{to_operate, to_store, work_of}
 use Rattle.works.specs.Siblings.{sibling_work, suffixed_work}
 use Rattle.machine.specs.inner.Works.{effect_in, numbers, is_listed, Listed, Does}
 use Rattle.machine.proofs.laws.gathering.Sorting.{does_store, does_load, does_compute}
 use Rattle.machine.proofs.laws.ways.Numbering.{way_streams, way_stores, way_loads, way_computes}
-use Rattle.machine.proofs.laws.pointers.Pointing.{follows}
-
--- no answer
-pub unanswered : (work : Work) (A : Type 0) → work ≡ refused_work 0 → Unless (work.what ≡ to_refuse) A
-unanswered work A e = record { holds = λ h. absurd (h (ap (λ (w : Work). w.what) e)) }
 
 -- all bytes lie in memory
-pub answered_within : (A : Type 0) (work made : Work) (address size room : ℕ) (t : Bool) → t ≡ leb (address + size) room → t ≡ true → work ≡ made
-    → Unless A (Within work made address size room)
-answered_within A work made address size room t test inside e = record { holds = λ h. record { is = e; inside = sym test ∙ inside } }
+pub answered_within : (work made : Work) (address size room : ℕ) (t : Bool) → t ≡ leb (address + size) room → t ≡ true → work ≡ made
+    → Within work made address size room
+answered_within work made address size room t test inside e = record { is = e; inside = sym test ∙ inside }
 
 pub loads_value : (work : Work) (number place value next : ℕ) (m : List ℕ) (address size : ℕ) → value ≡ loaded m address size
     → work ≡ work_of to_operate number place value next → work ≡ work_of to_operate number place (loaded m address size) next
 loads_value work number place value next m address size e w = rw (← e) w
 
-pub answered_alone : (A : Type 0) (work : Work) (n at : ℕ) → n ≡ 1 → work ≡ work_of to_empty 0 0 0 at → Unless A ((n ≡ 1) × (work ≡ work_of to_empty 0 0 0 at))
-answered_alone A work n at e w = record { holds = λ h. (e, w) }
-
 -- a suffix, where there is one
-module _ (A : Type 0) (work : Work) (old place : ℕ) (code : List ℕ) (at : ℕ) where
-  pub answered_suffix : (value suffix : ℕ) (t : Bool) → at < length code → suffix ≡ get_or code at 0 → t ≡ is_among suffix mmreg1·mmreg2/mem64+suffix.suffixes → t ≡ true
-      → work ≡ sibling_work (suffixed_of suffix).sibling old value place (at + 1) → Unless A (SuffixAt work old place value code at)
-  answered_suffix value suffix t room e test listed made =
+module _ (old place : ℕ) (code : List ℕ) (at : ℕ) where
+  pub answered_suffix : (work : Work) (value suffix : ℕ) (t : Bool) → (at < length code) × ((d : ℕ) → suffix ≡ get_or code at d)
+      → t ≡ is_among suffix mmreg1·mmreg2/mem64+suffix.suffixes → t ≡ true → work ≡ sibling_work (suffixed_of suffix).sibling old value place (at + 1)
+      → SuffixAt work old place value code at
+  answered_suffix work value suffix t (room, e) test listed made =
       record {
-        holds = λ h.
-            record {
-              room = room;
-              listed = ap (λ (k : ℕ). is_among k mmreg1·mmreg2/mem64+suffix.suffixes) (sym e) ∙ sym test ∙ listed;
-              is = made ∙ ap (λ (k : ℕ). suffixed_work k old (work_of to_operate 0 place value (at + 1))) e;
-            };
+        room = room;
+        listed = ap (λ (k : ℕ). is_among k mmreg1·mmreg2/mem64+suffix.suffixes) (sym (e 0)) ∙ sym test ∙ listed;
+        is = made ∙ ap (λ (k : ℕ). suffixed_work k old (work_of to_operate 0 place value (at + 1))) (e 0);
       }
 
-  pub answered_in_memory : (m : List ℕ) (address value : ℕ) (t : Bool) → t ≡ leb (address + 8) (length m) → t ≡ true → value ≡ loaded m address 8
-      → Unless A (SuffixAt work old place value code at) → Unless A (SuffixInMemory work old place m address code at)
-  answered_in_memory m address value t test inside e =
-      follows (λ q. record { suffixed = subst (λ (v : ℕ). SuffixAt work old place v code at) e q; inside = sym test ∙ inside })
+  pub answered_in_memory : (r : Option Work) (m : List ℕ) (address value : ℕ) (t : Bool) → t ≡ leb (address + 8) (length m) → t ≡ true → value ≡ loaded m address 8
+      → IfSome r (λ work. SuffixAt work old place value code at) → IfSome r (λ work. SuffixInMemory work old place m address code at)
+  answered_in_memory r m address value t test inside e given =
+      IfSome_then r given (λ work q. record { suffixed = subst (λ (v : ℕ). SuffixAt work old place v code at) e q; inside = sym test ∙ inside })
 
 -- what a test of two numbers tells
 either : (n a b : ℕ) → (eqb n a || eqb n b) ≡ true → (n ≡ a) ⊎ (n ≡ b)
@@ -81,26 +71,26 @@ quadwords n h =
     (λ g e. refl) (λ g e. absurd (e refl)) (λ g e. refl)
 
 -- an MMX register and memory
-module _ (A : Type 0) (registers m : List ℕ) (entry place address next : ℕ) (work : Work) where
+module _ (registers m : List ℕ) (entry place address next : ℕ) where
   abbrev n : ℕ
   n = entry / 2 ^ 24
 
   -- a load and a store of so many bytes
-  abbrev Loaded : ℕ → Type 0
-  Loaded size = Within work (work_of to_operate (entry % 256) place (loaded m address size) next) address size (length m)
+  abbrev Loaded : ℕ → Work → Type 0
+  Loaded size work = Within work (work_of to_operate (entry % 256) place (loaded m address size) next) address size (length m)
 
-  abbrev Stored : ℕ → Type 0
-  Stored size = Within work (work_of to_store size address (get_or registers place 0) next) address size (length m)
+  abbrev Stored : ℕ → Work → Type 0
+  Stored size work = Within work (work_of to_store size address (get_or registers place 0) next) address size (length m)
 
-  abbrev Addressed : Type 0
-  Addressed = AtAddress work registers m entry place address next
+  abbrev Addressed : Work → Type 0
+  Addressed work = AtAddress work registers m entry place address next
 
   module _ (size : ℕ) (two : 15 ≤ n) (plain : n ≡ 16 → ⊥) (sized : Listed entry → memory_size (form_of n) ≡ size) where
     same : (l : Listed entry) → size ≡ entry / 2 ^ 16 % 256
     same l = sym (l.sized ∙ sized l)
 
-    loads_of : is_store n ≡ false → Loaded size → Addressed
-    loads_of e v =
+    loads_of : is_store n ≡ false → (work : Work) → Loaded size work → Addressed work
+    loads_of e work v =
         record {
           two = two;
           plain = plain;
@@ -108,8 +98,8 @@ module _ (A : Type 0) (registers m : List ℕ) (entry place address next : ℕ) 
           inside = λ l. subst (λ (k : ℕ). leb (address + k) (length m) ≡ true) (same l) v.inside;
         }
 
-    stores_of : is_store n ≡ true → Stored size → Addressed
-    stores_of e v =
+    stores_of : is_store n ≡ true → (work : Work) → Stored size work → Addressed work
+    stores_of e work v =
         record {
           two = two;
           plain = plain;
@@ -117,35 +107,36 @@ module _ (A : Type 0) (registers m : List ℕ) (entry place address next : ℕ) 
           inside = λ l. subst (λ (k : ℕ). leb (address + k) (length m) ≡ true) (same l) v.inside;
         }
 
-  pub loads_low : n ≡ 21 → Unless A (Loaded 4) → Unless A Addressed
-  loads_low e = follows (loads_of 4 (omega arith) (λ z. omega arith) (λ l. ap (λ (k : ℕ). memory_size (form_of k)) e) (ap is_store e))
+  module _ (r : Option Work) where
+    pub loads_low : n ≡ 21 → IfSome r (Loaded 4) → IfSome r Addressed
+    loads_low e given = IfSome_then r given (loads_of 4 (omega arith) (λ z. omega arith) (λ l. ap (λ (k : ℕ). memory_size (form_of k)) e) (ap is_store e))
 
-  pub loads_quadword : 0x14000000 ≤ entry → (n ≡ 21 → ⊥) → Unless A (Loaded 8) → Unless A Addressed
-  loads_quadword h e =
-      let past : 20 ≤ n = omega arith in
-      follows
-      (loads_of 8 (omega arith) (λ z. omega arith) (λ l. quadwords n l.listed past e)
-      (simp (ne_eqb n 15 (λ z. omega arith), ne_eqb n 17 (λ z. omega arith), ne_eqb n 19 (λ z. omega arith))))
+    pub loads_quadword : 0x14000000 ≤ entry → (n ≡ 21 → ⊥) → IfSome r (Loaded 8) → IfSome r Addressed
+    loads_quadword h e given =
+        let past : 20 ≤ n = omega arith in
+        IfSome_then r given
+        (loads_of 8 (omega arith) (λ z. omega arith) (λ l. quadwords n l.listed past e)
+        (simp (ne_eqb n 15 (λ z. omega arith), ne_eqb n 17 (λ z. omega arith), ne_eqb n 19 (λ z. omega arith))))
 
-  pub stores_quadword : 15 ≤ n → (n ≡ 16 → ⊥) → entry < 0x14000000 → (n ≡ 17 → ⊥) → (n ≡ 18 → ⊥) → Unless A (Stored 8) → Unless A Addressed
-  stores_quadword p plain q a b = by (eqb n 15) refl
-    where
-      of : (k : ℕ) → n ≡ k → memory_size (form_of k) ≡ 8 → is_store k ≡ true → Unless A (Stored 8) → Unless A Addressed
-      of k e sized store = follows (stores_of 8 p plain (λ l. ap (λ (j : ℕ). memory_size (form_of j)) e ∙ sized) (ap is_store e ∙ store))
+    pub stores_quadword : 15 ≤ n → (n ≡ 16 → ⊥) → entry < 0x14000000 → (n ≡ 17 → ⊥) → (n ≡ 18 → ⊥) → IfSome r (Stored 8) → IfSome r Addressed
+    stores_quadword p plain q a b = by (eqb n 15) refl
+      where
+        of : (k : ℕ) → n ≡ k → memory_size (form_of k) ≡ 8 → is_store k ≡ true → IfSome r (Stored 8) → IfSome r Addressed
+        of k e sized store given = IfSome_then r given (stores_of 8 p plain (λ l. ap (λ (j : ℕ). memory_size (form_of j)) e ∙ sized) (ap is_store e ∙ store))
 
-      last : (n ≡ 15 → ⊥) → n ≤ 19 → n ≡ 19
-      last c most = in_range (λ k. (k ≡ 15 → ⊥) → (k ≡ 16 → ⊥) → (k ≡ 17 → ⊥) → (k ≡ 18 → ⊥) → k ≡ 19) 15 5 n p (omega arith)
-          (λ h. absurd (h refl), (λ g h. absurd (h refl), (λ f g h. absurd (h refl), (λ e f g h. absurd (h refl), (λ e f g h. refl, tt))))) c plain a b
+        last : (n ≡ 15 → ⊥) → n ≤ 19 → n ≡ 19
+        last c most = in_range (λ k. (k ≡ 15 → ⊥) → (k ≡ 16 → ⊥) → (k ≡ 17 → ⊥) → (k ≡ 18 → ⊥) → k ≡ 19) 15 5 n p (omega arith)
+            (λ h. absurd (h refl), (λ g h. absurd (h refl), (λ f g h. absurd (h refl), (λ e f g h. absurd (h refl), (λ e f g h. refl, tt))))) c plain a b
 
-      by : (t : Bool) → eqb n 15 ≡ t → Unless A (Stored 8) → Unless A Addressed
-      by true e = of 15 (eqb-true n 15 e) refl refl
-      by false e = of 19 (last (eqb-false n 15 e) (omega arith)) refl refl
+        by : (t : Bool) → eqb n 15 ≡ t → IfSome r (Stored 8) → IfSome r Addressed
+        by true e = of 15 (eqb-true n 15 e) refl refl
+        by false e = of 19 (last (eqb-false n 15 e) (omega arith)) refl refl
 
-  pub stores_doubleword : n ≡ 17 → Unless A (Stored 4) → Unless A Addressed
-  stores_doubleword e = follows (stores_of 4 (omega arith) (λ z. omega arith) (λ l. ap (λ (k : ℕ). memory_size (form_of k)) e) (ap is_store e))
+    pub stores_doubleword : n ≡ 17 → IfSome r (Stored 4) → IfSome r Addressed
+    stores_doubleword e given = IfSome_then r given (stores_of 4 (omega arith) (λ z. omega arith) (λ l. ap (λ (k : ℕ). memory_size (form_of k)) e) (ap is_store e))
 
-  pub loads_doubleword : n ≡ 18 → Unless A (Loaded 4) → Unless A Addressed
-  loads_doubleword e = follows (loads_of 4 (omega arith) (λ z. omega arith) (λ l. ap (λ (k : ℕ). memory_size (form_of k)) e) (ap is_store e))
+    pub loads_doubleword : n ≡ 18 → IfSome r (Loaded 4) → IfSome r Addressed
+    loads_doubleword e given = IfSome_then r given (loads_of 4 (omega arith) (λ z. omega arith) (λ l. ap (λ (k : ℕ). memory_size (form_of k)) e) (ap is_store e))
 
 -- the work of two operands does what the instruction does
 module _ (registers integers m : List ℕ) (entry : ℕ) (i : Instruction) (next : ℕ) (r : Registers i.operand) (l : Listed entry)
@@ -170,7 +161,3 @@ module _ (registers integers m : List ℕ) (entry : ℕ) (i : Instruction) (next
           let none : is_store k ≡ false = simp (g, e) in
           does_compute registers integers m entry i next r l (way_of k) refl work
           (sym (way_computes k two (eqb-false k 15 g) (neither k 17 19 e) (neither k 18 20 f) plain)) (simp none at made)
-
-pub ruleset making = (rules, unanswered, answered_within, loads_value, answered_alone, answered_suffix, answered_in_memory)
-
-pub ruleset addressed = (rules, unanswered, loads_low, loads_quadword, stores_quadword, stores_doubleword, loads_doubleword)
