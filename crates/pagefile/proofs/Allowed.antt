@@ -1,12 +1,13 @@
 -- Any two answers that the contract of a public function allows at one input are equal: both are what the definition says. Of a part of the
 -- file it is the part's bytes that are equal.
-use Rattle.std.specs.Prelude.{◌≡◌}
-use Rattle.basis.proofs.Names.{sym, ◌∙◌}
+use Rattle.std.specs.Prelude.{◌≡◌, ℕ, Result, Ok, Err}
+use Rattle.basis.proofs.Names.{sym, ap, ◌∙◌}
 use contract.Lifetimes.{Lfts}
 use borrow.Fn.Kinds.{Dens, res_t, ended_of}
 use denote.Triple.Clauses.{AtExit}
-use Rattle.pagefile.specs.declared.Page.{Page}
-use Rattle.pagefile.specs.declared.Page.TheVariants.{WellFormed, Refused}
+use Rattle.refusals.specs.declared.Refusal.{Refusal}
+use Rattle.refusals.specs.Numbers.{number_of}
+use Rattle.refusals.proofs.Distinct.{distinct}
 use Rattle.pagefile.specs.Parsing.{paper_of_page}
 use Rattle.pagefile.proofs.read.Reads as read_reads
 use Rattle.pagefile.proofs.read.Kinds as read_kinds
@@ -20,11 +21,11 @@ use Rattle.pagefile.proofs.integer_registers.Reads as integers_reads
 use Rattle.pagefile.proofs.integer_registers.Kinds as integers_kinds
 
 -- the paper's answers of two cases are equal only where the cases are
-same : (p q : Page) → paper_of_page p ≡ paper_of_page q → p ≡ q
-same (WellFormed m) (WellFormed n) e = cc
-same (WellFormed m) (Refused n) e = cc
-same (Refused m) (WellFormed n) e = cc
-same (Refused m) (Refused n) e = cc
+same : (p q : Result ℕ Refusal) → paper_of_page p ≡ paper_of_page q → p ≡ q
+same (Ok m) (Ok n) e = cc
+same (Ok m) (Err r) e = cc
+same (Err r) (Ok n) e = cc
+same (Err r) (Err s) e = let numbers : number_of r ≡ number_of s = cc in ap (λ (x : Refusal). Err x) (distinct r s numbers)
 
 pub read_one : (κs : Lfts 1) (a : Dens κs read_kinds.ps) (r₁ r₂ : (res_t read_kinds.r κs).Denot)
     (s₁ s₂ : AtExit (ended_of 1 read_kinds.ps read_kinds.r) κs)

@@ -1,6 +1,6 @@
 -- What the tests of a field at the front tell: they all hold, and the field takes its heading and its contents; or it takes no byte.
-use Rattle.std.specs.Prelude.{◌≡◌, refl, Bool, true, false, ◌&&◌, List, [], ◌⊎◌, ℕ, ◌+◌, ◌-◌, ◌≤◌, eqb, leb, length, get_or, take, drop}
-use Rattle.basis.proofs.Names.{inl, inr, arith, eqb-true, leb-true, eq-eqb, le-leb}
+use Rattle.std.specs.Prelude.{◌≡◌, refl, Bool, true, false, ◌&&◌, List, [], ◌⊎◌, ℕ, ◌+◌, ◌≤◌, eqb, leb, length, get_or}
+use Rattle.basis.proofs.Names.{inl, inr, eqb-true, leb-true, eq-eqb, le-leb}
 use Rattle.words.proofs.Laws.{and_both}
 use Rattle.pagefile.specs.Fields.{may_hold}
 use Rattle.pagefile.specs.Parsing.{length_in, contents_in, stands, size, holds}
@@ -23,34 +23,20 @@ module _ (tag : ℕ) (s : List ℕ) where
       let all : stands tag s ≡ true = rw (eq-eqb _ _ same, le-leb _ _ fits) right in
       record { tagged = same; within = fits; allowed = right; sized = rw all; held = rw all }
 
-  pub front : Stands tag s ⊎ Missing tag s
+  pub stood : stands tag s ≡ true → Stands tag s
   unfolding size holds
+  stood all =
+      let (first, right) = and_both (eqb (get_or s 0 0) tag && leb (3 + length_in s) (length s)) (may_hold tag (contents_in s)) all in
+      let (same, fits) = and_both (eqb (get_or s 0 0) tag) (leb (3 + length_in s) (length s)) first in
+      standing (eqb-true (get_or s 0 0) tag same) (leb-true (3 + length_in s) (length s) fits) right
+
+  pub lacking : stands tag s ≡ false → Missing tag s
+  unfolding size holds
+  lacking fails = record { sized = rw fails; held = rw fails }
+
+  pub front : Stands tag s ⊎ Missing tag s
   front = go (stands tag s) refl
     where
       go : (t : Bool) → stands tag s ≡ t → Stands tag s ⊎ Missing tag s
-      go true all =
-          let (first, right) = and_both (eqb (get_or s 0 0) tag && leb (3 + length_in s) (length s)) (may_hold tag (contents_in s)) all in
-          let (same, fits) = and_both (eqb (get_or s 0 0) tag) (leb (3 + length_in s) (length s)) first in
-          inl (standing (eqb-true (get_or s 0 0) tag same) (leb-true (3 + length_in s) (length s) fits) right)
-      go false fails = inr (record { sized = rw fails; held = rw fails })
-
-  pub size-within : size tag s ≤ length s
-  size-within = go front
-    where
-      go : Stands tag s ⊎ Missing tag s → size tag s ≤ length s
-      go (inl f) = omega arith
-      go (inr m) = omega arith
-
-  pub size_some : (size tag s ≡ 0 → ⊥) → 3 ≤ size tag s
-  size_some = go front
-    where
-      go : Stands tag s ⊎ Missing tag s → (size tag s ≡ 0 → ⊥) → 3 ≤ size tag s
-      go (inl f) h = omega arith
-      go (inr m) h = absurd (h m.sized)
-
-  pub holds_sized : holds tag s ≡ take (size tag s - 3) (drop 3 s)
-  holds_sized = go front
-    where
-      go : Stands tag s ⊎ Missing tag s → holds tag s ≡ take (size tag s - 3) (drop 3 s)
-      go (inl f) = let less : size tag s - 3 ≡ length_in s = omega arith in rw (f.held, less)
-      go (inr m) = rw (m.held, m.sized)
+      go true all = inl (stood all)
+      go false fails = inr (lacking fails)

@@ -1,9 +1,9 @@
--- The parts of a file, by what the code has found: whether it is well formed, where a tag's field starts, and where that ends.
-use Rattle.std.specs.Prelude.{◌≡◌, refl, Bool, true, false, not, List, [], ℕ, ◌+◌, ◌-◌, ◌≤◌, ◌<◌, eqb, length, get_or, take, drop}
-use Rattle.basis.proofs.Names.{sym, ap, ◌∙◌, arith, eq-eqb, ne_eqb, eqb-true, eqb-false, le-leb, lt-leb, not-true, not-false, length-drop, get_or-eq_default, drop-drop}
-use Rattle.pagefile.specs.Parsing.{size, remaining, well_formed, contents_of, malformed, well_formed_with, refused_with, page_of}
-use Rattle.pagefile.proofs.Fronts.{holds_sized}
-use Rattle.pagefile.proofs.Places.{places}
+-- The parts of a file, by what the code has found: whether it is well formed, and whether a tag's field stands where its tag comes.
+use Rattle.std.specs.Option.{unwrap_or}
+use Rattle.std.specs.Prelude.{Option, None, Some, MatchOption, ◌≡◌, Bool, true, false, not, List, [], ℕ, ◌-◌, ◌≤◌, ◌<◌, eqb, length, get_or}
+use Rattle.basis.proofs.Names.{sym, ap, ◌∙◌, arith, rules, le-leb, lt-leb, not-true, not-false, get_or-eq_default}
+use Rattle.pagefile.specs.Parsing.{contents_in, stands, remaining, well_formed, contents_of, malformed, well_formed_with, refused_with, page_of}
+use Rattle.pagefile.proofs.Fronts.{stood, lacking}
 
 -- whether the file is well formed
 module _ (file : List ℕ) where
@@ -11,14 +11,9 @@ module _ (file : List ℕ) where
   unfolding well_formed
   too_long long = rw (lt-leb _ _ long)
 
-  ends_there : (end : ℕ) → end ≤ length file → (t : Bool) → eqb end (length file) ≡ t → t ≡ eqb (length file - end) 0
-  ends_there end within true e = sym (eq-eqb (length file - end) 0 (omega (arith, eqb-true end (length file) e)))
-  ends_there end within false e = sym (ne_eqb _ _ (λ (none : length file - end ≡ 0). eqb-false end (length file) e (omega arith)))
-
-  pub nothing_remaining : (end : ℕ) → drop end file ≡ remaining 5 file → end ≤ length file → length file ≤ 65536 → eqb end (length file) ≡ well_formed file
+  pub nothing_remaining : (rest : List ℕ) → rest ≡ remaining 5 file → length file ≤ 65536 → eqb (length rest) 0 ≡ well_formed file
   unfolding well_formed
-  nothing_remaining end rest within short =
-      rw (le-leb _ _ short, ← rest, length-drop) (ends_there end within (eqb end (length file)) refl)
+  nothing_remaining rest here short = rw (le-leb _ _ short, here)
 
 -- the contents of a tag's field
 module _ (file : List ℕ) (tag : ℕ) (good : Bool) (tested : good ≡ well_formed file) where
@@ -26,15 +21,20 @@ module _ (file : List ℕ) (tag : ℕ) (good : Bool) (tested : good ≡ well_for
   unfolding contents_of
   no_part bad = rw (← tested, not-true good bad)
 
-  module _ (at end : ℕ) (here : drop at file ≡ remaining (tag - 1) file) (ends : end ≡ at + size tag (drop at file)) where
-    pub part : not good ≡ false → take (end - (at + 3)) (drop (at + 3) file) ≡ contents_of tag file
+  module _ (rest : List ℕ) (here : rest ≡ remaining (tag - 1) file) (right : not good ≡ false) where
+    pub held_part : (part : List ℕ) → stands tag rest ≡ true → part ≡ contents_in rest → part ≡ contents_of tag file
     unfolding contents_of
-    part right =
-        let less : end - (at + 3) ≡ size tag (drop at file) - 3 = omega arith in
-        rw (← tested, not-false good right, ← here, holds_sized tag (drop at file), drop-drop 3 at file, less)
+    held_part part all same = rw (← tested, not-false good right, ← here, (stood tag rest all).held) same
 
-    pub absent : not good ≡ false → end ≡ at → [] ≡ contents_of tag file
-    absent right none = let less : end - (at + 3) ≡ 0 = omega arith in rw less at (part right)
+    pub missing_part : (part : List ℕ) → stands tag rest ≡ false → part ≡ [] → part ≡ contents_of tag file
+    unfolding contents_of
+    missing_part part fails none = rw (← tested, not-false good right, ← here, (lacking tag rest fails).held) none
+
+    pub either_part : {A : Type 0} (now : A → List ℕ) (found : Option A) (none : A) → now none ≡ []
+        → MatchOption found (stands tag rest ≡ false) (λ part. (stands tag rest ≡ true) × (now part ≡ contents_in rest))
+        → now (unwrap_or found none) ≡ contents_of tag file
+    either_part now None none empty fails = missing_part (now none) fails empty
+    either_part now (Some part) none empty (all, same) = held_part (now part) all same
 
 -- the answer
 module _ (file : List ℕ) (good : Bool) (tested : good ≡ well_formed file) where
@@ -50,4 +50,4 @@ module _ (file : List ℕ) (good : Bool) (tested : good ≡ well_formed file) wh
     pub unmarked : length marks ≡ 0 → well_formed_with 0 ≡ page_of file
     unmarked none = ap well_formed_with (sym (get_or-eq_default marks 0 (omega arith))) ∙ marked
 
-pub ruleset parts = (places, too_long, nothing_remaining, no_part, absent, part, refused, marked, unmarked)
+pub ruleset parts = (rules, too_long, nothing_remaining, no_part, held_part, missing_part, refused, marked, unmarked)

@@ -1,78 +1,62 @@
--- Where a field ends that starts at a place of the file, by the tests that the code makes there: what remains from the place on is `drop at file`.
-use Rattle.std.specs.Prelude.{◌≡◌, refl, Bool, true, false, List, ℕ, ◌+◌, ◌-◌, ◌≤◌, ◌<◌, length, get_or, take, drop}
-use Rattle.basis.proofs.Names.{sym, ap, ◌∙◌, and-false, add-zero, add-sub_cancel_left, add-one, arith, rules, ne_eqb, lt-leb, length-drop, get_or-drop, drop-drop}
-use Rattle.words.specs.Number.{number}
+-- Whether a field stands at the front of what remains of a file, by the tests that the code makes there, and what remains after it.
+use Rattle.std.specs.Prelude.{◌≡◌, refl, true, false, List, ℕ, ◌+◌, ◌-◌, ◌≤◌, ◌<◌, length, get_or, take, drop}
+use Rattle.basis.proofs.Names.{sym, ap, ◌∙◌, and-false, add-one, arith, rules, eq-eqb, le-leb, lt-leb, length-drop, length-take-le, take_all}
 use Rattle.words.specs.Buffer.{loaded}
 use Rattle.words.proofs.Laws.{loaded-inside}
 use Rattle.pagefile.specs.Fields.{may_hold}
 use Rattle.pagefile.specs.Parsing.{length_in, contents_in, stands, size, remaining}
-use Rattle.pagefile.proofs.Fronts.{standing, size-within, size_some}
+use Rattle.pagefile.proofs.Fronts.{stood, lacking}
 
-module _ (file : List ℕ) (tag at : ℕ) where
-  none : stands tag (drop at file) ≡ false → at ≡ at + size tag (drop at file)
-  unfolding size
-  none fails = rw fails (sym (add-zero at))
+-- what stands behind a field's heading
+module _ (rest : List ℕ) (tag n : ℕ) (headed : 3 ≤ length rest) (read : n ≡ loaded rest 1 2) where
+  abbrev after : List ℕ
+  after = take (length rest - 3) (drop 3 rest)
 
-  tag_at : get_or (drop at file) 0 0 ≡ get_or file at 0
-  tag_at = get_or-drop at file 0 0 ∙ ap (λ (i : ℕ). get_or file i 0) (add-zero at)
+  counted : length_in rest ≡ n
+  counted = sym (read ∙ loaded-inside rest 1 2 (omega arith) (omega arith))
 
-  length_at : 3 ≤ length file - at → loaded file (at + 1) 2 ≡ length_in (drop at file)
-  length_at room =
-      loaded-inside file (at + 1) 2 (omega arith) (omega arith) ∙ ap (λ (s : List ℕ). number (take 2 s)) (sym (drop-drop 1 at file))
+  all_after : after ≡ drop 3 rest
+  all_after = take_all (length rest - 3) (drop 3 rest) (omega (arith, length-drop 3 rest))
 
-  pub too_short : length file - at < 3 → at ≡ at + size tag (drop at file)
-  too_short short =
-      let less : length (drop at file) < 3 + length_in (drop at file) = simp length-drop (omega arith) in
-      none (simp (lt-leb _ _ less, and-false))
+  pub contents_at : take n after ≡ contents_in rest
+  contents_at = rw (counted, all_after)
 
-  pub other_tag : (get_or file at 0 ≡ tag → ⊥) → at ≡ at + size tag (drop at file)
-  other_tag other = none (simp (tag_at, ne_eqb _ _ other))
+  pub runs_past : length after < n → stands tag rest ≡ false
+  runs_past cut =
+      let less : length rest < 3 + n = omega (arith, ap length all_after, length-drop 3 rest) in
+      simp (counted, lt-leb _ _ less, and-false)
 
-  module _ (n : ℕ) (read : n ≡ loaded file (at + 1) 2) (room : 3 ≤ length file - at) where
-    counted : length_in (drop at file) ≡ n
-    counted = sym (read ∙ length_at room)
+  pub wrong_contents : may_hold tag (take n after) ≡ false → stands tag rest ≡ false
+  wrong_contents wrong = let none : may_hold tag (contents_in rest) ≡ false = rw contents_at at wrong in simp (none, and-false)
 
-    contents_at : contents_in (drop at file) ≡ take (at + 3 + n - (at + 3)) (drop (at + 3) file)
-    contents_at = rw (counted, drop-drop 3 at file, add-sub_cancel_left (at + 3) n)
+  pub field_stands : get_or rest 0 0 ≡ tag → n ≤ length after → may_hold tag (take n after) ≡ true → stands tag rest ≡ true
+  field_stands same within right =
+      let enough : 3 + length_in rest ≤ length rest = omega (arith, counted, ap length all_after, length-drop 3 rest) in
+      let allowed : may_hold tag (contents_in rest) ≡ true = rw contents_at at right in
+      rw (eq-eqb _ _ same, le-leb _ _ enough) allowed
 
-    pub runs_past : length file - at - 3 < n → at ≡ at + size tag (drop at file)
-    runs_past cut =
-        let less : length (drop at file) < 3 + n = simp length-drop (omega arith) in
-        none (simp (counted, lt-leb _ _ less, and-false))
+-- what remains behind the field, and where there is none
+module _ (rest : List ℕ) (tag : ℕ) where
+  pub after_standing : (contents : List ℕ) → stands tag rest ≡ true → contents ≡ contents_in rest
+      → take (length rest - (3 + length contents)) (drop (3 + length contents) rest) ≡ drop (size tag rest) rest
+  after_standing contents all same =
+      let field = stood tag rest all in
+      let long : length contents ≡ length_in rest = ap length same ∙ length-take-le (length_in rest) (drop 3 rest) (omega (arith, field.within, length-drop 3 rest)) in
+      let sized : 3 + length contents ≡ size tag rest = omega (arith, field.sized) in
+      rw sized (take_all (length rest - size tag rest) (drop (size tag rest) rest) (omega (arith, length-drop (size tag rest) rest)))
 
-    module _ (fits : Bool) (asked : fits ≡ may_hold tag (take (at + 3 + n - (at + 3)) (drop (at + 3) file))) where
-      allowed : may_hold tag (contents_in (drop at file)) ≡ fits
-      allowed = ap (may_hold tag) contents_at ∙ sym asked
+  pub after_none : stands tag rest ≡ false → rest ≡ drop (size tag rest) rest
+  after_none fails = rw (lacking tag rest fails).sized
 
-      pub wrong_contents : fits ≡ false → at ≡ at + size tag (drop at file)
-      wrong_contents wrong = none (simp (allowed, wrong, and-false))
-
-      pub whole_field : fits ≡ true → get_or file at 0 ≡ tag → n ≤ length file - at - 3 → at + 3 + n ≡ at + size tag (drop at file)
-      whole_field right same within =
-          let enough : 3 + length_in (drop at file) ≤ length (drop at file) = simp (length-drop, counted) (omega arith) in
-          let field = standing tag (drop at file) (tag_at ∙ same) enough (allowed ∙ right) in omega (arith, counted)
-
--- a field's end lies in the file, and past its heading where the field is there
-module _ (file : List ℕ) (tag at end : ℕ) (ends : end ≡ at + size tag (drop at file)) where
-  pub end_within : at ≤ length file → end ≤ length file
-  end_within within = omega (arith, size-within tag (drop at file), length-drop at file)
-
-  pub past_heading : (end ≡ at → ⊥) → at + 3 ≤ end
-  past_heading some = omega (arith, size_some tag (drop at file) (λ none. some (omega arith)))
-
--- what remains of the file from the place on: all, then one field less, until all tags are read
+-- what remains of a file: all, then a field less
 pub none_read : (file : List ℕ) → file ≡ remaining 0 file
 unfolding remaining
 none_read file = refl
 
-module _ (file : List ℕ) (at read : ℕ) (here : drop at file ≡ remaining read file) where
-  pub one_read : (end : ℕ) → end ≡ at + size (read + 1) (drop at file) → drop end file ≡ remaining (read + 1) file
-  unfolding remaining
-  one_read end ends = rw (ends, ← drop-drop (size (read + 1) (drop at file)) at file, here, add-one read)
+pub one_read : (file rest : List ℕ) (tag : ℕ) → rest ≡ remaining tag file → drop (size (tag + 1) rest) rest ≡ remaining (tag + 1) file
+unfolding remaining
+one_read file rest tag here = rw (here, add-one tag)
 
-  pub all_read : (tag : ℕ) → read ≤ tag → tag ≤ read → drop at file ≡ remaining tag file
-  all_read tag most least = let all : read ≡ tag = omega arith in rw all at here
+pub ruleset fields = (rules, contents_at, runs_past, wrong_contents, field_stands, after_standing, after_none)
 
-pub ruleset ends = (rules, too_short, other_tag, runs_past, wrong_contents, whole_field)
-
-pub ruleset places = (rules, end_within, past_heading, none_read, one_read, all_read)
+pub ruleset remains = (rules, none_read, one_read)

@@ -1,10 +1,10 @@
 -- How a page file is parsed: each tag's field, from 01 to 05, is taken off the front of what remains, where it stands there. The file is well
 -- formed where nothing remains in the end.
-use Rattle.std.specs.Prelude.{Bool, cond, ◌&&◌, List, [], ℕ, zero, suc, ◌+◌, ◌-◌, eqb, leb, length, get_or, take, drop}
+use Rattle.std.specs.Prelude.{Bool, cond, ◌&&◌, List, [], ℕ, zero, suc, ◌+◌, ◌-◌, eqb, leb, length, get_or, take, drop, Result, Ok, Err}
+use Rattle.refusals.specs.declared.Refusal.{Refusal}
+use Rattle.refusals.specs.Numbers.{number_of}
 use Rattle.words.specs.Number.{number}
 use Rattle.pagefile.specs.Fields.{may_hold}
-use Rattle.pagefile.specs.declared.Page.{Page}
-use Rattle.pagefile.specs.declared.Page.TheVariants.{WellFormed, Refused}
 
 -- the length after a field's tag, and as many bytes after that
 abbrev pub length_in : List ℕ → ℕ
@@ -66,6 +66,6 @@ unfoldable pub page_of : List ℕ → Parsed
 page_of file = cond (well_formed file) (well_formed_with (get_or (marks_of file) 0 0)) (refused_with malformed)
 
 -- the paper's answer for each case of the code's
-abbrev pub paper_of_page : Page → Parsed
-paper_of_page (WellFormed marks) = well_formed_with marks
-paper_of_page (Refused number) = refused_with number
+abbrev pub paper_of_page : Result ℕ Refusal → Parsed
+paper_of_page (Ok marks) = well_formed_with marks
+paper_of_page (Err refusal) = refused_with (number_of refusal)

@@ -1,11 +1,13 @@
 // The page file: whether it is well formed, and which part of it holds the code, the memory and the registers.
 #![tactic(auto)]
 
-ghost use Rattle.std.specs.Prelude.{◌≡◌, ◌+◌, ◌<◌, ◌≤◌, length, drop};
+ghost use Rattle.std.specs.Prelude.{◌≡◌, ◌<◌, length, drop, true, false, MatchOption};
 ghost use Rattle.pagefile.specs.Fields.{may_hold};
-ghost use Rattle.pagefile.specs.Parsing.{size, remaining, well_formed, contents_of, code_of, memory_of, mmx_of, integers_of, page_of, paper_of_page};
+ghost use Rattle.pagefile.specs.Parsing.{contents_in, stands, size, remaining, well_formed, contents_of, code_of, memory_of, mmx_of, integers_of, page_of, paper_of_page};
 
-// The tags of the five fields.
+use refusals::Refusal;
+
+// The tags of the five fields: numbers, and no enum, since the tags up to one are counted, and each is compared with a byte of the file.
 const CODE: u8 = 1;
 
 const MEMORY: u8 = 2;
@@ -34,116 +36,99 @@ const MARKS_LIMIT: u8 = 32;
 // The bytes of the longest file.
 pub const LONGEST_FILE: usize = 65536;
 
-// The refusal of a malformed file.
-const MALFORMED: u8 = 13;
-
-// What a file is: well formed, with its marks; or refused, with the refusal's number.
-#[derive(Clone, Copy)]
-pub enum Page {
-    WellFormed(u8),
-    Refused(u8),
-}
-
 // Whether a field of this tag may have these contents.
+#[tactic(auto, unfolding(crate::specs::Fields::may_hold))]
 fn may_hold(tag: u8, contents: &[u8]) -> bool
     ensures { result ≡ may_hold tag contents.now }
 {
-    if tag == MMX_REGISTERS {
-        return contents.len() == MMX_BYTES;
+    match tag {
+        MMX_REGISTERS => contents.len() == MMX_BYTES,
+        INTEGER_REGISTERS => contents.len() == INTEGER_BYTES,
+        MARKS => contents.len() == MARKS_BYTES && contents[0] < MARKS_LIMIT,
+        _ => true,
     }
-    if tag == INTEGER_REGISTERS {
-        return contents.len() == INTEGER_BYTES;
-    }
-    if tag == MARKS {
-        if contents.len() == MARKS_BYTES {
-            return contents[0] < MARKS_LIMIT;
-        }
-        return false;
-    }
-    true
 }
 
-// Where the field of this tag ends that starts at a place; the place itself, where no such field starts there.
-fn field_end(file: &[u8], tag: u8, at: usize) -> usize
-    requires { at ≤ length file.now }
-    ensures { result ≡ at + size tag (drop at file.now) }
+// The contents of the field of this tag, if one stands at the front of what remains of a file.
+#[tactic(auto, using(crate::proofs::Places::fields))]
+fn field(rest: &[u8], tag: u8) -> Option<&[u8]>
+    ensures { MatchOption result (stands tag rest.now ≡ false) (λ contents. (stands tag rest.now ≡ true) × (contents.now ≡ contents_in rest.now)) }
 {
-    let room = file.len() - at;
-    if room < HEADING_BYTES {
-        return at;
+    if rest.len() < HEADING_BYTES || rest[0] != tag {
+        return None;
     }
-    if file[at] != tag {
-        return at;
+    let count = words::load(rest, 1, LENGTH_BYTES) as usize;
+    let after = &rest[HEADING_BYTES..];
+    if after.len() < count {
+        return None;
     }
-    let count = words::load(file, at + 1, LENGTH_BYTES) as usize;
-    if room - HEADING_BYTES < count {
-        return at;
-    }
-    let start = at + HEADING_BYTES;
-    let end = start + count;
-    if may_hold(tag, &file[start..end]) {
-        end
+    let contents = &after[..count];
+    if may_hold(tag, contents) {
+        Some(contents)
     } else {
-        at
+        None
     }
 }
 
-// Where the fields of the tags up to this one end.
-fn fields_end(file: &[u8], tag: u8) -> usize
-    ensures { (drop result file.now ≡ remaining tag file.now) × (result ≤ length file.now) }
+// What remains without that field.
+#[tactic(auto, using(crate::proofs::Places::fields))]
+fn after_field(rest: &[u8], tag: u8) -> &[u8]
+    ensures { result.now ≡ drop (size tag rest.now) rest.now }
 {
-    let mut at: usize = 0;
-    let mut read: u8 = 0;
-    while read < tag {
-        read += 1;
-        at = field_end(file, read, at);
+    match field(rest, tag) {
+        Some(contents) => &rest[HEADING_BYTES + contents.len()..],
+        None => rest,
     }
-    at
+}
+
+// What remains of a file after the fields of the tags up to this one.
+#[tactic(auto, using(crate::proofs::Places::remains))]
+fn remaining(file: &[u8], tag: u8) -> &[u8]
+    ensures { result.now ≡ remaining tag file.now }
+{
+    let mut rest = file;
+    for before in 0..tag {
+        rest = after_field(rest, before + 1);
+    }
+    rest
 }
 
 // Whether a file is no longer than allowed, and its fields leave nothing over.
+#[tactic(auto, using(crate::proofs::Parts::parts))]
 fn well_formed(file: &[u8]) -> bool
     ensures { result ≡ well_formed file.now }
 {
-    if LONGEST_FILE < file.len() {
-        return false;
-    }
-    fields_end(file, MARKS) == file.len()
+    file.len() <= LONGEST_FILE && remaining(file, MARKS).is_empty()
 }
 
 // The contents of the field of this tag, as the part of the file that they stand in. No bytes, where the field is absent or the file malformed.
+#[tactic(auto, using(crate::proofs::Parts::parts))]
 fn contents(file: &[u8], tag: u8) -> &[u8]
     requires { 0 < tag }
     ensures { result.now ≡ contents_of tag file.now }
 {
     if !well_formed(file) {
-        return &file[0..0];
+        return &[];
     }
-    let at = fields_end(file, tag - 1);
-    let end = field_end(file, tag, at);
-    if end == at {
-        return &file[0..0];
-    }
-    let start = at + HEADING_BYTES;
-    &file[start..end]
+    field(remaining(file, tag - 1), tag).unwrap_or(&[])
 }
 
-// Whether a file is well formed. The marks are 0 where their field is absent.
-pub fn read(file: &[u8]) -> Page
+// The marks of a well-formed file, 0 where their field is absent.
+#[tactic(auto, using(crate::proofs::Parts::parts))]
+pub fn read(file: &[u8]) -> Result<u8, Refusal>
     ensures { paper_of_page result ≡ page_of file.now }
 {
     if !well_formed(file) {
-        return Page::Refused(MALFORMED);
+        return Err(Refusal::Malformed);
     }
-    let marks = contents(file, MARKS);
-    if marks.len() == 0 {
-        Page::WellFormed(0)
-    } else {
-        Page::WellFormed(marks[0])
+    match contents(file, MARKS) {
+        [marks, ..] => Ok(*marks),
+        [] => Ok(0),
     }
 }
 
 // The code of a file: no bytes, where the field is absent or the file malformed. So it is with the other parts.
+// The four have one form, and no parameter for the tag: each is public, and docs/PROMISES.md names it.
 pub fn code(file: &[u8]) -> &[u8]
     ensures { result.now ≡ code_of file.now }
 {

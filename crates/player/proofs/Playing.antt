@@ -1,6 +1,6 @@
 -- What is printed of a page, piece by piece: each text is the definition's in the case that the code has reached.
-use Rattle.std.specs.Prelude.{◌≡◌, refl, List, ◌++◌, ℕ, ◌-◌, ◌≤◌, ◌<◌, length, take, drop}
-use Rattle.basis.proofs.Names.{sym, sub-zero, lt-ltb, le-ltb, take-append_seam, take-length}
+use Rattle.std.specs.Prelude.{◌≡◌, refl, List, ℕ, ◌≤◌, ◌<◌, length}
+use Rattle.basis.proofs.Names.{sym, rules, lt-ltb, le-ltb}
 use Rattle.manual.specs.State.{State, longest_memory}
 use Rattle.manual.specs.Runs.{run_of}
 use Rattle.codec.specs.Refusals.{code_too_long}
@@ -13,9 +13,7 @@ use Rattle.machine.specs.declared.Ran.{Ran}
 use Rattle.machine.specs.State.{state_of}
 use Rattle.machine.specs.Starts.{start_of}
 use Rattle.machine.specs.Runs.{paper_of_end, paper_of_run}
-use Rattle.pagefile.specs.declared.Page.{Page}
-use Rattle.pagefile.specs.declared.Page.TheVariants.{WellFormed, Refused}
-use Rattle.pagefile.specs.Parsing.{code_of, memory_of, mmx_of, integers_of, page_of, paper_of_page}
+use Rattle.pagefile.specs.Parsing.{code_of, memory_of, mmx_of, integers_of, well_formed_with, refused_with, page_of}
 use Rattle.printout.specs.Lines.{report_text, refusal_text}
 use Rattle.printout.specs.Printing.{Printed, printed}
 use Rattle.player.specs.Page.{budget, state_text, answer_text, run_in, well_formed_text, page_text}
@@ -36,39 +34,24 @@ unfolding state_text run_in
 run_of_parts file memory after mmx integers code buffer marks machine ran p m i start c run told =
     rw (sym m, sym i, sym start, sym c, sym run, answer_text_lem ran.end ran.at ran.count (state_of ran.machine after)) told
 
--- the copy of a memory, at the start of a buffer
-pub run_of_copy : (file memory before after buffer : List ℕ) (n marks : ℕ) (p : Printed)
-    → n ≡ length memory → after ≡ take (length memory) memory ++ drop (length memory) before
-    → p ≡ printed (answer_text (run_in (take (n - 0) after) marks file)) buffer
-    → p ≡ printed (answer_text (run_in memory marks file)) buffer
-run_of_copy file memory before after buffer n marks p count copied told = rw front at told
-  where
-    front : take (n - 0) after ≡ memory
-    front = rw (sub-zero, count, copied, take-length) (take-append_seam memory (drop (length memory) before))
-
--- a well-formed page
-module _ (file memory buffer : List ℕ) (marks : ℕ) (p : Printed) (m : memory ≡ memory_of file) where
-  pub long_memory : longest_memory < length memory → p ≡ printed (refusal_text memory_too_long) buffer → p ≡ printed (well_formed_text marks file) buffer
-  unfolding well_formed_text
-  long_memory long told = rw (sym m, lt-ltb _ _ long) told
+-- a well-formed page, by what its reading answers
+module _ (file memory : List ℕ) (marks : ℕ) (m : memory ≡ memory_of file) (read : well_formed_with marks ≡ page_of file) where
+  pub long_memory : longest_memory < length memory → page_text file ≡ refusal_text memory_too_long
+  unfolding page_text well_formed_text
+  long_memory long = rw (← read, ← m, lt-ltb _ _ long)
 
   module _ (code : List ℕ) (c : code ≡ code_of file) (short : length memory ≤ longest_memory) where
-    pub long_code : longest_code < length code → p ≡ printed (refusal_text code_too_long) buffer → p ≡ printed (well_formed_text marks file) buffer
-    unfolding well_formed_text
-    long_code long told = rw (sym m, sym c, le-ltb _ _ short, lt-ltb _ _ long) told
+    pub long_code : longest_code < length code → page_text file ≡ refusal_text code_too_long
+    unfolding page_text well_formed_text
+    long_code long = rw (← read, ← m, ← c, le-ltb _ _ short, lt-ltb _ _ long)
 
-    pub page_run : length code ≤ longest_code → p ≡ printed (answer_text (run_in memory marks file)) buffer → p ≡ printed (well_formed_text marks file) buffer
-    unfolding well_formed_text
-    page_run short' told = rw (sym m, sym c, le-ltb _ _ short, le-ltb _ _ short') told
+    pub page_run : length code ≤ longest_code → page_text file ≡ answer_text (run_in (memory_of file) marks file)
+    unfolding page_text well_formed_text
+    page_run short' = rw (← read, ← m, ← c, le-ltb _ _ short, le-ltb _ _ short')
 
--- a page, by what its reading answers
-module _ (file buffer : List ℕ) (page : Page) (number : ℕ) (p : Printed) (read : paper_of_page page ≡ page_of file) where
-  pub well_formed_lem : page ≡ WellFormed number → p ≡ printed (well_formed_text number file) buffer → p ≡ printed (page_text file) buffer
-  unfolding page_text
-  well_formed_lem is told = rw (sym read, is) told
+-- a malformed one
+pub refused_text : (file : List ℕ) (number : ℕ) → refused_with number ≡ page_of file → page_text file ≡ refusal_text number
+unfolding page_text
+refused_text file number read = rw (← read)
 
-  pub malformed : page ≡ Refused number → p ≡ printed (refusal_text number) buffer → p ≡ printed (page_text file) buffer
-  unfolding page_text
-  malformed is told = rw (sym read, is) told
-
-pub ruleset playing = (long_memory, long_code, page_run, well_formed_lem, malformed)
+pub ruleset admitting = (rules, long_memory, long_code, page_run, refused_text)

@@ -1,14 +1,17 @@
 // From a page file to what is printed of it.
 #![tactic(auto)]
 
-ghost use Rattle.std.specs.Prelude.{◌≡◌, ◌≤◌, length};
+ghost use Rattle.std.specs.Prelude.{◌≡◌, ◌≤◌, length, IfOk, IfErr};
+ghost use Rattle.refusals.specs.Numbers.{number_of};
+ghost use Rattle.manual.specs.State.{longest_memory};
+ghost use Rattle.pagefile.specs.Parsing.{memory_of};
+ghost use Rattle.printout.specs.Lines.{refusal_text};
 ghost use Rattle.printout.specs.Printing.{printing, printed};
-ghost use Rattle.player.specs.Page.{answer_text, run_in, well_formed_text, page_text};
+ghost use Rattle.player.specs.Page.{answer_text, run_in, page_text};
 
 use codec::LONGEST_CODE;
 use machine::Machine;
-use machine::refusals::{LONGEST_MEMORY, MEMORY_TOO_LONG};
-use pagefile::Page;
+use machine::refusals::LONGEST_MEMORY;
 use refusals::Refusal;
 
 // The instructions that a page may run.
@@ -17,10 +20,15 @@ const BUDGET: u32 = 4096;
 // A page may write every byte of its memory.
 const FLOOR: usize = 0;
 
-// Runs a page's code in a memory, and prints.
-fn run(file: &[u8], marks: u8, memory: &mut [u8], out: &mut [u8]) -> usize
-    ensures { printing result out.new ≡ printed (answer_text (run_in memory.old marks file.now)) out.old }
+// Runs a page's code in a copy of its memory, at the start of a buffer, and prints.
+#[tactic(auto, using(crate::proofs::Playing::run_of_parts))]
+fn run(file: &[u8], marks: u8, buffer: &mut [u8], out: &mut [u8]) -> usize
+    requires { length (memory_of file.now) ≤ length buffer.old }
+    ensures { printing result out.new ≡ printed (answer_text (run_in (memory_of file.now) marks file.now)) out.old }
 {
+    let given = pagefile::memory(file);
+    let memory = &mut buffer[..given.len()];
+    memory.copy_from_slice(given);
     let machine = Machine::from_page(
         pagefile::mmx_registers(file),
         pagefile::integer_registers(file),
@@ -30,30 +38,21 @@ fn run(file: &[u8], marks: u8, memory: &mut [u8], out: &mut [u8]) -> usize
     printout::report(out, ran, memory)
 }
 
-// The same in a copy of the memory, at the start of a buffer.
-fn run_copied(file: &[u8], marks: u8, memory: &[u8], buffer: &mut [u8], out: &mut [u8]) -> usize
-    requires { length memory.now ≤ length buffer.old }
-    ensures { printing result out.new ≡ printed (answer_text (run_in memory.now marks file.now)) out.old }
+// The marks of a page that may be run; or its refusal, by 13 before 1, and by 1 before 2.
+#[tactic(auto, using(crate::proofs::Playing::admitting))]
+fn admitted(file: &[u8]) -> Result<u8, Refusal>
+    ensures short { IfOk result (λ marks. length (memory_of file.now) ≤ longest_memory) }
+    ensures runs { IfOk result (λ marks. page_text file.now ≡ answer_text (run_in (memory_of file.now) marks file.now)) }
+    ensures refused { IfErr result (λ refusal. page_text file.now ≡ refusal_text (number_of refusal)) }
 {
-    let n = memory.len();
-    buffer[0..n].copy_from_slice(memory);
-    run(file, marks, &mut buffer[0..n], out)
-}
-
-// What is printed of a well-formed page.
-#[tactic(auto, using(crate::proofs::Playing::playing))]
-fn play_well_formed(file: &[u8], marks: u8, out: &mut [u8]) -> usize
-    ensures { printing result out.new ≡ printed (well_formed_text marks file.now) out.old }
-{
-    let memory = pagefile::memory(file);
-    if LONGEST_MEMORY < memory.len() {
-        return printout::refusal(out, MEMORY_TOO_LONG);
+    let marks = pagefile::read(file)?;
+    if LONGEST_MEMORY < pagefile::memory(file).len() {
+        return Err(Refusal::MemoryTooLong);
     }
     if LONGEST_CODE < pagefile::code(file).len() {
-        return printout::refusal(out, Refusal::CodeTooLong.number());
+        return Err(Refusal::CodeTooLong);
     }
-    let mut buffer = [0u8; LONGEST_MEMORY];
-    run_copied(file, marks, memory, &mut buffer, out)
+    Ok(marks)
 }
 
 // All that is printed of a page file goes to the start of a buffer, and the answer is how many bytes that is. A buffer that is shorter stays as
@@ -61,8 +60,8 @@ fn play_well_formed(file: &[u8], marks: u8, out: &mut [u8]) -> usize
 pub fn play(file: &[u8], out: &mut [u8]) -> usize
     ensures { printing result out.new ≡ printed (page_text file.now) out.old }
 {
-    match pagefile::read(file) {
-        Page::WellFormed(marks) => play_well_formed(file, marks, out),
-        Page::Refused(number) => printout::refusal(out, number),
+    match admitted(file) {
+        Ok(marks) => run(file, marks, &mut [0; LONGEST_MEMORY], out),
+        Err(refusal) => printout::refusal(out, refusal.number()),
     }
 }
