@@ -1,6 +1,6 @@
 -- How long each piece of the text is: a number as its digits are, a line of a register 5 characters more than its digits, a byte 3.
-use Rattle.std.specs.Prelude.{◌≡◌, refl, Bool, true, false, List, [], ◌∷◌, ℕ, suc, ◌+◌, ◌*◌, length, take, drop}
-use Rattle.basis.proofs.Names.{mul-suc, arith, length-append, length-take, length-drop}
+use Rattle.std.specs.Prelude.{map, replicate, ◌≡◌, refl, Bool, true, false, List, [], ◌∷◌, ℕ, suc, ◌+◌, ◌*◌, length}
+use Rattle.basis.proofs.Names.{mul-suc, arith, length-append}
 use Rattle.machine.specs.declared.End.{End}
 use Rattle.machine.specs.declared.End.TheVariants.{Done, Spent, Refused}
 use Rattle.printout.specs.Characters.{places, decimal}
@@ -37,14 +37,16 @@ length-memory_line : (n : ℕ) → length (memory_line n) ≡ places n n + 8
 unfolding memory_line
 length-memory_line n = simp (length-append, length-decimal) (omega arith)
 
-length-register_lines : (names : List ℕ) (k : ℕ) (values : List ℕ) → length names ≡ 4 * length values
+-- of names of four characters
+length-register_lines : (names : List (List ℕ)) (k : ℕ) (values : List ℕ) → map length names ≡ replicate (length values) 4
     → length (register_lines names k values) ≡ (5 + k) * length values
 unfolding register_lines
 length-register_lines names k [] four = omega arith
-length-register_lines names k (v ∷ vs) four =
-    let name : length (take 4 names) ≡ 4 = simp length-take (omega arith) in
-    let rest : length (drop 4 names) ≡ 4 * length vs = simp length-drop (omega arith) in
-    simp (length-append, length_digits, name, length-register_lines (drop 4 names) k vs rest, mul-suc) (omega arith)
+length-register_lines [] k (v ∷ vs) four = cc
+length-register_lines (name ∷ names) k (v ∷ vs) four =
+    let first : length name ≡ 4 = cc in
+    let rest : map length names ≡ replicate (length vs) 4 = cc in
+    simp (length-append, length_digits, first, length-register_lines names k vs rest, mul-suc) (omega arith)
 
 length-byte_lines : (i : ℕ) (memory : List ℕ) → length (byte_lines i memory) ≡ 3 * length memory
 unfolding byte_lines
@@ -71,8 +73,8 @@ pub length_report : (ending : End) (count position : ℕ) (mmx integers : List �
     → length (report_text ending count position mmx integers valid zero memory) ≡ report_length ending count position (length memory)
 unfolding report_text mmx_lines integer_lines
 length_report ending count position mmx integers valid zero memory eight eight' =
-    let mmx_lines_lem = length-register_lines mmx_names 16 mmx (omega arith) in
-    let integer_lines_lem = length-register_lines integer_names 8 integers (omega arith) in
+    let mmx_lines_lem = length-register_lines mmx_names 16 mmx (rw eight refl) in
+    let integer_lines_lem = length-register_lines integer_names 8 integers (rw eight' refl) in
     simp length-append (omega (arith, mmx_lines_lem, integer_lines_lem, length-tags_line valid, length-zero_line zero, length-byte_lines 0 memory))
 
 -- the report's, from the characters that are counted of its numbers

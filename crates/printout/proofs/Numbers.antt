@@ -1,8 +1,9 @@
 -- The digits of a number: how many there are, and one more from the end.
-use Rattle.std.specs.Prelude.{◌≡◌, refl, Bool, true, false, cond, List, [], ◌∷◌, ℕ, zero, suc, ◌+◌, ◌-◌, ◌/◌, ◌%◌, ◌^◌, ◌≤◌, ◌<◌, ltb, length, set}
-use Rattle.basis.proofs.Names.{◌∙◌, mod-lt, pow-suc, arith, rules, lt-ltb, le-ltb, length-append}
+use Rattle.std.specs.Prelude.{◌≡◌, refl, Bool, true, false, cond, List, [], ◌∷◌, ℕ, zero, suc, ◌+◌, ◌-◌, ◌*◌, ◌/◌, ◌%◌, ◌^◌, ◌≤◌, ◌<◌, ltb, length, set, max}
+use Rattle.basis.proofs.Names.{◌∙◌, mod-lt, pow-suc, one-le-pow, arith, rules, lt-ltb, le-ltb, length-append}
 use Rattle.printout.specs.Characters.{digit_of, digits, places}
-use Rattle.printout.specs.inner.Room.{put, Puts}
+use Rattle.printout.specs.declared.put.Writer.{Writer}
+use Rattle.printout.specs.inner.Room.{put, Fits, Puts}
 use Rattle.printout.proofs.Putting.{put_after}
 
 pub length_digits : (base k n : ℕ) → length (digits base k n) ≡ k
@@ -10,6 +11,9 @@ unfolding digits
 length_digits base zero n = refl
 length_digits base (suc k) n =
     length-append (digits base k (n / base)) (digit_of (n % base) ∷ []) ∙ omega (arith, length_digits base k (n / base))
+
+pub digits_room : (base count number : ℕ) (u : Writer) → Fits (digits base count number) u → u.written + count ≤ length u.out.now
+digits_room base count number u fits = omega (arith, fits.room, length_digits base count number)
 
 -- a digit to a base of at most 16
 pub digit_small : (n base : ℕ) → 0 < base → base ≤ 16 → n % base < 16
@@ -26,27 +30,21 @@ module _ (out out₀ : List ℕ) (at base count number remaining rest : ℕ)
       let place : at + (remaining - 1) ≡ at + length (digits base (remaining - 1) (rest / base)) = omega (arith, length_digits base (remaining - 1) (rest / base)) in
       rw is (put_after out (digits base (remaining - 1) (rest / base)) at (at + (remaining - 1)) (digit_of (rest % base)) place ∙ (rw last at same))
 
-  pub all_digits : remaining ≤ 0 → Puts (digits base count number) at out₀ (at + count) out
+  pub all_digits : remaining ≤ 0 → out ≡ put out₀ at (digits base count number)
   unfolding put digits
-  all_digits none =
-      let empty : remaining ≡ 0 = omega arith in record { ends = omega (arith, length_digits base count number); content = rw empty at same }
+  all_digits none = let empty : remaining ≡ 0 = omega arith in rw empty at same
 
--- a number below ten has one digit, another one more than its tenth
-places_one : (most n : ℕ) → n < 10 → places most n ≡ 1
-unfolding places
-places_one zero n less = refl
-places_one (suc most) n less = rw (lt-ltb _ _ less)
-
-places_more : (most n : ℕ) → 10 ≤ n → n ≤ most → places most n ≡ 1 + places (most - 1) (n / 10)
-unfolding places
-places_more zero n ten enough = absurd (omega arith)
-places_more (suc most) n ten enough =
-    let before : suc most - 1 ≡ most = omega arith in rw (le-ltb _ _ ten, before) (omega arith)
+-- so they are put
+pub all_put : (base count number : ℕ) (u v : Writer) → v.out.ghost_name ≡ u.out.ghost_name → v.written ≡ u.written + count
+    → v.out.now ≡ put u.out.now u.written (digits base count number) → Puts (digits base count number) u v
+all_put base count number u v same ends content =
+    record { same = same; ends = omega (arith, length_digits base count number); content = content }
 
 -- a number below 10 ^ (k + 1) has at most k + 1 digits
 pub places_most : (k most n : ℕ) → n < 10 ^ suc k → places most n ≤ suc k
 unfolding places
-places_most zero most n less = omega (arith, places_one most n (omega (arith, pow-suc 10 0)))
+places_most zero zero n less = omega arith
+places_most zero (suc most) n less = let few : n < 10 = omega (arith, pow-suc 10 0) in rw (lt-ltb _ _ few) (omega arith)
 places_most (suc k) zero n less = omega arith
 places_most (suc k) (suc most) n less =
     go (ltb n 10) (places_most k most (n / 10) (omega (arith, pow-suc 10 (suc k))))
@@ -55,21 +53,26 @@ places_most (suc k) (suc most) n less =
     go true fewer = omega arith
     go false fewer = omega arith
 
--- digits are counted off: those counted and those of the rest are all, and the rest has fallen as often as was counted
-pub count_starts : (number : ℕ) → places (number + 1 - 1) number + 1 ≡ places number number + 1
-count_starts number = let whole : number + 1 - 1 ≡ number = omega arith in rw whole
+-- and one from 10 ^ k on has at least as many
+places_least : (k most n : ℕ) → 10 ^ k ≤ n → n ≤ most → suc k ≤ places most n
+unfolding places
+places_least zero zero n enough within = omega arith
+places_least zero (suc most) n enough within = go (ltb n 10)
+  where
+    go : (t : Bool) → 1 ≤ cond t 1 (suc (places most (n / 10)))
+    go true = omega arith
+    go false = omega arith
+places_least (suc k) zero n enough within = absurd (omega (arith, one-le-pow (suc k) 10 (omega arith)))
+places_least (suc k) (suc most) n enough within =
+    let ten : 10 ≤ n = omega (arith, pow-suc 10 k, one-le-pow k 10 (omega arith)) in
+    rw (le-ltb _ _ ten) (omega (arith, places_least k most (n / 10) (omega (arith, pow-suc 10 k)) (omega arith)))
 
-module _ (number count rest : ℕ) (counted : places (number + 1 - count) rest + count ≡ places number number + 1) where
-  pub count_more : 10 ≤ rest → rest + count ≤ number + 1
-      → places (number + 1 - (count + 1)) (rest / 10) + (count + 1) ≡ places number number + 1
-  count_more ten enough =
-      let next : number + 1 - count - 1 ≡ number + 1 - (count + 1) = omega arith in
-      omega (arith, rw next at (places_more (number + 1 - count) rest ten (omega arith)))
+-- so the places of a number are one more than its logarithm
+pub places_log : (k n : ℕ) → 10 ^ k ≤ max n 1 → max n 1 < 10 * 10 ^ k → k + 1 ≡ places n n
+unfolding places
+places_log zero zero least most = refl
+places_log (suc k) zero least most = absurd (omega (arith, pow-suc 10 k, one-le-pow k 10 (omega arith)))
+places_log k (suc n) least most =
+    omega (arith, places_least k (suc n) (suc n) (omega arith) (omega arith), places_most k (suc n) (suc n) (omega (arith, pow-suc 10 k)))
 
-  pub count_ends : rest < 10 → count ≡ places number number
-  count_ends less = omega (arith, places_one (number + 1 - count) rest less)
-
-  pub count_few : rest < 10 → number < 2 ^ 64 → count ≤ 20
-  count_few less fits = omega (arith, count_ends less, places_most 19 number number (omega arith))
-
-pub ruleset numbers = (rules, lt-ltb, le-ltb, digit_small, more_digits, all_digits, count_starts, count_more, count_ends, count_few)
+pub ruleset numbers = (rules, digits_room, all_put, lt-ltb, le-ltb, digit_small, more_digits, all_digits, places_log)

@@ -1,8 +1,10 @@
 -- Texts that are put one after the other are one text: each starts where the one before it ends. And what remains of a text, put, gives the whole.
-use Rattle.std.specs.Prelude.{◌≡◌, refl, List, [], ◌∷◌, ◌++◌, ℕ, suc, ◌+◌, length, set}
+use Rattle.std.specs.Prelude.{◌≡◌, refl, List, [], ◌∷◌, ◌++◌, ℕ, suc, ◌+◌, ◌-◌, ◌≤◌, length, set, take, drop}
 use Rattle.basis.specs.Names.{sets}
-use Rattle.basis.proofs.Names.{sym, ap, ◌∙◌, add-zero, add-suc, suc-add, arith, rules, length-append, length-sets, set_comm}
+use Rattle.basis.proofs.Names.{sym, ap, ◌∙◌, add-zero, add-suc, suc-add, arith, rules, length-append, length-sets, set_comm, sets-eq, add-sub_cancel_left, append_assoc, drop-drop}
 use Rattle.words.proofs.Laws.{sets-append}
+use borrow.Rule.Slice.PartMut.{put_mid}
+use Rattle.printout.specs.declared.put.Writer.{Writer}
 use Rattle.printout.specs.inner.Room.{put, Fits, Puts}
 
 put-append : (l xs ys : List ℕ) (at p : ℕ) → p ≡ at + length xs → put l at (xs ++ ys) ≡ put (put l at xs) p ys
@@ -13,66 +15,77 @@ length-put : (l : List ℕ) (at : ℕ) (xs : List ℕ) → length (put l at xs) 
 unfolding put
 length-put l at xs = length-sets l at xs
 
--- one character
-pub puts_one : (l : List ℕ) (at x : ℕ) → Puts (x ∷ []) at l (at + 1) (set l at x)
+-- one character, and a part of the buffer that a word is copied to
+pub puts_one : (l : List ℕ) (at x : ℕ) → set l at x ≡ put l at (x ∷ [])
 unfolding put
-puts_one l at x = record { ends = refl; content = refl }
+puts_one l at x = refl
+
+pub puts_part : (l word part : List ℕ) (at : ℕ) → at + length word ≤ length l → part ≡ word → put_mid at (at + length word - at) l part ≡ put l at word
+unfolding put
+puts_part l word part at room same = rw (same, sets-eq word l at room, add-sub_cancel_left at (length word), drop-drop (length word) at l) (sym (append_assoc (take at l) word (drop (at + length word) l)))
 
 -- one text, then another
-pub then : {xs ys l m n : List ℕ} {at p q : ℕ} → Puts xs at l p m → Puts ys p m q n → Puts (xs ++ ys) at l q n
-then {xs} {ys} {l} {m} {n} {at} {p} {q} one two = record {
+pub then : {xs ys : List ℕ} {u v w : Writer} → Puts xs u v → Puts ys v w → Puts (xs ++ ys) u w
+then {xs} {ys} {u} {v} {w} one two = record {
+  same = two.same ∙ one.same;
   ends = omega (arith, one.ends, two.ends, length-append xs ys);
-  content = two.content ∙ ap (λ (k : List ℕ). put k p ys) one.content ∙ sym (put-append l xs ys at p one.ends);
+  content =
+      two.content ∙ ap (λ (k : List ℕ). put k v.written ys) one.content ∙ sym (put-append u.out.now xs ys u.written v.written one.ends);
 }
 
 -- where texts fit, so does the first, after it the second, and after both the third
-pub fits_first : {xs l : List ℕ} (ys : List ℕ) {at : ℕ} → Fits (xs ++ ys) at l → Fits xs at l
-fits_first {xs} {l} ys {at} both = record { room = omega (arith, both.room, length-append xs ys) }
+pub fits_first : {xs : List ℕ} (ys : List ℕ) {u : Writer} → Fits (xs ++ ys) u → Fits xs u
+fits_first {xs} ys {u} both = record { room = omega (arith, both.room, length-append xs ys) }
 
-pub fits_next : {xs ys l m : List ℕ} {at p : ℕ} → Puts xs at l p m → Fits (xs ++ ys) at l → Fits ys p m
-fits_next {xs} {ys} {l} {m} {at} {p} one both = record {
+pub fits_next : {xs ys : List ℕ} {u v : Writer} → Puts xs u v → Fits (xs ++ ys) u → Fits ys v
+fits_next {xs} {ys} {u} {v} one both = record {
   room = omega (arith, one.ends, both.room, length-append xs ys, simp length-put at (ap length one.content));
 }
 
-pub fits_third : {xs ys zs l m n : List ℕ} {at p q : ℕ} → Puts ys p m q n → Puts xs at l p m → Fits (xs ++ ys ++ zs) at l → Fits zs q n
+pub fits_third : {xs ys zs : List ℕ} {u v w : Writer} → Puts ys v w → Puts xs u v → Fits (xs ++ ys ++ zs) u → Fits zs w
 fits_third two one all = fits_next (then one two) all
 
-pub ruleset chain = (rules, puts_one, fits_first, fits_next, fits_third, then)
+pub ruleset chain = (rules, puts_one, puts_part, fits_first, fits_next, fits_third, then)
 
 -- a text by another name
-pub fits_as : {xs ys l : List ℕ} {at : ℕ} → Fits xs at l → xs ≡ ys → Fits ys at l
+pub fits_as : {xs ys : List ℕ} {u : Writer} → Fits xs u → xs ≡ ys → Fits ys u
 fits_as fits same = rw same at fits
 
-pub puts_as : {xs ys l m : List ℕ} {at p : ℕ} → Puts ys at l p m → xs ≡ ys → Puts xs at l p m
+pub puts_as : {xs ys : List ℕ} {u v : Writer} → Puts ys u v → xs ≡ ys → Puts xs u v
 puts_as puts same = rw same puts
 
--- what remains to put, put at a place, gives the whole
-pub record Remaining (rest : List ℕ) (p : ℕ) (m : List ℕ) (whole : List ℕ) (at : ℕ) (l : List ℕ) : Type 0 where
-  pub ends : p + length rest ≡ at + length whole
-  pub content : put m p rest ≡ put l at whole
+-- what remains to put, put behind the rest, gives the whole
+pub record Remaining (rest : List ℕ) (now : Writer) (whole : List ℕ) (start : Writer) : Type 0 where
+  pub same : now.out.ghost_name ≡ start.out.ghost_name
+  pub ends : now.written + length rest ≡ start.written + length whole
+  pub content : put now.out.now now.written rest ≡ put start.out.now start.written whole
 
-pub all-remaining : (l : List ℕ) (at : ℕ) (whole : List ℕ) → Remaining whole at l whole at l
-all-remaining l at whole = record { ends = refl; content = refl }
+pub all-remaining : (start : Writer) (whole : List ℕ) → Remaining whole start whole start
+all-remaining start whole = record { same = refl; ends = refl; content = refl }
 
-pub less_remaining : {rest xs ys l m n whole : List ℕ} {at p q : ℕ} → Puts xs p m q n → Remaining rest p m whole at l → rest ≡ xs ++ ys
-    → Remaining ys q n whole at l
-less_remaining {rest} {xs} {ys} {l} {m} {n} {whole} {at} {p} {q} one more e = record {
+pub less_remaining : {rest xs ys whole : List ℕ} {u v w : Writer} → Puts xs v w → Remaining rest v whole u → rest ≡ xs ++ ys → Remaining ys w whole u
+less_remaining {rest} {xs} {ys} {whole} {u} {v} {w} one more e = record {
+  same = one.same ∙ more.same;
   ends = omega (arith, more.ends, one.ends, simp length-append at (ap length e));
   content =
-      ap (λ (k : List ℕ). put k q ys) one.content ∙ sym (put-append m xs ys p q one.ends)
-      ∙ ap (put m p) (sym e) ∙ more.content;
+      ap (λ (k : List ℕ). put k w.written ys) one.content ∙ sym (put-append v.out.now xs ys v.written w.written one.ends)
+      ∙ ap (put v.out.now v.written) (sym e) ∙ more.content;
 }
 
-pub none_remaining : {rest l m whole : List ℕ} {at p : ℕ} → Remaining rest p m whole at l → rest ≡ [] → Puts whole at l p m
+pub none_remaining : {rest whole : List ℕ} {u v : Writer} → Remaining rest v whole u → rest ≡ [] → Puts whole u v
 unfolding put
-none_remaining {rest} {l} {m} {whole} {at} {p} remaining e =
-    record { ends = omega (arith, remaining.ends, ap length e); content = ap (put m p) (sym e) ∙ remaining.content }
+none_remaining {rest} {whole} {u} {v} remaining e = record {
+  same = remaining.same;
+  ends = omega (arith, remaining.ends, ap length e);
+  content = ap (put v.out.now v.written) (sym e) ∙ remaining.content;
+}
 
-pub same_room : {rest m whole l : List ℕ} {p at : ℕ} → Remaining rest p m whole at l → length m ≡ length l
-same_room {rest} {m} {whole} {l} {p} {at} remaining = sym (length-put m p rest) ∙ ap length remaining.content ∙ length-put l at whole
+pub same_room : {rest whole : List ℕ} {u v : Writer} → Remaining rest v whole u → length v.out.now ≡ length u.out.now
+same_room {rest} {whole} {u} {v} remaining =
+    sym (length-put v.out.now v.written rest) ∙ ap length remaining.content ∙ length-put u.out.now u.written whole
 
-pub fits-remaining : {rest xs l m whole : List ℕ} (ys : List ℕ) {at p : ℕ} → Remaining rest p m whole at l → rest ≡ xs ++ ys → Fits whole at l → Fits xs p m
-fits-remaining {rest} {xs} {l} {m} {whole} ys {at} {p} remaining e fits = record {
+pub fits-remaining : {rest xs whole : List ℕ} (ys : List ℕ) {u v : Writer} → Remaining rest v whole u → rest ≡ xs ++ ys → Fits whole u → Fits xs v
+fits-remaining {rest} {xs} {whole} ys {u} {v} remaining e fits = record {
   room = omega (arith, remaining.ends, fits.room, simp length-append at (ap length e), same_room remaining);
 }
 

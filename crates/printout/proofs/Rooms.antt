@@ -1,7 +1,10 @@
 -- What a buffer gets: nothing where it is shorter than the text, and the text where that was put at its start.
 use Rattle.std.specs.Prelude.{◌≡◌, refl, Bool, true, false, not, cond, List, ◌++◌, ℕ, ◌+◌, ◌-◌, ◌*◌, ◌/◌, ◌≤◌, ◌<◌, leb, length, drop}
+use Rattle.basis.specs.Names.{sets}
 use Rattle.basis.proofs.Names.{sym, ap, subst, ◌∙◌, zero-add, arith, rules, leb-true, leb-false, le-leb, lt-leb, not-true, not-false, length-append, sets-eq}
 use Rattle.machine.specs.declared.End.{End}
+use Rattle.machine.specs.declared.Ran.{Ran}
+use Rattle.printout.specs.declared.put.Writer.{Writer}
 use Rattle.printout.specs.Characters.{places}
 use Rattle.printout.specs.Lines.{first_line, mmx_lines, integer_lines, tags_line, zero_line, memory_line, byte_lines, report_text, refusal_text}
 use Rattle.printout.specs.Printing.{Printed, printing, printed}
@@ -31,14 +34,18 @@ module _ (text buffer : List ℕ) where
   unfolding printed
   too_short short = rw (lt-leb _ _ short)
 
-  whole : (end : ℕ) (after : List ℕ) → Fits text 0 buffer → Puts text 0 buffer end after → printing end after ≡ printed text buffer
-  unfolding printed put
-  whole end after fits puts =
-      let enough : length text ≤ length buffer = omega (arith, fits.room) in
-      let all : end ≡ length text = omega (arith, puts.ends) in
-      let content : after ≡ text ++ drop (length text) buffer =
-      puts.content ∙ sets-eq text buffer 0 fits.room ∙ ap (λ (k : ℕ). text ++ drop k buffer) (zero-add (length text)) in
-      rw (le-leb _ _ enough, all, content)
+  module _ (start : Writer) (starts : start.written ≡ 0) (content : start.out.now ≡ buffer) where
+    fits_whole : length text ≤ length buffer → Fits text start
+    fits_whole enough = record { room = rw (starts, content) (omega arith) }
+
+    whole : length text ≤ length buffer → (end : Writer) → Puts text start end → printing end.written end.out.now ≡ printed text buffer
+    unfolding printed put
+    whole enough end puts =
+        let all : end.written ≡ length text = omega (arith, puts.ends) in
+        let left : end.out.now ≡ text ++ drop (length text) buffer =
+        puts.content ∙ ap (λ (k : List ℕ). sets k start.written text) content ∙ ap (λ (i : ℕ). sets buffer i text) starts
+        ∙ sets-eq text buffer 0 (omega arith) ∙ ap (λ (k : ℕ). text ++ drop k buffer) (zero-add (length text)) in
+        rw (le-leb _ _ enough, all, left)
 
 -- no more is written than the buffer has
 pub written-within : (written : ℕ) (after text buffer : List ℕ) → printing written after ≡ printed text buffer → written ≤ length after
@@ -57,46 +64,52 @@ module _ (number count : ℕ) (buffer : List ℕ) (counted : count ≡ places nu
   pub refusal_short : length buffer < 8 + count + 1 → printing 0 buffer ≡ printed (refusal_text number) buffer
   refusal_short short = too_short (refusal_text number) buffer (omega (arith, length_refusal number))
 
-  pub refusal_fits : 8 + count + 1 ≤ length buffer → Fits (refusal_text number) 0 buffer
-  refusal_fits enough = record { room = omega (arith, length_refusal number) }
+  module _ (start : Writer) (starts : start.written ≡ 0) (content : start.out.now ≡ buffer) (enough : 8 + count + 1 ≤ length buffer) where
+    pub refusal_fits : Fits (refusal_text number) start
+    refusal_fits = fits_whole (refusal_text number) buffer start starts content (omega (arith, length_refusal number))
 
-  pub refusal_printed : (end : ℕ) (after : List ℕ) → 8 + count + 1 ≤ length buffer → Puts (refusal_text number) 0 buffer end after
-      → printing end after ≡ printed (refusal_text number) buffer
-  refusal_printed end after enough puts = whole (refusal_text number) buffer end after (refusal_fits enough) puts
+    pub refusal_printed : (end : Writer) (after : List ℕ) → Puts (refusal_text number) start end → after ≡ end.out.now
+        → printing end.written after ≡ printed (refusal_text number) buffer
+    refusal_printed end after puts same = rw same (whole (refusal_text number) buffer start starts content (omega (arith, length_refusal number)) end puts)
 
 -- a report, where the test of its room is made: its upper part is put, then its lower part
-module _ (ending : End) (count position : ℕ) (mmx integers : List ℕ) (valid zero : Bool) (memory buffer : List ℕ) (enough : Bool)
-    (tested : enough ≡ leb (report_length ending count position (length memory)) (length buffer))
-    (eight : length mmx ≡ 8) (eight' : length integers ≡ 8) where
+module _ (ran : Ran) (memory buffer : List ℕ) (enough : Bool)
+    (tested : enough ≡ leb (report_length ran.end ran.count ran.at (length memory)) (length buffer))
+    (eight : length ran.machine.mmx ≡ 8) (eight' : length ran.machine.integers ≡ 8) where
   abbrev top : List ℕ
-  top = first_line ending count position ++ mmx_lines mmx ++ integer_lines integers
+  top = first_line ran.end ran.count ran.at ++ mmx_lines ran.machine.mmx ++ integer_lines ran.machine.integers
 
   abbrev bottom : List ℕ
-  bottom = tags_line valid ++ zero_line zero ++ memory_line (length memory) ++ byte_lines 0 memory
+  bottom = tags_line ran.machine.marks.valid ++ zero_line ran.machine.marks.zero ++ memory_line (length memory) ++ byte_lines 0 memory
 
-  counted : length (top ++ bottom) ≡ report_length ending count position (length memory)
+  abbrev text : List ℕ
+  text = report_text ran.end ran.count ran.at ran.machine.mmx ran.machine.integers ran.machine.marks.valid ran.machine.marks.zero memory
+
+  counted : length (top ++ bottom) ≡ report_length ran.end ran.count ran.at (length memory)
   unfolding report_text
-  counted = length_report ending count position mmx integers valid zero memory eight eight'
+  counted = length_report ran.end ran.count ran.at ran.machine.mmx ran.machine.integers ran.machine.marks.valid ran.machine.marks.zero memory eight eight'
 
-  pub report_short : not enough ≡ true → printing 0 buffer ≡ printed (report_text ending count position mmx integers valid zero memory) buffer
+  pub report_short : not enough ≡ true → printing 0 buffer ≡ printed text buffer
   unfolding report_text
   report_short failed =
       too_short (top ++ bottom) buffer (omega (arith, leb-false _ (length buffer) (sym tested ∙ not-true enough failed), counted))
 
-  module _ (passed : not enough ≡ false) where
-    report_fits : Fits (top ++ bottom) 0 buffer
-    report_fits = record { room = omega (arith, leb-true _ (length buffer) (sym tested ∙ not-false enough passed), counted) }
+  module _ (passed : not enough ≡ false) (start : Writer) (starts : start.written ≡ 0) (content : start.out.now ≡ buffer) where
+    has_room : length (top ++ bottom) ≤ length buffer
+    has_room = omega (arith, leb-true _ (length buffer) (sym tested ∙ not-false enough passed), counted)
 
-    pub top_fits : Fits top 0 buffer
+    report_fits : Fits (top ++ bottom) start
+    report_fits = fits_whole (top ++ bottom) buffer start starts content has_room
+
+    pub top_fits : Fits top start
     top_fits = fits_first bottom report_fits
 
-    module _ (between : ℕ) (middle : List ℕ) (upper : Puts top 0 buffer between middle) where
-      pub bottom_fits : Fits bottom between middle
+    module _ (middle : Writer) (upper : Puts top start middle) where
+      pub bottom_fits : Fits bottom middle
       bottom_fits = fits_next upper report_fits
 
-      pub report_printed : (end : ℕ) (after : List ℕ) → Puts bottom between middle end after
-          → printing end after ≡ printed (report_text ending count position mmx integers valid zero memory) buffer
+      pub report_printed : (end : Writer) (after : List ℕ) → Puts bottom middle end → after ≡ end.out.now → printing end.written after ≡ printed text buffer
       unfolding report_text
-      report_printed end after lower = whole (top ++ bottom) buffer end after report_fits (then upper lower)
+      report_printed end after lower same = rw same (whole (top ++ bottom) buffer start starts content has_room end (then upper lower))
 
 pub ruleset rooms = (rules, refusal_short, refusal_fits, refusal_printed, report_short, top_fits, bottom_fits, report_printed)

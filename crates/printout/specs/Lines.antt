@@ -1,5 +1,5 @@
 -- What the page program prints, line by line.
-use Rattle.std.specs.Prelude.{Bool, cond, List, [], ◌∷◌, ◌++◌, ℕ, suc, ◌+◌, ◌*◌, ◌%◌, eqb, length, take, drop}
+use Rattle.std.specs.Prelude.{Bool, cond, List, [], ◌∷◌, ◌++◌, ℕ, suc, ◌+◌, ◌*◌, ◌%◌, eqb, length, get_or, drop, map}
 use Rattle.basis.specs.Names.{code}
 use Rattle.manual.specs.State.{longest_memory}
 use Rattle.machine.specs.declared.End.{End}
@@ -22,16 +22,16 @@ first_line ending count position =
     answer ending ++ (ascii " " ++ decimal count) ++ (ascii " at " ++ decimal position ++ newline)
 
 -- `mm0 0000000000000001`: a name of three letters and a space, and the register's hex digits
-unfoldable pub register_lines : List ℕ → ℕ → List ℕ → List ℕ
+unfoldable pub register_lines : List (List ℕ) → ℕ → List ℕ → List ℕ
 register_lines names k [] = []
-register_lines names k (value ∷ values) = take 4 names ++ (hex k value ++ newline) ++ register_lines (drop 4 names) k values
+register_lines names k (value ∷ values) = get_or names 0 [] ++ (hex k value ++ newline) ++ register_lines (drop 1 names) k values
 
 -- the lines of MM0 to MM7, and of the integer registers in the order of their numbers
-abbrev pub mmx_names : List ℕ
-mmx_names = ascii "mm0 mm1 mm2 mm3 mm4 mm5 mm6 mm7 "
+abbrev pub mmx_names : List (List ℕ)
+mmx_names = map ascii ("mm0 " ∷ "mm1 " ∷ "mm2 " ∷ "mm3 " ∷ "mm4 " ∷ "mm5 " ∷ "mm6 " ∷ "mm7 " ∷ [])
 
-abbrev pub integer_names : List ℕ
-integer_names = ascii "eax ecx edx ebx esp ebp esi edi "
+abbrev pub integer_names : List (List ℕ)
+integer_names = map ascii ("eax " ∷ "ecx " ∷ "edx " ∷ "ebx " ∷ "esp " ∷ "ebp " ∷ "esi " ∷ "edi " ∷ [])
 
 unfoldable pub mmx_lines : List ℕ → List ℕ
 mmx_lines values = register_lines mmx_names 16 values

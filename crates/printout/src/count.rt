@@ -4,8 +4,8 @@ ghost use Rattle.printout.specs.Lines.{answer};
 ghost use Rattle.printout.specs.inner.Room.{report_length};
 
 use crate::put::decimal_places;
-use machine::End;
 use machine::refusals::LONGEST_MEMORY;
+use machine::{End, Ran};
 
 // The characters of `done`, `spent` and `refused `, and of a line end.
 const DONE: usize = 4;
@@ -67,6 +67,7 @@ const HEADINGS: usize = REFUSED
 pub const LONGEST_REPORT: usize = HEADINGS + BYTE * LONGEST_MEMORY;
 
 // How many characters the answer has.
+#[tactic(auto, using(crate::proofs::Rooms::counting))]
 fn answer_length(ending: End) -> usize
     ensures { (result ≡ length (answer ending)) × (result ≤ 28) }
 {
@@ -78,18 +79,13 @@ fn answer_length(ending: End) -> usize
 }
 
 // Whether a buffer is as long as the report.
-pub(crate) fn has_room(
-    buffer: usize,
-    ending: End,
-    count: u32,
-    position: usize,
-    memory: usize,
-) -> bool
-    ensures { result ≡ leb (report_length ending count position memory) buffer }
+#[tactic(auto, using(crate::proofs::Rooms::counting))]
+pub(crate) fn has_room(buffer: usize, ran: Ran, memory: usize) -> bool
+    ensures { result ≡ leb (report_length ran.end ran.count ran.at memory) buffer }
 {
-    let numbers = answer_length(ending)
-        + decimal_places(count as u64)
-        + decimal_places(position as u64)
+    let numbers = answer_length(ran.end)
+        + decimal_places(ran.count as u64)
+        + decimal_places(ran.at as u64)
         + decimal_places(memory as u64);
     let headings = numbers
         + FIRST_LINE
@@ -98,8 +94,5 @@ pub(crate) fn has_room(
         + TAGS_LINE
         + ZERO_LINE
         + MEMORY_LINE;
-    if buffer < headings {
-        return false;
-    }
-    memory <= (buffer - headings) / BYTE
+    headings <= buffer && memory <= (buffer - headings) / BYTE
 }

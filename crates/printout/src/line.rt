@@ -1,174 +1,143 @@
-// The lines of the text, put at a place of a lent buffer.
-ghost use Rattle.std.specs.Prelude.{◌≡◌, ◌++◌, ◌*◌, length};
+// The lines of the text, put one after the other into a lent buffer.
+ghost use Rattle.std.specs.Prelude.{◌≡◌, ◌++◌, length, map, cond};
 ghost use Rattle.printout.specs.Characters.{newline, hex};
-ghost use Rattle.printout.specs.Lines.{answer, first_line, register_lines, mmx_lines, integer_lines, tags_line, zero_line, gap_after, byte_lines};
+ghost use Rattle.printout.specs.Lines.{answer, first_line, register_lines, mmx_lines, integer_lines, tags_line, zero_line, memory_line, gap_after, byte_lines};
 ghost use Rattle.printout.specs.inner.Room.{Fits, Puts};
 
 use crate::count::{BYTE_DIGITS, INTEGER_DIGITS, MMX_DIGITS, NAME, REGISTERS};
-use crate::put::{put_hex, put_number, put_number_line, put_word};
-use machine::End;
+use crate::put::Writer;
+use machine::{End, Ran};
 
 // How many bytes of the memory stand on a line.
 const LINE: usize = 16;
 
-// How a run ended.
-fn put_answer(out: &mut [u8], at: usize, ending: End) -> usize
-    requires { Fits (answer ending) at out.old }
-    ensures { Puts (answer ending) at out.old result out.new }
-{
-    match ending {
-        End::Done => put_word(out, at, b"done"),
-        End::Spent => put_word(out, at, b"spent"),
-        End::Refused(number) => put_number(out, at, b"refused ", number as u64),
-    }
-}
+// The names of the registers, each with the space behind it.
+const MMX_NAMES: [&[u8; NAME]; REGISTERS] = [
+    b"mm0 ", b"mm1 ", b"mm2 ", b"mm3 ", b"mm4 ", b"mm5 ", b"mm6 ", b"mm7 ",
+];
 
-// The first line.
-pub(crate) fn put_first_line(
-    out: &mut [u8],
-    at: usize,
-    ending: End,
-    count: u32,
-    position: usize,
-) -> usize
-    requires { Fits (first_line ending count position) at out.old }
-    ensures { Puts (first_line ending count position) at out.old result out.new }
-{
-    let mut end = put_answer(out, at, ending);
-    end = put_number(out, end, b" ", count as u64);
-    put_number_line(out, end, b" at ", position as u64)
-}
-
-// A register's line.
-fn put_register(out: &mut [u8], at: usize, name: &[u8], value: u64, count: usize) -> usize
-    requires { Fits (name.now ++ (hex count value ++ newline)) at out.old }
-    ensures { Puts (name.now ++ (hex count value ++ newline)) at out.old result out.new }
-{
-    let end = put_word(out, at, name);
-    put_hex(out, end, value, count, b'\n')
-}
-
-// The lines of registers.
-fn put_registers(out: &mut [u8], at: usize, names: &[u8], values: &[u64], count: usize) -> usize
-    requires { (length names.now ≡ 4 * length values.now) × Fits (register_lines names.now count values.now) at out.old }
-    ensures { Puts (register_lines names.now count values.now) at out.old result out.new }
-{
-    let mut end = at;
-    let mut i: usize = 0;
-    while i < values.len() {
-        end = put_register(
-            out,
-            end,
-            &names[NAME * i..NAME * i + NAME],
-            values[i],
-            count,
-        );
-        i += 1;
-    }
-    end
-}
+const INTEGER_NAMES: [&[u8; NAME]; REGISTERS] = [
+    b"eax ", b"ecx ", b"edx ", b"ebx ", b"esp ", b"ebp ", b"esi ", b"edi ",
+];
 
 // The integer registers as wider numbers.
-fn widened(values: [u32; 8]) -> [u64; 8]
+fn widened(values: [u32; REGISTERS]) -> [u64; REGISTERS]
     ensures { result ≡ values }
 {
-    let mut wide: [u64; 8] = [0; 8];
-    let mut i: usize = 0;
-    while i < REGISTERS {
-        wide[i] = values[i] as u64;
-        i += 1;
-    }
-    wide
-}
-
-// The lines of MM0 to MM7.
-pub(crate) fn put_mmx_lines(out: &mut [u8], at: usize, values: [u64; 8]) -> usize
-    requires { Fits (mmx_lines values) at out.old }
-    ensures { Puts (mmx_lines values) at out.old result out.new }
-{
-    put_registers(
-        out,
-        at,
-        b"mm0 mm1 mm2 mm3 mm4 mm5 mm6 mm7 ",
-        &values,
-        MMX_DIGITS,
-    )
-}
-
-// The lines of the integer registers.
-pub(crate) fn put_integer_lines(out: &mut [u8], at: usize, values: [u32; 8]) -> usize
-    requires { Fits (integer_lines values) at out.old }
-    ensures { Puts (integer_lines values) at out.old result out.new }
-{
-    let wide = widened(values);
-    put_registers(
-        out,
-        at,
-        b"eax ecx edx ebx esp ebp esi edi ",
-        &wide,
-        INTEGER_DIGITS,
-    )
-}
-
-// The line of the tags.
-fn put_tags_line(out: &mut [u8], at: usize, valid: bool) -> usize
-    requires { Fits (tags_line valid) at out.old }
-    ensures { Puts (tags_line valid) at out.old result out.new }
-{
-    if valid {
-        put_word(out, at, b"tags valid\n")
-    } else {
-        put_word(out, at, b"tags empty\n")
-    }
-}
-
-// The line of the zero mark.
-fn put_zero_line(out: &mut [u8], at: usize, zero: bool) -> usize
-    requires { Fits (zero_line zero) at out.old }
-    ensures { Puts (zero_line zero) at out.old result out.new }
-{
-    if zero {
-        put_word(out, at, b"zero 1\n")
-    } else {
-        put_word(out, at, b"zero 0\n")
-    }
-}
-
-// The lines of both marks.
-pub(crate) fn put_mark_lines(out: &mut [u8], at: usize, valid: bool, zero: bool) -> usize
-    requires { Fits (tags_line valid ++ zero_line zero) at out.old }
-    ensures { Puts (tags_line valid ++ zero_line zero) at out.old result out.new }
-{
-    let end = put_tags_line(out, at, valid);
-    put_zero_line(out, end, zero)
+    values.map(u64::from)
 }
 
 // What stands after a byte of the memory.
 fn gap_after(index: usize, following: usize) -> u8
     ensures { result ≡ gap_after index following }
 {
-    if index % LINE == LINE - 1 {
-        return b'\n';
+    if index % LINE == LINE - 1 || following == 0 {
+        b'\n'
+    } else {
+        b' '
     }
-    if following == 0 { b'\n' } else { b' ' }
 }
 
-// The lines of the memory's bytes.
-pub(crate) fn put_byte_lines(out: &mut [u8], at: usize, memory: &[u8]) -> usize
-    requires { Fits (byte_lines 0 memory.now) at out.old }
-    ensures { Puts (byte_lines 0 memory.now) at out.old result out.new }
-{
-    let mut end = at;
-    let mut i: usize = 0;
-    while i < memory.len() {
-        end = put_hex(
-            out,
-            end,
-            memory[i] as u64,
-            BYTE_DIGITS,
-            gap_after(i, memory.len() - i - 1),
-        );
-        i += 1;
+#[tactic(auto, using(crate::proofs::Pieces::naming))]
+impl Writer<'_> {
+    // How a run ended.
+    fn put_answer(&mut self, ending: End)
+        requires { Fits (answer ending) self.old }
+        ensures { Puts (answer ending) self.old self.new }
+    {
+        match ending {
+            End::Done => self.put_word(b"done"),
+            End::Spent => self.put_word(b"spent"),
+            End::Refused(number) => self.put_number(b"refused ", number as u64),
+        }
     }
-    end
+
+    // The first line.
+    fn put_first_line(&mut self, ran: Ran)
+        requires { Fits (first_line ran.end ran.count ran.at) self.old }
+        ensures { Puts (first_line ran.end ran.count ran.at) self.old self.new }
+    {
+        self.put_answer(ran.end);
+        self.put_number(b" ", ran.count as u64);
+        self.put_number_line(b" at ", ran.at as u64);
+    }
+
+    // A register's line.
+    fn put_register(&mut self, name: &[u8], value: u64, count: usize)
+        requires { Fits (name.now ++ (hex count value ++ newline)) self.old }
+        ensures { Puts (name.now ++ (hex count value ++ newline)) self.old self.new }
+    {
+        self.put_word(name);
+        self.put_hex(value, count, b'\n');
+    }
+
+    // The lines of registers.
+    #[tactic(auto, using(crate::proofs::Pieces::pieces))]
+    fn put_registers(
+        &mut self,
+        names: &[&[u8; NAME]; REGISTERS],
+        values: [u64; REGISTERS],
+        count: usize,
+    )
+        requires { Fits (register_lines (map (λ name. name.now) names.now) count values) self.old }
+        ensures { Puts (register_lines (map (λ name. name.now) names.now) count values) self.old self.new }
+    {
+        for (i, value) in values.iter().enumerate() {
+            self.put_register(names[i], *value, count);
+        }
+    }
+
+    // The line of a mark: of one that is set, or of one that is clear.
+    fn put_mark(&mut self, mark: bool, set: &[u8], clear: &[u8])
+        requires { Fits (cond mark set.now clear.now) self.old }
+        ensures { Puts (cond mark set.now clear.now) self.old self.new }
+    {
+        self.put_word(if mark { set } else { clear });
+    }
+
+    // The lines of the tags and of the zero mark.
+    #[tactic(auto, using(crate::proofs::Pieces::naming), unfolding(crate::specs::Lines::tags_line, crate::specs::Lines::zero_line))]
+    fn put_marks(&mut self, valid: bool, zero: bool)
+        requires { Fits (tags_line valid ++ zero_line zero) self.old }
+        ensures { Puts (tags_line valid ++ zero_line zero) self.old self.new }
+    {
+        self.put_mark(valid, b"tags valid\n", b"tags empty\n");
+        self.put_mark(zero, b"zero 1\n", b"zero 0\n");
+    }
+
+    // The lines of the memory's bytes.
+    #[tactic(auto, using(crate::proofs::Pieces::pieces))]
+    fn put_byte_lines(&mut self, memory: &[u8])
+        requires { Fits (byte_lines 0 memory.now) self.old }
+        ensures { Puts (byte_lines 0 memory.now) self.old self.new }
+    {
+        for (i, byte) in memory.iter().enumerate() {
+            self.put_hex(
+                *byte as u64,
+                BYTE_DIGITS,
+                gap_after(i, memory.len() - i - 1),
+            );
+        }
+    }
+
+    // The first line and the registers.
+    pub(crate) fn put_top(&mut self, ran: Ran)
+        requires { Fits (first_line ran.end ran.count ran.at ++ mmx_lines ran.machine.mmx ++ integer_lines ran.machine.integers) self.old }
+        ensures { Puts (first_line ran.end ran.count ran.at ++ mmx_lines ran.machine.mmx ++ integer_lines ran.machine.integers) self.old self.new }
+    {
+        let machine = ran.machine;
+        self.put_first_line(ran);
+        self.put_registers(&MMX_NAMES, machine.mmx, MMX_DIGITS);
+        self.put_registers(&INTEGER_NAMES, widened(machine.integers), INTEGER_DIGITS);
+    }
+
+    // The tags, the zero mark and the memory.
+    pub(crate) fn put_bottom(&mut self, valid: bool, zero: bool, memory: &[u8])
+        requires { Fits (tags_line valid ++ zero_line zero ++ memory_line (length memory.now) ++ byte_lines 0 memory.now) self.old }
+        ensures { Puts (tags_line valid ++ zero_line zero ++ memory_line (length memory.now) ++ byte_lines 0 memory.now) self.old self.new }
+    {
+        self.put_marks(valid, zero);
+        self.put_number_line(b"memory ", memory.len() as u64);
+        self.put_byte_lines(memory);
+    }
 }

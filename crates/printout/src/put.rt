@@ -1,5 +1,5 @@
-// Characters, words and numbers, put at a place of a lent buffer. Each function answers the place after what it put.
-ghost use Rattle.std.specs.Prelude.{◌≡◌, [], ◌∷◌, ◌++◌, ◌+◌, ◌<◌, ◌≤◌, length};
+// Characters, words and numbers, put one after the other into a lent buffer.
+ghost use Rattle.std.specs.Prelude.{◌≡◌, [], ◌∷◌, ◌++◌, ◌<◌, ◌≤◌, length};
 ghost use Rattle.printout.specs.Characters.{newline, digit_of, digits, hex, places, decimal};
 ghost use Rattle.printout.specs.inner.Room.{Fits, Puts};
 
@@ -20,80 +20,90 @@ fn digit(value: u64) -> u8
     }
 }
 
-// One character.
-fn put_character(out: &mut [u8], at: usize, character: u8) -> usize
-    requires { Fits (character ∷ []) at out.old }
-    ensures { Puts (character ∷ []) at out.old result out.new }
-{
-    out[at] = character;
-    at + 1
-}
-
-// A word.
-pub(crate) fn put_word(out: &mut [u8], at: usize, word: &[u8]) -> usize
-    requires { Fits word.now at out.old }
-    ensures { Puts word.now at out.old result out.new }
-{
-    let mut end = at;
-    let mut i: usize = 0;
-    while i < word.len() {
-        end = put_character(out, end, word[i]);
-        i += 1;
-    }
-    end
-}
-
-// The lowest digits of a number, from the last one to the first.
-fn put_digits(out: &mut [u8], at: usize, number: u64, base: u64, count: usize) -> usize
-    requires { (0 < base) × (base ≤ 16) × (at + count ≤ length out.old) }
-    ensures { Puts (digits base count number) at out.old result out.new }
-{
-    let mut rest = number;
-    let mut remaining = count;
-    while 0 < remaining {
-        remaining -= 1;
-        out[at + remaining] = digit(rest % base);
-        rest = rest / base;
-    }
-    at + count
-}
-
 // How many decimal digits a number has.
+#[tactic(auto, using(crate::proofs::Numbers::numbers))]
 pub(crate) fn decimal_places(number: u64) -> usize
     ensures { (result ≡ places number number) × (result ≤ 20) }
 {
-    let mut count: usize = 1;
-    let mut rest = number;
-    while DECIMAL <= rest {
-        rest = rest / DECIMAL;
-        count += 1;
+    number.max(1).ilog10() as usize + 1
+}
+
+// A lent buffer, and how many bytes of it are put.
+#[derive(Drop)]
+pub(crate) struct Writer<'a> {
+    out: &'a mut [u8],
+    pub(crate) written: usize,
+}
+
+#[tactic(auto, using(crate::proofs::Pieces::naming))]
+impl<'a> Writer<'a> {
+    pub(crate) fn new(out: &'a mut [u8]) -> Self
+        ensures same { result.out.ghost_name ≡ out.entry.ghost_name }
+        ensures starts { result.written ≡ 0 }
+        ensures content { result.out.now ≡ out.old }
+    {
+        Writer { out, written: 0 }
     }
-    count
-}
 
-// A word, and a number in decimal.
-pub(crate) fn put_number(out: &mut [u8], at: usize, word: &[u8], number: u64) -> usize
-    requires { Fits (word.now ++ decimal number) at out.old }
-    ensures { Puts (word.now ++ decimal number) at out.old result out.new }
-{
-    let end = put_word(out, at, word);
-    put_digits(out, end, number, DECIMAL, decimal_places(number))
-}
+    // One character.
+    fn put_character(&mut self, character: u8)
+        requires { Fits (character ∷ []) self.old }
+        ensures { Puts (character ∷ []) self.old self.new }
+    {
+        self.out[self.written] = character;
+        self.written += 1;
+    }
 
-// The same, and a line end.
-pub(crate) fn put_number_line(out: &mut [u8], at: usize, word: &[u8], number: u64) -> usize
-    requires { Fits (word.now ++ decimal number ++ newline) at out.old }
-    ensures { Puts (word.now ++ decimal number ++ newline) at out.old result out.new }
-{
-    let end = put_number(out, at, word, number);
-    put_character(out, end, b'\n')
-}
+    // A word.
+    pub(crate) fn put_word(&mut self, word: &[u8])
+        requires { Fits word.now self.old }
+        ensures { Puts word.now self.old self.new }
+    {
+        let end = self.written + word.len();
+        self.out[self.written..end].copy_from_slice(word);
+        self.written = end;
+    }
 
-// A number's lowest hex digits, and the character after them.
-pub(crate) fn put_hex(out: &mut [u8], at: usize, number: u64, count: usize, after: u8) -> usize
-    requires { Fits (hex count number ++ (after ∷ [])) at out.old }
-    ensures { Puts (hex count number ++ (after ∷ [])) at out.old result out.new }
-{
-    let end = put_digits(out, at, number, HEXADECIMAL, count);
-    put_character(out, end, after)
+    // The lowest digits of a number, from the last one to the first.
+    #[tactic(auto, using(crate::proofs::Numbers::numbers))]
+    fn put_digits(&mut self, number: u64, base: u64, count: usize)
+        requires some { 0 < base }
+        requires few { base ≤ 16 }
+        requires fits { Fits (digits base count number) self.old }
+        ensures { Puts (digits base count number) self.old self.new }
+    {
+        let mut rest = number;
+        for i in (0..count).rev() {
+            self.out[self.written + i] = digit(rest % base);
+            rest /= base;
+        }
+        self.written += count;
+    }
+
+    // A word, and a number in decimal.
+    pub(crate) fn put_number(&mut self, word: &[u8], number: u64)
+        requires { Fits (word.now ++ decimal number) self.old }
+        ensures { Puts (word.now ++ decimal number) self.old self.new }
+    {
+        self.put_word(word);
+        self.put_digits(number, DECIMAL, decimal_places(number));
+    }
+
+    // The same, and a line end.
+    pub(crate) fn put_number_line(&mut self, word: &[u8], number: u64)
+        requires { Fits (word.now ++ decimal number ++ newline) self.old }
+        ensures { Puts (word.now ++ decimal number ++ newline) self.old self.new }
+    {
+        self.put_number(word, number);
+        self.put_character(b'\n');
+    }
+
+    // A number's lowest hex digits, and the character after them.
+    pub(crate) fn put_hex(&mut self, number: u64, count: usize, after: u8)
+        requires { Fits (hex count number ++ (after ∷ [])) self.old }
+        ensures { Puts (hex count number ++ (after ∷ [])) self.old self.new }
+    {
+        self.put_digits(number, HEXADECIMAL, count);
+        self.put_character(after);
+    }
 }
