@@ -1,5 +1,5 @@
 // The example of demand 3, EMMS, and the three manners.
-use crate::cases::{ask, ask_both};
+use crate::cases::ask_all;
 use std::io;
 use std::io::Write;
 
@@ -10,21 +10,23 @@ const EXAMPLE: [u8; 17] = [
 ];
 
 fn example(out: &mut impl Write) -> io::Result<()> {
-    let code = EXAMPLE;
-    ask_both(out, "the example", &code, 2, 4)?;
-    ask(out, "the example", &code, 0, 1)?;
-    ask(out, "the example", &code, 0, 2)?;
-    ask(out, "the example", &code, 0, 3)?;
-    ask(out, "the example", &code, 3, 4)
-}
-
-fn example_further(out: &mut impl Write) -> io::Result<()> {
-    let code = EXAMPLE;
-    ask(out, "the example", &code, 0, 4)?;
-    ask(out, "the example", &code, 1, 2)?;
-    ask(out, "the example", &code, 1, 3)?;
-    ask(out, "the example", &code, 1, 4)?;
-    ask(out, "the example", &code, 2, 3)
+    ask_all(
+        out,
+        &EXAMPLE,
+        &[
+            ("the example", 2, 4),
+            ("the example", 4, 2),
+            ("the example", 0, 1),
+            ("the example", 0, 2),
+            ("the example", 0, 3),
+            ("the example", 3, 4),
+            ("the example", 0, 4),
+            ("the example", 1, 2),
+            ("the example", 1, 3),
+            ("the example", 1, 4),
+            ("the example", 2, 3),
+        ],
+    )
 }
 
 // PADDB MM0, MM1; EMMS; MOVQ [EAX], MM0; EMMS; DEC EAX; PREFETCHNTA [EAX]; SFENCE.
@@ -34,19 +36,22 @@ const EMMS: [u8; 17] = [
 ];
 
 fn emms(out: &mut impl Write) -> io::Result<()> {
-    let code = EMMS;
-    ask_both(out, "EMMS", &code, 0, 1)?;
-    ask(out, "EMMS", &code, 1, 2)?;
-    ask(out, "EMMS and EMMS", &code, 1, 3)?;
-    ask(out, "EMMS and DEC", &code, 3, 4)
-}
-
-fn silences(out: &mut impl Write) -> io::Result<()> {
-    let code = EMMS;
-    ask_both(out, "EMMS and PREFETCHNTA", &code, 1, 5)?;
-    ask(out, "EMMS and SFENCE", &code, 3, 6)?;
-    ask(out, "DEC and PREFETCHNTA", &code, 4, 5)?;
-    ask(out, "PREFETCHNTA and SFENCE", &code, 5, 6)
+    ask_all(
+        out,
+        &EMMS,
+        &[
+            ("EMMS", 0, 1),
+            ("EMMS", 1, 0),
+            ("EMMS", 1, 2),
+            ("EMMS and EMMS", 1, 3),
+            ("EMMS and DEC", 3, 4),
+            ("EMMS and PREFETCHNTA", 1, 5),
+            ("EMMS and PREFETCHNTA", 5, 1),
+            ("EMMS and SFENCE", 3, 6),
+            ("DEC and PREFETCHNTA", 4, 5),
+            ("PREFETCHNTA and SFENCE", 5, 6),
+        ],
+    )
 }
 
 // PADDB MM0, MM1; PADDB MM0, MM2; MOVQ MM0, MM3; PADDB MM1, MM0; PXOR MM4, MM4; MOVQ MM4, MM4.
@@ -56,29 +61,37 @@ const MANNERS: [u8; 18] = [
 ];
 
 fn manners(out: &mut impl Write) -> io::Result<()> {
-    let code = MANNERS;
-    ask(out, "PADDB mm0, mm1 and PADDB mm0, mm2", &code, 0, 1)?;
-    ask(out, "PADDB mm0, mm1 and MOVQ mm0, mm3", &code, 0, 2)?;
-    ask(out, "MOVQ mm0, mm3 and PADDB mm1, mm0", &code, 2, 3)?;
-    ask(out, "PADDB mm0, mm1 and PADDB mm1, mm0", &code, 0, 3)?;
-    ask(out, "PXOR mm4, mm4 and MOVQ mm4, mm4", &code, 4, 5)
+    ask_all(
+        out,
+        &MANNERS,
+        &[
+            ("PADDB mm0, mm1 and PADDB mm0, mm2", 0, 1),
+            ("PADDB mm0, mm1 and MOVQ mm0, mm3", 0, 2),
+            ("MOVQ mm0, mm3 and PADDB mm1, mm0", 2, 3),
+            ("PADDB mm0, mm1 and PADDB mm1, mm0", 0, 3),
+            ("PXOR mm4, mm4 and MOVQ mm4, mm4", 4, 5),
+        ],
+    )
 }
 
 // MOVQ MM2, MM0; MOVQ MM0, MM3; MOVQ MM3, MM0.
 const MOVES: [u8; 9] = [0x0f, 0x6f, 0xd0, 0x0f, 0x6f, 0xc3, 0x0f, 0x6f, 0xd8];
 
 fn moves(out: &mut impl Write) -> io::Result<()> {
-    let code = MOVES;
-    ask(out, "MOVQ mm2, mm0 and MOVQ mm0, mm3", &code, 0, 1)?;
-    ask(out, "MOVQ mm0, mm3 and MOVQ mm3, mm0", &code, 1, 2)?;
-    ask(out, "MOVQ mm2, mm0 and MOVQ mm3, mm0", &code, 0, 2)
+    ask_all(
+        out,
+        &MOVES,
+        &[
+            ("MOVQ mm2, mm0 and MOVQ mm0, mm3", 0, 1),
+            ("MOVQ mm0, mm3 and MOVQ mm3, mm0", 1, 2),
+            ("MOVQ mm2, mm0 and MOVQ mm3, mm0", 0, 2),
+        ],
+    )
 }
 
 pub(crate) fn all(out: &mut impl Write) -> io::Result<()> {
     example(out)?;
-    example_further(out)?;
     emms(out)?;
-    silences(out)?;
     manners(out)?;
     moves(out)
 }

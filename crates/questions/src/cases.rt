@@ -33,31 +33,19 @@ pub(crate) fn ask_in(
     second: u32,
 ) -> io::Result<()> {
     let asked = studio::why_not(usual_machine(), code, memory, first, second);
-    texts::text(out, title)?;
-    texts::show_numbers(out, first, second)?;
+    write!(out, "{title}, {first} and {second}: ")?;
     texts::show_answer(out, asked, memory)
 }
 
-// The same in the usual memory, whose bytes are 1.
-pub(crate) fn ask(
+// The questions of a code, each by its title and its numbers, in the usual memory, whose bytes are 1.
+pub(crate) fn ask_all(
     out: &mut impl Write,
-    title: &str,
     code: &[u8],
-    first: u32,
-    second: u32,
+    questions: &[(&str, u32, u32)],
 ) -> io::Result<()> {
-    let mut memory = [1u8; MEMORY];
-    ask_in(out, title, code, &mut memory, first, second)
-}
-
-// The same with the numbers in both orders.
-pub(crate) fn ask_both(
-    out: &mut impl Write,
-    title: &str,
-    code: &[u8],
-    first: u32,
-    second: u32,
-) -> io::Result<()> {
-    ask(out, title, code, first, second)?;
-    ask(out, title, code, second, first)
+    for (title, first, second) in questions {
+        let mut memory = [1u8; MEMORY];
+        ask_in(out, title, code, &mut memory, *first, *second)?;
+    }
+    Ok(())
 }

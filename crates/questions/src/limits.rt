@@ -1,5 +1,5 @@
 // The limits: the longest memory and code, one byte more, and as many instructions as the budget has.
-use crate::cases::{ask, ask_in};
+use crate::cases::{ask_all, ask_in};
 use codec::LONGEST_CODE;
 use machine::refusals::LONGEST_MEMORY;
 use std::io;
@@ -17,16 +17,14 @@ const LAST: [u8; 14] = [
 const JUMP: [u8; 2] = [0x75, 0x00];
 
 fn memories(out: &mut impl Write) -> io::Result<()> {
-    let last = LAST;
-    let jump = JUMP;
     let mut longest = [1u8; LONGEST_MEMORY];
     let mut longer = [1u8; LONGEST_MEMORY + 1];
-    ask_in(out, "the last bytes", &last, &mut longest, 0, 1)?;
-    ask_in(out, "a memory too long", &last, &mut longer, 0, 1)?;
+    ask_in(out, "the last bytes", &LAST, &mut longest, 0, 1)?;
+    ask_in(out, "a memory too long", &LAST, &mut longer, 0, 1)?;
     ask_in(
         out,
         "a memory too long, and a jump",
-        &jump,
+        &JUMP,
         &mut longer,
         0,
         1,
@@ -36,13 +34,19 @@ fn memories(out: &mut impl Write) -> io::Result<()> {
 fn codes(out: &mut impl Write) -> io::Result<()> {
     let longest = [DECREMENT; LONGEST_CODE];
     let longer = [DECREMENT; LONGEST_CODE + 1];
-    let mut jumping = [DECREMENT; LONGEST_CODE + 1];
+    let mut jumping = longer;
     jumping[0] = 0x75;
-    ask(out, "4,096 times DEC eax", &longest, 0, 4095)?;
-    ask(out, "4,096 times DEC eax", &longest, 4095, 4094)?;
-    ask(out, "4,096 times DEC eax", &longest, 4095, 4096)?;
-    ask(out, "a code too long", &longer, 0, 1)?;
-    ask(out, "a code too long, and a jump", &jumping, 0, 1)
+    ask_all(
+        out,
+        &longest,
+        &[
+            ("4,096 times DEC eax", 0, 4095),
+            ("4,096 times DEC eax", 4095, 4094),
+            ("4,096 times DEC eax", 4095, 4096),
+        ],
+    )?;
+    ask_all(out, &longer, &[("a code too long", 0, 1)])?;
+    ask_all(out, &jumping, &[("a code too long, and a jump", 0, 1)])
 }
 
 pub(crate) fn all(out: &mut impl Write) -> io::Result<()> {

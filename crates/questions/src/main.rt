@@ -6,7 +6,7 @@ mod blocks;
 mod cases;
 mod limits;
 mod places;
-mod refusals;
+mod refused;
 mod texts;
 
 use std::io;
@@ -16,6 +16,6 @@ fn main(rt: HostRuntime) -> io::Result<()> {
     let mut out = io::writer(&rt);
     blocks::all(&mut out)?;
     places::all(&mut out)?;
-    refusals::all(&mut out)?;
+    refused::all(&mut out)?;
     limits::all(&mut out)
 }

@@ -1,5 +1,5 @@
 // The order of places: MMX registers, integer registers, memory bytes, the zero mark; and footprints in the states where the instructions run.
-use crate::cases::{ask, ask_both};
+use crate::cases::ask_all;
 use std::io;
 use std::io::Write;
 
@@ -9,12 +9,17 @@ const INTEGERS: [u8; 16] = [
 ];
 
 fn integers(out: &mut impl Write) -> io::Result<()> {
-    let code = INTEGERS;
-    ask(out, "MOVD eax, mm0 and MOVD mm0, eax", &code, 0, 1)?;
-    ask(out, "MOVD eax, mm0 and MOVD mm1, eax", &code, 0, 2)?;
-    ask(out, "MOVQ mm2, [1] and DEC edx", &code, 3, 4)?;
-    ask(out, "DEC edx and MOVQ [0], mm3", &code, 4, 5)?;
-    ask(out, "MOVQ mm2, [1] and MOVQ [0], mm3", &code, 3, 5)
+    ask_all(
+        out,
+        &INTEGERS,
+        &[
+            ("MOVD eax, mm0 and MOVD mm0, eax", 0, 1),
+            ("MOVD eax, mm0 and MOVD mm1, eax", 0, 2),
+            ("MOVQ mm2, [1] and DEC edx", 3, 4),
+            ("DEC edx and MOVQ [0], mm3", 4, 5),
+            ("MOVQ mm2, [1] and MOVQ [0], mm3", 3, 5),
+        ],
+    )
 }
 
 // MOVQ [EAX + 8], MM0; MOVQ MM2, [EAX + 1]; MOVQ [EAX + 15], MM3; MOVQ MM4, [EAX]; MOVD [EAX + 20], MM5; MASKMOVQ MM6, MM7.
@@ -24,20 +29,31 @@ const BYTES: [u8; 22] = [
 ];
 
 fn stores(out: &mut impl Write) -> io::Result<()> {
-    let code = BYTES;
-    ask_both(out, "a store at 8 and a load at 1", &code, 0, 1)?;
-    ask(out, "a store at 8 and a store at 15", &code, 0, 2)?;
-    ask(out, "a store at 8 and a load at 0", &code, 0, 3)?;
-    ask(out, "a load at 1 and a store at 15", &code, 1, 2)?;
-    ask(out, "a load at 1 and a load at 0", &code, 1, 3)
+    ask_all(
+        out,
+        &BYTES,
+        &[
+            ("a store at 8 and a load at 1", 0, 1),
+            ("a store at 8 and a load at 1", 1, 0),
+            ("a store at 8 and a store at 15", 0, 2),
+            ("a store at 8 and a load at 0", 0, 3),
+            ("a load at 1 and a store at 15", 1, 2),
+            ("a load at 1 and a load at 0", 1, 3),
+        ],
+    )
 }
 
 fn masks(out: &mut impl Write) -> io::Result<()> {
-    let code = BYTES;
-    ask(out, "a store at 15 and a store of 4 at 20", &code, 2, 4)?;
-    ask(out, "a store at 15 and MASKMOVQ at 16", &code, 2, 5)?;
-    ask(out, "a store of 4 at 20 and MASKMOVQ at 16", &code, 4, 5)?;
-    ask(out, "a load at 0 and MASKMOVQ at 16", &code, 3, 5)
+    ask_all(
+        out,
+        &BYTES,
+        &[
+            ("a store at 15 and a store of 4 at 20", 2, 4),
+            ("a store at 15 and MASKMOVQ at 16", 2, 5),
+            ("a store of 4 at 20 and MASKMOVQ at 16", 4, 5),
+            ("a load at 0 and MASKMOVQ at 16", 3, 5),
+        ],
+    )
 }
 
 // MOVQ [EAX], MM0; ADD EAX, 4; MOVQ MM1, [EAX]; ADD EAX, 8; MOVQ MM2, [EAX]; MOVQ [EAX + 4], MM1.
@@ -47,22 +63,35 @@ const MOVED: [u8; 19] = [
 ];
 
 fn moved(out: &mut impl Write) -> io::Result<()> {
-    let code = MOVED;
-    ask_both(out, "a store at 0 and a load at 4", &code, 0, 2)?;
-    ask(out, "a store at 0 and a load at 12", &code, 0, 4)?;
-    ask(out, "a load at 12 and a store at 16", &code, 4, 5)?;
-    ask(out, "a load at 4 and a store at 16", &code, 2, 5)
+    ask_all(
+        out,
+        &MOVED,
+        &[
+            ("a store at 0 and a load at 4", 0, 2),
+            ("a store at 0 and a load at 4", 2, 0),
+            ("a store at 0 and a load at 12", 0, 4),
+            ("a load at 12 and a store at 16", 4, 5),
+            ("a load at 4 and a store at 16", 2, 5),
+        ],
+    )
 }
 
 fn zero_marks(out: &mut impl Write) -> io::Result<()> {
     let code = [
         0x83, 0xc0, 0x04, 0x49, 0x48, 0xba, 0x00, 0x00, 0x00, 0x00, 0x0f, 0xfc, 0xc1,
     ];
-    ask_both(out, "ADD eax, 4 and DEC ecx", &code, 0, 1)?;
-    ask(out, "ADD eax, 4 and DEC eax", &code, 0, 2)?;
-    ask(out, "DEC ecx and DEC eax", &code, 1, 2)?;
-    ask(out, "DEC ecx and MOV edx, 0", &code, 1, 3)?;
-    ask(out, "DEC ecx and PADDB mm0, mm1", &code, 1, 4)
+    ask_all(
+        out,
+        &code,
+        &[
+            ("ADD eax, 4 and DEC ecx", 0, 1),
+            ("ADD eax, 4 and DEC ecx", 1, 0),
+            ("ADD eax, 4 and DEC eax", 0, 2),
+            ("DEC ecx and DEC eax", 1, 2),
+            ("DEC ecx and MOV edx, 0", 1, 3),
+            ("DEC ecx and PADDB mm0, mm1", 1, 4),
+        ],
+    )
 }
 
 pub(crate) fn all(out: &mut impl Write) -> io::Result<()> {

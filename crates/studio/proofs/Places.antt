@@ -6,8 +6,7 @@ use Rattle.manual.specs.Places.{Place, mmx, integer, byte, zero_mark}
 use Rattle.manual.proofs.Having.{HasPlace}
 use Rattle.studio.specs.Meetings.{all_places}
 use Rattle.studio.specs.Reasons.{Lower}
-use Rattle.studio.specs.inner.Meetings.{place_at}
-use Rattle.studio.proofs.laws.meetings.Numbers.{is_mmx, is_integer_lem, is_byte, is_zero_mark_lem, numbered, all_numbered, in_numbered, numbered_in}
+use Rattle.studio.proofs.laws.meetings.Numbers.{place_at, is_mmx, is_integer_lem, is_byte, is_zero_mark_lem, numbered, all_numbered, in_numbered, numbered_in}
 
 -- the place with number k, in a memory of n bytes, by its sort
 data Sort (n k : ℕ) : Place → Type 0 where

@@ -1,5 +1,5 @@
 -- Where two instructions meet, and how: EMMS before any place; else the lowest place, and there the first of three manners that holds.
-use Rattle.std.specs.Prelude.{Bool, true, false, cond, ◌&&◌, ◌||◌, List, [], ◌∷◌, ◌++◌, map, ℕ, eqb}
+use Rattle.std.specs.Prelude.{Bool, true, false, cond, ◌&&◌, ◌||◌, List, [], ◌∷◌, ◌++◌, map, ℕ, eqb, Option, Some, None}
 use Rattle.reorder.specs.Result.{Result, done, refused}
 use Rattle.reorder.specs.Footprint as places
 use Rattle.codec.specs.declared.Kind.{Kind}
@@ -11,7 +11,7 @@ use Rattle.studio.specs.declared.Place.TheVariants.{Mmx, Integer, Byte, ZeroMark
 use Rattle.studio.specs.declared.Manner.{Manner}
 use Rattle.studio.specs.declared.Manner.TheVariants.{BothWrite, WriteRead, ReadWrite}
 use Rattle.studio.specs.declared.Meeting as handed
-use Rattle.studio.specs.declared.Meeting.TheVariants.{Apart, Emms, At}
+use Rattle.studio.specs.declared.Meeting.TheVariants.{Emms, At}
 
 -- the places of a machine with n bytes of memory, in document 02's order: MMX registers, integer registers, memory bytes, each ascending, and the
 -- zero mark
@@ -82,7 +82,7 @@ paper_of_place (Integer k) = integer k
 paper_of_place (Byte a) = byte a
 paper_of_place ZeroMark = zero_mark
 
-abbrev pub paper_of_meeting : handed.Meeting → Meeting
-paper_of_meeting Apart = apart
-paper_of_meeting Emms = emms
-paper_of_meeting (At place manner) = met_at (paper_of_place place) manner
+abbrev pub paper_of_meeting : Option handed.Meeting → Meeting
+paper_of_meeting None = apart
+paper_of_meeting (Some Emms) = emms
+paper_of_meeting (Some (At place manner)) = met_at (paper_of_place place) manner

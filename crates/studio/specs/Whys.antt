@@ -1,13 +1,15 @@
 -- Why two instructions of a block cannot change places: 30, then the run's own answer where it is not done, then 29, then where they meet, and how.
-use Rattle.std.specs.Prelude.{cond, ◌||◌, List, ℕ, eqb, leb, ltb, length}
+use Rattle.std.specs.Prelude.{cond, ◌||◌, List, ℕ, eqb, leb, ltb, length, Option, Result, Ok, Err}
 use Rattle.reorder.specs.Run.{Answer, finished, spent, stopped}
 use Rattle.manual.specs.State.{State}
 use Rattle.manual.specs.Runs.{run_of, reaches_jump}
 use Rattle.manual.specs.Footprints.{footprint_in_run}
 use Rattle.machine.specs.State.{state_of}
 use Rattle.machine.specs.Runs.{paper_of_end}
-use Rattle.studio.specs.declared.Why.{Why}
-use Rattle.studio.specs.declared.Why.TheVariants.{Refused, NotDone, Answered}
+use Rattle.refusals.specs.Numbers.{number_of}
+use Rattle.studio.specs.declared.Meeting as handed
+use Rattle.studio.specs.declared.Unanswered.{Unanswered}
+use Rattle.studio.specs.declared.Unanswered.TheVariants.{Refused, NotDone}
 use Rattle.studio.specs.declared.Asked.{Asked}
 use Rattle.studio.specs.Refusals.{numbers_wrong, block_jumps}
 use Rattle.studio.specs.Meetings.{Meeting, meeting_of, paper_of_meeting}
@@ -45,10 +47,10 @@ unfoldable pub why_not : List ℕ → ℕ → ℕ → State → Reply
 why_not code i j s = cond (reaches_jump code) (refusal block_jumps s) (cond (ltb i j) (asked code i j s) (asked code j i s))
 
 -- the paper's answer for each case of the code's, with the state that is left
-abbrev pub paper_of_why : Why → State → Reply
-paper_of_why (Refused n) s = refusal n s
-paper_of_why (NotDone end at count) s = instead (paper_of_end end at count s)
-paper_of_why (Answered meeting) s = told (paper_of_meeting meeting) s
+abbrev pub paper_of_why : Result (Option handed.Meeting) Unanswered → State → Reply
+paper_of_why (Ok meeting) s = told (paper_of_meeting meeting) s
+paper_of_why (Err (Refused r)) s = refusal (number_of r) s
+paper_of_why (Err (NotDone end at count)) s = instead (paper_of_end end at count s)
 
 -- what is handed back, with what is then in the lent memory
 abbrev pub paper_of_asked : Asked → List ℕ → Reply

@@ -15,21 +15,14 @@ pub(crate) fn go_on(ran: Ran, code: &[u8], memory: &mut [u8], more: u32) -> Ran
     requires { Partly code.now more (paper_of_run ran memory.old) }
     ensures { paper_of_run result memory.new ≡ continued code.now more (paper_of_run ran memory.old) }
 {
-    let end = ran.end;
-    match end {
-        End::Done => ran,
-        End::Refused(_) => ran,
+    match ran.end {
+        End::Done | End::Refused(_) => ran,
         End::Spent => {
-            let at = ran.at;
-            let machine = ran.machine;
-            let rest = machine.run(&code[at..], memory, FLOOR, more);
-            let left = rest.machine;
-            let answer = rest.end;
+            let rest = ran.machine.run(&code[ran.at..], memory, FLOOR, more);
             Ran {
-                end: answer,
-                at: at + rest.at,
+                at: ran.at + rest.at,
                 count: ran.count + rest.count,
-                machine: left,
+                ..rest
             }
         }
     }
@@ -39,6 +32,5 @@ pub(crate) fn go_on(ran: Ran, code: &[u8], memory: &mut [u8], more: u32) -> Ran
 pub(crate) fn trace(ran: Ran, code: &[u8], memory: &[u8]) -> Tracing
     ensures { paper_of_footprint result ≡ masked_at code.now ran.at (state_of ran.machine memory.now) }
 {
-    let machine = ran.machine;
-    machine.footprint(code, ran.at, memory)
+    ran.machine.footprint(code, ran.at, memory)
 }

@@ -4,14 +4,14 @@
 mod going;
 mod jumps;
 mod meetings;
-mod refusals;
 mod whys;
 
 use machine::{End, Machine};
+use refusals::Refusal;
 pub use whys::why_not;
 
-// A place that steps read and write: a register by its number, a memory byte by its address, or the zero mark.
-#[derive(Clone, Copy)]
+// A place that steps read and write: a register by its number, a memory byte by its address, or the zero mark. The order is that of the places.
+#[derive(Clone, Copy, PartialEq, Eq, PartialOrd, Ord, Debug)]
 pub enum Place {
     Mmx(u8),
     Integer(u8),
@@ -20,32 +20,30 @@ pub enum Place {
 }
 
 // How two instructions meet at a place: both write it; the earlier writes and the later reads it; the earlier reads and the later writes it.
-#[derive(Clone, Copy)]
+#[derive(Clone, Copy, PartialEq, Eq, PartialOrd, Ord, Debug)]
 pub enum Manner {
     BothWrite,
     WriteRead,
     ReadWrite,
 }
 
-// What two instructions are to each other: they do not meet; one is EMMS; or the lowest place where they meet, and how.
-#[derive(Clone, Copy)]
+// How two instructions meet: one is EMMS; or the lowest place where they meet, and how.
+#[derive(Clone, Copy, PartialEq, Eq, PartialOrd, Ord, Debug)]
 pub enum Meeting {
-    Apart,
     Emms,
     At(Place, Manner),
 }
 
-// Why two instructions cannot change places: a refusal; the run's own answer, where it is not done, with its position and its count; or their meeting.
+// Why there is no answer: a refusal; or the run's own answer, where it is not done, with its position and its count.
 #[derive(Clone, Copy)]
-pub enum Why {
-    Refused(u8),
+pub enum Unanswered {
+    Refused(Refusal),
     NotDone(End, usize, u32),
-    Answered(Meeting),
 }
 
-// What is handed back: the answer, and the machine as the run leaves it, or where there was none as it was.
+// What is handed back: how the two meet, if they do, and the machine as the run leaves it, or where there was none as it was.
 #[derive(Clone, Copy)]
 pub struct Asked {
-    pub why: Why,
+    pub why: Result<Option<Meeting>, Unanswered>,
     pub machine: Machine,
 }

@@ -1,14 +1,14 @@
 // Why two instructions of a block cannot change places.
-ghost use Rattle.std.specs.Prelude.{◌≡◌, true, min, ◌≤◌};
+ghost use Rattle.std.specs.Prelude.{◌≡◌, true, ◌≤◌};
 ghost use Rattle.manual.specs.Runs.{has_no_jump};
 ghost use Rattle.machine.specs.State.{state_of};
 ghost use Rattle.studio.specs.Whys.{budget, paper_of_asked, asked, why_not};
 ghost use Rattle.studio.specs.inner.Parts.{Watches};
 
 use crate::going::FLOOR;
-use crate::refusals::{BLOCK_JUMPS, NUMBERS_WRONG};
-use crate::{Asked, Why, going, jumps, meetings};
+use crate::{Asked, Unanswered, going, jumps, meetings};
 use machine::{End, Machine, Ran, Tracing};
+use refusals::Refusal;
 
 // The instructions that the run may complete.
 const BUDGET: u32 = 4096;
@@ -21,19 +21,11 @@ struct Watched {
     second: Tracing,
 }
 
-// The less of a number and the budget.
-fn within_budget(number: u32) -> u32
-    ensures { result ≡ min number budget }
-{
-    if number < BUDGET {
-        return number;
-    }
-    BUDGET
-}
-
 // The run in three parts: to the earlier instruction, on to the later one, and on to the end.
 fn watch(machine: Machine, code: &[u8], memory: &mut [u8], low: u32, high: u32) -> Watched
-    requires { (has_no_jump code.now ≡ true) × ((low ≤ high) × (high ≤ budget)) }
+    requires straight { has_no_jump code.now ≡ true }
+    requires ordered { low ≤ high }
+    requires within { high ≤ budget }
     ensures { Watches code.now (state_of machine memory.old) low high result memory.new }
 {
     let near = machine.run(code, memory, FLOOR, low);
@@ -41,59 +33,29 @@ fn watch(machine: Machine, code: &[u8], memory: &mut [u8], low: u32, high: u32) 
     let far = going::go_on(near, code, memory, high - low);
     let second = going::trace(far, code, memory);
     let ran = going::go_on(far, code, memory, BUDGET - high);
-    Watched {
-        ran: ran,
-        first: first,
-        second: second,
-    }
+    Watched { ran, first, second }
 }
 
-// Of a block without a jump, by the earlier and the later number: the run's answer where it is not done, then 29, then the meeting.
+// Of a block without a jump, by the earlier and the later number: the run's answer where it is not done, then the refusal of the numbers, then the
+// meeting.
 fn ask(machine: Machine, code: &[u8], memory: &mut [u8], low: u32, high: u32) -> Asked
-    requires { (has_no_jump code.now ≡ true) × (low ≤ high) }
+    requires straight { has_no_jump code.now ≡ true }
+    requires ordered { low ≤ high }
     ensures { paper_of_asked result memory.new ≡ asked code.now low high (state_of machine memory.old) }
 {
     let bytes = memory.len();
-    let watched = watch(
-        machine,
-        code,
-        memory,
-        within_budget(low),
-        within_budget(high),
-    );
+    let watched = watch(machine, code, memory, low.min(BUDGET), high.min(BUDGET));
     let ran = watched.ran;
-    let end = ran.end;
-    let left = ran.machine;
-    match end {
-        End::Done => {
-            if low == high {
-                return Asked {
-                    why: Why::Refused(NUMBERS_WRONG),
-                    machine: left,
-                };
-            }
-            if ran.count <= high {
-                return Asked {
-                    why: Why::Refused(NUMBERS_WRONG),
-                    machine: left,
-                };
-            }
-            let first = watched.first;
-            let second = watched.second;
-            let meeting = meetings::met(first, second, bytes);
-            Asked {
-                why: Why::Answered(meeting),
-                machine: left,
-            }
+    let why = match ran.end {
+        End::Done if low == high || ran.count <= high => {
+            Err(Unanswered::Refused(Refusal::NumbersWrong))
         }
-        End::Spent => Asked {
-            why: Why::NotDone(End::Spent, ran.at, ran.count),
-            machine: left,
-        },
-        End::Refused(refusal) => Asked {
-            why: Why::NotDone(End::Refused(refusal), ran.at, ran.count),
-            machine: left,
-        },
+        End::Done => Ok(meetings::met(watched.first, watched.second, bytes)),
+        end => Err(Unanswered::NotDone(end, ran.at, ran.count)),
+    };
+    Asked {
+        why,
+        machine: ran.machine,
     }
 }
 
@@ -104,12 +66,9 @@ pub fn why_not(machine: Machine, code: &[u8], memory: &mut [u8], first: u32, sec
 {
     if jumps::reaches_jump(code) {
         return Asked {
-            why: Why::Refused(BLOCK_JUMPS),
-            machine: machine,
+            why: Err(Unanswered::Refused(Refusal::BlockJumps)),
+            machine,
         };
     }
-    if first < second {
-        return ask(machine, code, memory, first, second);
-    }
-    ask(machine, code, memory, second, first)
+    ask(machine, code, memory, first.min(second), first.max(second))
 }

@@ -1,11 +1,10 @@
--- Where two instructions meet: the lowest number of a place that two sets share is the lowest place of the definition.
+-- Where two instructions meet: the lowest place that two sets share, and the first of the meetings by manner, are those of the definition.
 pub mod Tests
-pub mod Leasts
 pub mod Masks
+pub mod Finding
 pub mod Bytes
-pub mod Numbers
 pub mod Sharing
+pub mod Numbers
+pub mod Ordering
 pub mod Naming
-pub mod Passing
-pub mod Rules
 pub mod Listing

@@ -1,31 +1,27 @@
--- Where two instructions meet, by footprints as masks and ranges: places by their numbers, and the lowest that two sets share.
-use Rattle.std.specs.Prelude.{◌≡◌, Bool, true, false, cond, ◌&&◌, ℕ, ◌+◌, ◌-◌, ◌/◌, ◌%◌, ◌^◌, ◌<◌, ◌≤◌, min, eqb, leb, ltb}
+-- Where two instructions meet, by footprints as masks and ranges: the places that two sets share, and which of two meetings is named first.
+use Rattle.std.specs.Prelude.{Bool, true, false, cond, ◌&&◌, List, find, Option, Some, None, ℕ, ◌+◌, ◌/◌, ◌%◌, ◌^◌, eqb, leb, ltb}
+use Rattle.std.specs.List.{range_with_len}
 use Rattle.manual.specs.Places.{Place, mmx, integer, byte, zero_mark}
 use Rattle.manual.specs.Kinds.{kinds_meet}
 use Rattle.machine.specs.declared.Places.{Places}
 use Rattle.machine.specs.declared.Footprint.{Footprint}
 use Rattle.machine.specs.declared.Tracing.{Tracing}
 use Rattle.machine.specs.declared.Tracing.TheVariants.{Traced, Refused}
+use Rattle.studio.specs.declared.Manner.{Manner}
 use Rattle.studio.specs.declared.Manner.TheVariants.{BothWrite, WriteRead, ReadWrite}
 use Rattle.studio.specs.Meetings.{Meeting, apart, emms, met_at, lowest, all_places}
 
--- the least number below n that passes a test; n where none does
-pub record Least (n : ℕ) (test : ℕ → Bool) (r : ℕ) : Type 0 where
-  pub inside : r ≤ n
-  pub earlier : (k : ℕ) → k < r → test k ≡ false
-  pub passes : r < n → test r ≡ true
+-- the registers of one sort
+abbrev pub registers : List ℕ
+registers = range_with_len 0 8
 
 -- register k is in a mask
-unfoldable pub in_mask : ℕ → ℕ → Bool
+abbrev pub in_mask : ℕ → ℕ → Bool
 in_mask mask k = eqb (mask / 2 ^ k % 2) 1
 
 -- byte a is in a range
 abbrev pub in_range : ℕ → ℕ → ℕ → Bool
 in_range start size a = leb start a && ltb a (start + size)
-
--- byte a is in both of two ranges
-unfoldable pub in_both : ℕ → ℕ → ℕ → ℕ → ℕ → Bool
-in_both start size other count a = in_range start size a && in_range other count a
 
 -- a place is in a set of places
 abbrev pub within : Places → Place → Bool
@@ -34,26 +30,57 @@ within x (integer k) = in_mask x.integers k
 within x (byte a) = in_range x.start x.length a
 within x zero_mark = x.zero
 
--- the place with a number, in a memory of n bytes
-unfoldable pub place_at : ℕ → ℕ → Place
-place_at n k = cond (ltb k 8) (mmx k) (cond (ltb k 16) (integer (k - 8)) (cond (ltb (k - 16) n) (byte (k - 16)) zero_mark))
+-- a place is in both of two sets
+unfoldable pub is_shared : Places → Places → Place → Bool
+is_shared one other p = within one p && within other p
 
--- the place with a number is in both of two sets
-unfoldable pub shared_at : Places → Places → ℕ → ℕ → Bool
-shared_at one other n k = within one (place_at n k) && within other (place_at n k)
+-- at a place, if there is one, in a manner
+abbrev pub meeting_there : Manner → Option Place → Meeting
+meeting_there x None = apart
+meeting_there x (Some p) = met_at p x
 
--- by the numbers of the lowest places that both write, that the earlier writes and the later reads, and that the earlier reads and the later writes
-unfoldable pub named_by : ℕ → ℕ → ℕ → ℕ → Meeting
-named_by n both write_read read_write =
-    let k = min both (min write_read read_write) in
-    cond (ltb (16 + n) k) apart
-    (met_at (place_at n k) (cond (eqb both k) BothWrite (cond (eqb write_read k) WriteRead ReadWrite)))
+-- at the lowest place that is in both of two sets, in a manner
+unfoldable pub lowest_meeting : ℕ → Manner → Places → Places → Meeting
+lowest_meeting n x one other = meeting_there x (find (is_shared one other) (all_places n))
 
-unfoldable pub lowest_in : ℕ → Footprint → Footprint → Meeting
-lowest_in n f g = lowest (within f.writes) (within f.reads) (within g.writes) (within g.reads) (all_places n)
+-- a place is lower than another
+abbrev pub is_lower : Place → Place → Bool
+is_lower (mmx j) (mmx k) = ltb j k
+is_lower (mmx j) (integer k) = true
+is_lower (mmx j) (byte a) = true
+is_lower (mmx j) zero_mark = true
+is_lower (integer j) (mmx k) = false
+is_lower (integer j) (integer k) = ltb j k
+is_lower (integer j) (byte a) = true
+is_lower (integer j) zero_mark = true
+is_lower (byte a) (mmx k) = false
+is_lower (byte a) (integer k) = false
+is_lower (byte a) (byte b) = ltb a b
+is_lower (byte a) zero_mark = true
+is_lower zero_mark q = false
+
+-- a manner's place among the three
+abbrev pub rank : Manner → ℕ
+rank BothWrite = 0
+rank WriteRead = 1
+rank ReadWrite = 2
+
+-- a place with a manner comes before another
+abbrev pub is_before : Place → Manner → Place → Manner → Bool
+is_before p x q y = cond (is_lower p q) true (cond (is_lower q p) false (ltb (rank x) (rank y)))
+
+-- the first of two meetings: EMMS before any place
+abbrev pub first_of : Meeting → Meeting → Meeting
+first_of apart m = m
+first_of emms m = emms
+first_of (met_at p x) apart = met_at p x
+first_of (met_at p x) emms = emms
+first_of (met_at p x) (met_at q y) = cond (is_before q y p x) (met_at q y) (met_at p x)
 
 unfoldable pub meeting_in : ℕ → Footprint → Footprint → Meeting
-meeting_in n f g = cond (kinds_meet f.kind g.kind) emms (lowest_in n f g)
+meeting_in n f g =
+    cond (kinds_meet f.kind g.kind) emms
+    (lowest (within f.writes) (within f.reads) (within g.writes) (within g.reads) (all_places n))
 
 -- a refused step meets none
 abbrev pub meeting_by : ℕ → Tracing → Tracing → Meeting

@@ -1,55 +1,44 @@
 -- The least byte of two ranges is where the one that starts later starts, if that is in the other; else there is none.
-use Rattle.std.specs.Prelude.{◌≡◌, true, ℕ, ◌+◌, ◌-◌, ◌≤◌, ◌<◌, min, leb, ltb, ◌↔◌}
-use Rattle.basis.proofs.Names.{arith, rules, le-leb, leb-true, lt-ltb, ltb-true}
+use Rattle.std.specs.Prelude.{◌≡◌, true, false, ℕ, ◌+◌, ◌-◌, ◌≤◌, ◌<◌, leb, ltb, ◌↔◌, find, Some, None}
+use Rattle.basis.proofs.Names.{sym, arith, rules, max, le-leb, leb-true, lt-ltb, ltb-true}
+use Rattle.manual.specs.Places.{byte}
+use Rattle.manual.specs.Locations.{bytes_from}
+use Rattle.machine.specs.declared.Places.{Places}
 use Rattle.machine.proofs.laws.meetings.Meeting.{and_exactly}
-use Rattle.studio.specs.inner.Meetings.{Least, in_range, in_both}
+use Rattle.studio.specs.inner.Meetings.{in_range, is_shared}
 use Rattle.studio.proofs.laws.meetings.Tests.{never}
+use Rattle.studio.proofs.laws.meetings.Finding.{first_byte, no_byte}
 
 pub range_exactly : (start size a : ℕ) → (in_range start size a ≡ true) ↔ ((start ≤ a) × (a < start + size))
 range_exactly start size a =
     and_exactly (leb start a) (ltb a (start + size)) (leb-true start a, le-leb start a) (ltb-true a (start + size), lt-ltb a (start + size))
 
-module _ (start size other count limit : ℕ) where
+module _ (one other : Places) (n first : ℕ) (later : first ≡ max one.start other.start) where
   abbrev InBoth : ℕ → Type 0
-  InBoth a = ((start ≤ a) × (a < start + size)) × ((other ≤ a) × (a < other + count))
+  InBoth a = ((one.start ≤ a) × (a < one.start + one.length)) × ((other.start ≤ a) × (a < other.start + other.length))
 
-  both_exactly : (a : ℕ) → (in_both start size other count a ≡ true) ↔ InBoth a
-  unfolding in_both
-  both_exactly a = and_exactly (in_range start size a) (in_range other count a) (range_exactly start size a) (range_exactly other count a)
+  both_exactly : (a : ℕ) → (is_shared one other (byte a) ≡ true) ↔ InBoth a
+  unfolding is_shared
+  both_exactly a =
+      and_exactly (in_range one.start one.length a) (in_range other.start other.length a) (range_exactly one.start one.length a)
+      (range_exactly other.start other.length a)
 
-  none_in_both : ((a : ℕ) → InBoth a → ⊥) → Least limit (in_both start size other count) limit
-  none_in_both none =
-      record { inside = omega arith; earlier = λ a h. never _ (λ e. none a ((both_exactly a).0 e)); passes = λ h. absurd (omega arith) }
+  none : (a : ℕ) → (InBoth a → ⊥) → is_shared one other (byte a) ≡ false
+  none a h = never _ (λ e. h ((both_exactly a).0 e))
 
-  first_in_both : (first r : ℕ) → InBoth first → ((a : ℕ) → a < first → InBoth a → ⊥) → r ≡ min first limit
-      → Least limit (in_both start size other count) r
-  first_in_both first r at none e =
-      record {
-        inside = omega arith;
-        earlier = λ a h. never _ (λ z. none a (omega arith) ((both_exactly a).0 z));
-        passes = λ h. let same : first ≡ r = omega arith in rw (← same) ((both_exactly first).1 at);
-      }
+  pub both_have : first - one.start < one.length → first - other.start < other.length → first < n
+      → Some (byte first) ≡ find (is_shared one other) (bytes_from 0 n)
+  both_have h g l =
+      sym (first_byte (is_shared one other) 0 n first (omega arith) (omega arith) (λ j b. none j (λ z. omega arith))
+      ((both_exactly first).1 ((omega arith, omega arith), (omega arith, omega arith))))
 
-  pub none_of_first : size ≡ 0 → Least limit (in_both start size other count) limit
-  none_of_first e = none_in_both (λ a h. omega arith)
+  pub first_lacks : one.length ≤ first - one.start → None ≡ find (is_shared one other) (bytes_from 0 n)
+  first_lacks h = sym (no_byte (is_shared one other) 0 n (λ j b. none j (λ z. omega arith)))
 
-  pub none_of_second : count ≡ 0 → Least limit (in_both start size other count) limit
-  none_of_second e = none_in_both (λ a h. omega arith)
+  pub second_lacks : other.length ≤ first - other.start → None ≡ find (is_shared one other) (bytes_from 0 n)
+  second_lacks h = sym (no_byte (is_shared one other) 0 n (λ j b. none j (λ z. omega arith)))
 
-  module _ (later : start < other) where
-    pub second_starts : (r : ℕ) → (count ≡ 0 → ⊥) → other - start < size → r ≡ min other limit → Least limit (in_both start size other count) r
-    second_starts r some h e =
-        first_in_both other r ((omega arith, omega arith), (omega arith, omega arith)) (λ a g z. omega arith) e
+  pub past_memory : n ≤ first → None ≡ find (is_shared one other) (bytes_from 0 n)
+  past_memory h = sym (no_byte (is_shared one other) 0 n (λ j b. none j (λ z. omega arith)))
 
-    pub second_behind : size ≤ other - start → Least limit (in_both start size other count) limit
-    second_behind h = none_in_both (λ a z. omega arith)
-
-  module _ (later : other ≤ start) where
-    pub first_starts : (r : ℕ) → (size ≡ 0 → ⊥) → start - other < count → r ≡ min start limit → Least limit (in_both start size other count) r
-    first_starts r some h e =
-        first_in_both start r ((omega arith, omega arith), (omega arith, omega arith)) (λ a g z. omega arith) e
-
-    pub first_behind : count ≤ start - other → Least limit (in_both start size other count) limit
-    first_behind h = none_in_both (λ a z. omega arith)
-
-pub ruleset ranging = (rules, none_of_first, none_of_second, second_starts, second_behind, first_starts, first_behind)
+pub ruleset ranging = (rules, both_have, first_lacks, second_lacks, past_memory)

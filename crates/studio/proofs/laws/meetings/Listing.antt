@@ -15,7 +15,7 @@ use Rattle.machine.proofs.laws.meetings.Ranges.{Range, OneRange, RangedFootprint
 use Rattle.machine.proofs.laws.meetings.Masking.{mmx_masked, integer_masked, byte_masked, zero_exactly}
 use Rattle.machine.proofs.laws.meetings.Meeting.{or_exactly}
 use Rattle.studio.specs.Meetings.{emms, lowest, all_places, is_same, among, meeting_of}
-use Rattle.studio.specs.inner.Meetings.{in_mask, within, lowest_in, meeting_in, meeting_by}
+use Rattle.studio.specs.inner.Meetings.{within, meeting_in, meeting_by}
 use Rattle.studio.proofs.laws.meetings.Tests.{equal_exactly, exactly_then, together}
 use Rattle.studio.proofs.laws.meetings.Bytes.{range_exactly}
 
@@ -60,7 +60,6 @@ among_exactly (q ∷ qs) p = exactly_then (or_exactly (is_same p q) (among qs p)
 
 module _ (ps : List Place) (range : Range (bytes_of ps)) where
   within_exactly : (p : Place) → (within (set_of ps) p ≡ true) ↔ In p ps
-  unfolding in_mask
   within_exactly (mmx k) = exactly_then (equal_exactly (bit k (set_of ps).mmx) 1) (mmx_masked k ps)
   within_exactly (integer k) = exactly_then (equal_exactly (bit k (set_of ps).integers) 1) (integer_masked k ps)
   within_exactly (byte a) = exactly_then (range_exactly (set_of ps).start (set_of ps).length a) (byte_masked a ps range)
@@ -84,7 +83,7 @@ module _ (f g : places.Footprint Place Kind) (one : OneRange f) (other : OneRang
       )
 
   both-listed : (n : ℕ) → meeting_in n (masked f) (masked g) ≡ meeting_of n (done f) (done g)
-  unfolding meeting_in lowest_in
+  unfolding meeting_in
   both-listed n = ap (cond (kinds_meet f.kind g.kind) emms) (lowest_listed (all_places n))
 
 -- what the code finds is the definition's, over the lists of places

@@ -1,11 +1,15 @@
 -- The places by their numbers: the list of all places has the place with each number, in order.
-use Rattle.std.specs.Prelude.{◌≡◌, List, [], ◌∷◌, ◌++◌, ℕ, zero, suc, ◌+◌, ◌-◌, ◌≤◌, ◌<◌}
+use Rattle.std.specs.Prelude.{◌≡◌, cond, List, [], ◌∷◌, ◌++◌, ℕ, zero, suc, ◌+◌, ◌-◌, ◌≤◌, ◌<◌, ltb}
 use Rattle.basis.specs.Names.{Memᴰ as In}
-use Rattle.basis.proofs.Names.{ap, Memᴰ-head as here, Memᴰ-tail as later, dec_lt, zero-add, add-zero, suc-add, add_assoc, add-sub_cancel_left, arith, rules, lt-ltb, le-ltb}
+use Rattle.basis.proofs.Names.{ap, Memᴰ-head as here, Memᴰ-tail as later, dec_lt, zero-add, add-zero, suc-add, add_assoc, add-sub_cancel_left, arith, lt-ltb, le-ltb}
 use Rattle.manual.specs.Places.{Place, mmx, integer, byte, zero_mark}
 use Rattle.manual.specs.Locations.{bytes_from}
 use Rattle.studio.specs.Meetings.{all_places}
-use Rattle.studio.specs.inner.Meetings.{place_at}
+
+-- the place with a number, in a memory of n bytes: the MMX registers are 0 to 7, the integer registers 8 to 15, the memory bytes 16 and so on, and
+-- behind them is the zero mark
+unfoldable pub place_at : ℕ → ℕ → Place
+place_at n k = cond (ltb k 8) (mmx k) (cond (ltb k 16) (integer (k - 8)) (cond (ltb (k - 16) n) (byte (k - 16)) zero_mark))
 
 module _ (n k : ℕ) where
   pub is_mmx : k < 8 → mmx k ≡ place_at n k
@@ -28,8 +32,6 @@ module _ (n k : ℕ) where
     pub is_zero_mark_lem : n ≤ k - 16 → zero_mark ≡ place_at n k
     unfolding place_at
     is_zero_mark_lem h = simp (le-ltb k 8 past_mmx, le-ltb k 16 no_register, le-ltb (k - 16) n h)
-
-pub ruleset placing = (rules, is_mmx, is_integer_lem, is_byte, is_zero_mark_lem)
 
 -- so many places, from the place with number k on
 abbrev pub numbered : ℕ → ℕ → ℕ → List Place

@@ -1,65 +1,66 @@
--- The lowest number of a place that two sets share: the sorts of places stand one behind the other, each with a test of its own.
-use Rattle.std.specs.Prelude.{◌≡◌, true, false, ◌&&◌, ℕ, ◌+◌, ◌≤◌, ◌<◌}
+-- The lowest place that two sets share: the sorts of places stand one behind the other, each with a test of its own.
+use Rattle.std.specs.Prelude.{◌≡◌, refl, Bool, true, false, cond, ◌&&◌, [], ◌∷◌, ◌++◌, find, Option, Some, None, option_map, ℕ}
+use Rattle.std.specs.Bool.{then_some}
+use Rattle.std.specs.Option.{option_or}
+use Rattle.std.proofs.lemmas.List.Folds.{find-append}
 use Rattle.basis.specs.Names.{bit_and}
-use Rattle.basis.proofs.Names.{◌∙◌, and-false, zero-add, add-sub_cancel_left, arith, rules}
+use Rattle.basis.proofs.Names.{ap, ap₂, sym, ◌∙◌}
+use Rattle.manual.specs.Places.{mmx, integer, byte, zero_mark}
+use Rattle.manual.specs.Locations.{bytes_from}
 use Rattle.machine.specs.declared.Places.{Places}
-use Rattle.studio.specs.inner.Meetings.{Least, in_mask, in_both, shared_at}
-use Rattle.studio.proofs.laws.meetings.Leasts.{none_tried, one_more, found, not_found, found-behind, none_behind}
+use Rattle.studio.specs.declared.Place as declared
+use Rattle.studio.specs.declared.Place.TheVariants.{Mmx, Integer, Byte, ZeroMark}
+use Rattle.studio.specs.Meetings.{eight, all_places, paper_of_place}
+use Rattle.studio.specs.inner.Meetings.{registers, in_mask, is_shared}
 use Rattle.studio.proofs.laws.meetings.Masks.{in_masks}
-use Rattle.studio.proofs.laws.meetings.Numbers.{is_mmx, is_integer_lem, is_byte, is_zero_mark_lem}
+use Rattle.studio.proofs.laws.meetings.Finding.{find-map}
+
+-- a sort made into places, and the one or the other of two
+
+by_sort : {A : Type 0} (f : A → declared.Place) (o : Option A) → option_map paper_of_place (option_map f o) ≡ option_map (λ a. paper_of_place (f a)) o
+by_sort f None = refl
+by_sort f (Some a) = refl
+
+or_map : (o p : Option declared.Place) → option_map paper_of_place (option_or o p) ≡ option_or (option_map paper_of_place o) (option_map paper_of_place p)
+or_map None p = refl
+or_map (Some a) p = refl
 
 module _ (one other : Places) (n : ℕ) where
-  -- by the sort of the place
+  module _ (m i b z : Option declared.Place)
+      (mmx_is : option_map paper_of_place m ≡ find (is_shared one other) (eight mmx))
+      (integer_is : option_map paper_of_place i ≡ find (is_shared one other) (eight integer))
+      (byte_is : option_map paper_of_place b ≡ find (is_shared one other) (bytes_from 0 n))
+      (mark_is : option_map paper_of_place z ≡ find (is_shared one other) (zero_mark ∷ [])) where
+    pub one_after_the_other : option_map paper_of_place (option_or (option_or (option_or m i) b) z) ≡ find (is_shared one other) (all_places n)
+    one_after_the_other =
+        or_map (option_or (option_or m i) b) z
+        ∙ ap₂ option_or (or_map (option_or m i) b ∙ ap₂ option_or (or_map m i ∙ ap₂ option_or mmx_is integer_is ∙ sym (find-append (is_shared one other) (eight mmx) (eight integer))) byte_is
+        ∙ sym (find-append (is_shared one other) (eight mmx ++ eight integer) (bytes_from 0 n))) mark_is
+        ∙ sym (find-append (is_shared one other) (eight mmx ++ eight integer ++ bytes_from 0 n) (zero_mark ∷ []))
 
-  shared_mmx : (k : ℕ) → k < 8 → shared_at one other n (0 + k) ≡ in_mask (bit_and one.mmx other.mmx) k
-  unfolding shared_at
-  shared_mmx k h = simp (zero-add, ← is_mmx n k h) (in_masks one.mmx other.mmx k)
+  pub of_mmx : (r : Option ℕ) → r ≡ find (in_mask (bit_and one.mmx other.mmx)) registers
+      → option_map paper_of_place (option_map Mmx r) ≡ find (is_shared one other) (eight mmx)
+  unfolding is_shared
+  of_mmx r e =
+      by_sort Mmx r ∙ ap (option_map mmx) e
+      ∙ sym (find-map mmx (in_mask (bit_and one.mmx other.mmx)) (is_shared one other) (λ k. in_masks one.mmx other.mmx k) registers)
 
-  shared_integer : (k : ℕ) → k < 8 → shared_at one other n (8 + k) ≡ in_mask (bit_and one.integers other.integers) k
-  unfolding shared_at
-  shared_integer k h = simp (← is_integer_lem n (8 + k) (omega arith) (omega arith), add-sub_cancel_left) (in_masks one.integers other.integers k)
+  pub of_integer : (r : Option ℕ) → r ≡ find (in_mask (bit_and one.integers other.integers)) registers
+      → option_map paper_of_place (option_map Integer r) ≡ find (is_shared one other) (eight integer)
+  unfolding is_shared
+  of_integer r e =
+      by_sort Integer r ∙ ap (option_map integer) e
+      ∙ sym (find-map integer (in_mask (bit_and one.integers other.integers)) (is_shared one other) (λ k. in_masks one.integers other.integers k) registers)
 
-  shared_byte : (a : ℕ) → a < n → shared_at one other n (16 + a) ≡ in_both one.start one.length other.start other.length a
-  unfolding shared_at in_both
-  shared_byte a h = simp (← is_byte n (16 + a) (omega arith) (omega arith), add-sub_cancel_left)
+  pub of_byte : (r : Option ℕ) → option_map byte r ≡ find (is_shared one other) (bytes_from 0 n)
+      → option_map paper_of_place (option_map Byte r) ≡ find (is_shared one other) (bytes_from 0 n)
+  of_byte r e = by_sort Byte r ∙ e
 
-  shared_zero : shared_at one other n (16 + n) ≡ (one.zero && other.zero)
-  unfolding shared_at
-  shared_zero = simp (← is_zero_mark_lem n (16 + n) (omega arith) (omega arith))
-
-  -- one sort after the other
-  module _ (m : ℕ) (mmx : Least 8 (in_mask (bit_and one.mmx other.mmx)) m) where
-    pub lowest_mmx : m < 8 → Least (17 + n) (shared_at one other n) m
-    lowest_mmx h = simp zero-add at (found-behind 8 0 m (shared_at one other n) _ shared_mmx (none_tried _) mmx (17 + n) h (omega arith))
-
-    module _ (no_mmx : 8 ≤ m) (i : ℕ) (integer : Least 8 (in_mask (bit_and one.integers other.integers)) i) where
-      past_mmx : Least 8 (shared_at one other n) 8
-      past_mmx = none_behind 8 0 m _ _ shared_mmx (none_tried _) mmx no_mmx
-
-      pub lowest_integer : 8 + i < 16 → Least (17 + n) (shared_at one other n) (8 + i)
-      lowest_integer h = found-behind 8 8 i _ _ shared_integer past_mmx integer (17 + n) (omega arith) (omega arith)
-
-      module _ (no_integer : 16 ≤ 8 + i) (a : ℕ) (byte : Least n (in_both one.start one.length other.start other.length) a) where
-        past_registers : Least 16 (shared_at one other n) 16
-        past_registers = none_behind 8 8 i _ _ shared_integer past_mmx integer (omega arith)
-
-        pub lowest_byte : a < n → Least (17 + n) (shared_at one other n) (16 + a)
-        lowest_byte h = found-behind n 16 a _ _ shared_byte past_registers byte (17 + n) h (omega arith)
-
-        module _ (no_byte : n ≤ a) where
-          past_bytes : Least (16 + n) (shared_at one other n) (16 + n)
-          past_bytes = none_behind n 16 a _ _ shared_byte past_registers byte no_byte
-
-          pub lowest_zero : one.zero ≡ true → other.zero ≡ true → Least (17 + n) (shared_at one other n) (16 + n)
-          lowest_zero e h = found (shared_at one other n) (16 + n) past_bytes (17 + n) (omega arith) (shared_zero ∙ simp (e, h))
-
-          not_zero : (one.zero && other.zero) ≡ false → Least (17 + n) (shared_at one other n) (16 + n + 1)
-          not_zero e = not_found _ _ (one_more _ _ past_bytes (shared_zero ∙ e)) (17 + n) (omega arith) (omega arith)
-
-          pub not_zero_first : one.zero ≡ false → Least (17 + n) (shared_at one other n) (16 + n + 1)
-          not_zero_first e = not_zero (simp e)
-
-          pub not_zero_second : other.zero ≡ false → Least (17 + n) (shared_at one other n) (16 + n + 1)
-          not_zero_second e = not_zero (simp (e, and-false))
-
-pub ruleset sharing = (rules, lowest_mmx, lowest_integer, lowest_byte, lowest_zero, not_zero_first, not_zero_second)
+  pub of_mark : (z : Option declared.Place) (t : Bool) → z ≡ then_some t ZeroMark → t ≡ (one.zero && other.zero)
+      → option_map paper_of_place z ≡ find (is_shared one other) (zero_mark ∷ [])
+  unfolding is_shared
+  of_mark z t e h = ap (option_map paper_of_place) e ∙ by t ∙ ap (λ (b : Bool). cond b (Some zero_mark) None) h
+    where
+      by : (t : Bool) → option_map paper_of_place (then_some t ZeroMark) ≡ cond t (Some zero_mark) None
+      by true = refl
+      by false = refl

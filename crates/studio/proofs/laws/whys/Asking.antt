@@ -1,11 +1,11 @@
 -- What is answered after a question's run, by how it ended and by what was traced between its parts.
-use Rattle.std.specs.Prelude.{◌≡◌, Bool, true, false, not, List, ℕ, min, ◌≤◌, ◌<◌, length}
-use Rattle.basis.proofs.Names.{sym, ap, ap₂, subst, ◌∙◌, arith, rules, eq-eqb, ne_eqb, le-leb, lt-leb, lt-ltb, le-ltb, ltb-false, or-true}
+use Rattle.std.specs.Prelude.{◌≡◌, refl, ◌⊎◌, Bool, true, false, not, cond, Option, Result, Ok, Err, List, ℕ, min, ◌≤◌, ◌<◌, ltb, length}
+use Rattle.basis.proofs.Names.{sym, inl, inr, ap, ap₂, subst, ◌∙◌, arith, rules, eq-eqb, ne_eqb, le-leb, lt-leb, lt-ltb, le-ltb, or-true, dec_lt, max}
+use Rattle.refusals.specs.declared.Refusal.TheVariants.{NumbersWrong, BlockJumps}
 use Rattle.reorder.specs.Run.{finished}
-use Rattle.manual.specs.State.{State, longest_memory}
+use Rattle.manual.specs.State.{State}
 use Rattle.manual.specs.Runs.{run_of, reaches_jump, has_no_jump}
 use Rattle.manual.specs.Footprints.{footprint_in_run}
-use Rattle.manual.proofs.Demand3.{fitting}
 use Rattle.manual.proofs.Bounds.{Bounds, Bounded, run_bounded}
 use Rattle.machine.specs.declared.End.{End}
 use Rattle.machine.specs.declared.End.TheVariants.{Done, Spent}
@@ -15,10 +15,9 @@ use Rattle.machine.specs.State.{state_of}
 use Rattle.machine.specs.Runs.{paper_of_end}
 use Rattle.machine.proofs.Positions.{ranged_run}
 use Rattle.studio.specs.declared.Meeting as handed
-use Rattle.studio.specs.declared.Why.{Why}
-use Rattle.studio.specs.declared.Why.TheVariants.{Refused, NotDone, Answered}
+use Rattle.studio.specs.declared.Unanswered.{Unanswered}
+use Rattle.studio.specs.declared.Unanswered.TheVariants.{Refused, NotDone}
 use Rattle.studio.specs.declared.whys.Watched.{Watched}
-use Rattle.studio.specs.Refusals.{numbers_wrong, block_jumps}
 use Rattle.studio.specs.Meetings.{paper_of_meeting}
 use Rattle.studio.specs.Whys.{budget, Reply, reply_after, meeting_in_run, asked, why_not, paper_of_asked}
 use Rattle.studio.specs.inner.Meetings.{meeting_by}
@@ -28,42 +27,36 @@ use Rattle.studio.proofs.laws.meetings.Listing.{meeting_listed}
 module _ (code : List ℕ) (s : State) (low high near far : ℕ) (low_within : near ≡ min low budget) (high_within : far ≡ min high budget)
     (w : Watched) (m : List ℕ) (watched : Watches code s near far w m) where
   -- this answer is handed back, with the machine as the run left it
-  abbrev Answers : Why → Type 0
+  abbrev Answers : Result (Option handed.Meeting) Unanswered → Type 0
   Answers why = paper_of_asked (record { why = why; machine = w.ran.machine }) m ≡ asked code low high s
 
   -- the run by how it ended
   ran : (e : End) → w.ran.end ≡ e → run_of 0 code budget s ≡ paper_of_end e w.ran.at w.ran.count (state_of w.ran.machine m)
   ran e h = sym watched.runs ∙ ap (λ (x : End). paper_of_end x w.ran.at w.ran.count (state_of w.ran.machine m)) h
 
-  pub asked_spent : w.ran.end ≡ Spent → Answers (NotDone Spent w.ran.at w.ran.count)
+  -- where it is not done
+  pub asked_undone : (e : End) → w.ran.end ≡ e → (e ≡ Done → ⊥) → Answers (Err (NotDone e w.ran.at w.ran.count))
   unfolding asked
-  asked_spent h = sym (ap (reply_after code low high s) (ran Spent h))
-
-  pub asked-refused : (n : ℕ) → w.ran.end ≡ end.Refused n → Answers (NotDone (end.Refused n) w.ran.at w.ran.count)
-  unfolding asked
-  asked-refused n h = sym (ap (reply_after code low high s) (ran (end.Refused n) h))
+  asked_undone Done h other = absurd (other refl)
+  asked_undone Spent h other = sym (ap (reply_after code low high s) (ran Spent h))
+  asked_undone (end.Refused n) h other = sym (ap (reply_after code low high s) (ran (end.Refused n) h))
 
   module _ (h : w.ran.end ≡ Done) where
     after : asked code low high s ≡ reply_after code low high s (finished w.ran.at w.ran.count (state_of w.ran.machine m))
     unfolding asked
     after = ap (reply_after code low high s) (ran Done h)
 
-    pub asked-equal : low ≡ high → Answers (Refused numbers_wrong)
-    asked-equal same = sym (after ∙ simp (eq-eqb low high same))
-
-    pub asked_past : w.ran.count ≤ high → Answers (Refused numbers_wrong)
-    asked_past past = sym (after ∙ simp (le-leb w.ran.count high past, or-true))
-
-    -- the memory is within its limit
-    pub memory_short : length s.memory ≤ longest_memory
-    memory_short = ltb-false longest_memory (length s.memory) (fitting 0 code budget w.ran.at w.ran.count s (state_of w.ran.machine m) (ran Done h)).0.memory_fits
+    -- two equal numbers, or one that is not below the count
+    pub asked_wrong : (low ≡ high) ⊎ ((low ≡ high → ⊥) × (w.ran.count ≤ high)) → Answers (Err (Refused NumbersWrong))
+    asked_wrong (inl same) = sym (after ∙ simp (eq-eqb low high same))
+    asked_wrong (inr (other, past)) = sym (after ∙ simp (le-leb w.ran.count high past, or-true))
 
     bounds : Bounds code budget s w.ran.at w.ran.count (state_of w.ran.machine m)
     bounds = subst (Bounded code budget s) (ran Done h) (run_bounded 0 code budget s)
 
-    pub asked_met : (low ≡ high → ⊥) → low ≤ high → high < w.ran.count → (met : handed.Meeting)
-        → paper_of_meeting met ≡ meeting_by (length s.memory) w.first w.second → Answers (Answered met)
-    asked_met other ordered below met found =
+    pub asked_met : (low ≡ high → ⊥) × (high < w.ran.count) → low ≤ high → (met : Option handed.Meeting)
+        → paper_of_meeting met ≡ meeting_by (length s.memory) w.first w.second → Answers (Ok met)
+    asked_met (other, below) ordered met found =
         let near_is : near ≡ low = omega (arith, bounds.completed_steps) in
         let far_is : far ≡ high = omega (arith, bounds.completed_steps) in
         let low_below : low < w.ran.count = omega arith in
@@ -73,11 +66,11 @@ module _ (code : List ℕ) (s : State) (low high near far : ℕ) (low_within : n
         (subst (λ (k : ℕ). Traces code s k w.first) near_is watched.first) (subst (λ (k : ℕ). Traces code s k w.second) far_is watched.second)) in
         sym (after ∙ simp (ne_eqb low high other, lt-leb w.ran.count low low_below, lt-leb w.ran.count high below, meets))
 
-pub ruleset asking = (rules, asked_spent, asked-refused, asked-equal, asked_past, memory_short, asked_met)
+pub ruleset asking = (rules, asked_undone, asked_wrong, asked_met)
 
 -- 30, and the numbers in either order
 module _ (code : List ℕ) (first second : ℕ) (k : Machine) (m : List ℕ) (jumps : Bool) (reached : jumps ≡ reaches_jump code) where
-  pub why_jumps : jumps ≡ true → paper_of_asked (record { why = Refused block_jumps; machine = k }) m ≡ why_not code first second (state_of k m)
+  pub why_jumps : jumps ≡ true → paper_of_asked (record { why = Err (Refused BlockJumps); machine = k }) m ≡ why_not code first second (state_of k m)
   unfolding why_not
   why_jumps e = sym (simp (← reached, e))
 
@@ -85,12 +78,19 @@ module _ (code : List ℕ) (first second : ℕ) (k : Machine) (m : List ℕ) (ju
   no_jump e = ap not (sym reached ∙ e)
 
   module _ (straight : jumps ≡ false) (R : Reply) where
-    pub why_ascending : first < second → R ≡ asked code first second (state_of k m) → R ≡ why_not code first second (state_of k m)
+    pub why_sorted : R ≡ asked code (min first second) (max first second) (state_of k m) → R ≡ why_not code first second (state_of k m)
     unfolding why_not
-    why_ascending h e = e ∙ sym (simp (← reached, straight, lt-ltb first second h))
+    why_sorted e = e ∙ sym (simp (← reached, straight) (by (dec_lt first second)))
+      where
+        by : Dec (first < second) → cond (ltb first second) (asked code first second (state_of k m)) (asked code second first (state_of k m))
+            ≡ asked code (min first second) (max first second) (state_of k m)
+        by (yes h) =
+            let low : first ≡ min first second = omega arith in
+            let high : second ≡ max first second = omega arith in
+            simp (lt-ltb first second h) (ap₂ (λ i j. asked code i j (state_of k m)) low high)
+        by (no h) =
+            let low : second ≡ min first second = omega arith in
+            let high : first ≡ max first second = omega arith in
+            simp (le-ltb first second (omega arith)) (ap₂ (λ i j. asked code i j (state_of k m)) low high)
 
-    pub why_descending : second ≤ first → R ≡ asked code second first (state_of k m) → R ≡ why_not code first second (state_of k m)
-    unfolding why_not
-    why_descending h e = e ∙ sym (simp (← reached, straight, le-ltb first second h))
-
-pub ruleset choosing = (rules, why_jumps, no_jump, why_ascending, why_descending)
+pub ruleset choosing = (rules, why_jumps, no_jump, why_sorted)
