@@ -22,10 +22,7 @@ unfolding total
 total_ext zero f g h = refl
 total_ext (suc n) f g h = ap₂ ◌+◌ (h n (lt-suc_self n)) (total_ext n f g (λ i l. h i (lt_trans l (lt-suc_self n))))
 
--- the loop's invariant: the lanes below i are added up
-abbrev pub Totalled : ℕ → ℕ → ℕ → ℕ → Type 0
-Totalled w x sum i = (i ≤ 64 / w) × (sum ≡ total i (λ j. lane w j x))
-
+-- the loop begins with no lane, and adds one a turn
 pub total_starts : (f : ℕ → ℕ) → 0 ≡ total 0 f
 unfolding total
 total_starts f = refl
@@ -42,21 +39,11 @@ module _ (w x m sum i : ℕ) (em : m ≡ 2 ^ w - 1) (e : sum ≡ total i (λ j. 
       rw total_again
       (omega (arith, total_le w (i + 1) (λ j. lane w j x), built_of_lanes w (i + 1) x, div-add-mod' x (2 ^ (w * (i + 1)))))
 
--- the lane lies in the register; its place and the next number are small
-module _ (w i : ℕ) (l : 1 ≤ w) (k : i < 64 / w) where
-  pub lane-within : w * i < 64
-  lane-within = omega (arith, inside w 64 i l k)
+-- the lane lies in the register
+pub lane-within : (w i : ℕ) → 1 ≤ w → i < 64 / w → w * i < 64
+lane-within w i l k = omega (arith, inside w 64 i l k)
 
-  pub lane-fits : w * i < 2 ^ 64
-  lane-fits = omega (arith, lane-within)
-
-  pub next_fits : i + 1 < 2 ^ 64
-  next_fits = omega (arith, div-le_self 64 w)
-
-pub total_ends : (i n : ℕ) (f : ℕ → ℕ) → i ≤ n → n ≤ i → total i f ≡ total n f
-total_ends i n f h k = ap (λ (j : ℕ). total j f) (omega arith)
-
-pub ruleset adding_up = (rules, total_starts, total_again, total-fits, lane-within, lane-fits, next_fits, total_ends)
+pub ruleset adding_up = (total_starts, total_again, total-fits, lane-within)
 
 -- ---- the distances
 

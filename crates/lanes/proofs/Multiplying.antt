@@ -1,7 +1,7 @@
 -- What the lanes of the signed multiplications are, from a product that 2 ^ 32 is added to; and of the unsigned one.
 use Rattle.std.specs.Prelude.{◌≡◌, refl, ℕ, ◌+◌, ◌-◌, ◌*◌, ◌/◌, ◌%◌, ◌^◌, ◌<◌, ℤ, pos, negsuc, ◌+ℤ◌}
 use Rattle.basis.specs.Names.{sub_ℕ, shr_z}
-use Rattle.basis.proofs.Names.{sym, ap, ap₂, ◌∙◌, mod-lt, arith, rules, pow_pos, field}
+use Rattle.basis.proofs.Names.{sym, ap, ap₂, ◌∙◌, mod-lt, arith, pow_pos, field}
 use Rattle.lanes.specs.Lane.{lane}
 use Rattle.lanes.specs.Signed.{wrap}
 use Rattle.lanes.specs.Rules.{pairwise, product, product_low, product_high, product_sum, product_high_unsigned}
@@ -58,4 +58,4 @@ module _ (a b i : ℕ) where
   unfolding pairwise product_high_unsigned lane
   product_high_unsigned_is = refl
 
-pub ruleset multiplying = (rules, product_low_is, product_high_is, product_sum_is, unsigned_fits, product_high_unsigned_is)
+pub ruleset multiplying = (product_low_is, product_high_is, product_sum_is, unsigned_fits, product_high_unsigned_is)

@@ -45,7 +45,7 @@ mul_builds w zero x f = zero-mul x
 mul_builds w (suc n) x f = add-mul (f n * 2 ^ (w * n)) (build w n f) x ∙ ap₂ ◌+◌ (mul_right_comm (f n) (2 ^ (w * n)) x) (mul_builds w n x f)
 
 -- what stands above a field does not reach it
-above : (h m j k x : ℕ) → j + k ≤ m → (h * 2 ^ m + x) / 2 ^ k % 2 ^ j ≡ x / 2 ^ k % 2 ^ j
+pub above : (h m j k x : ℕ) → j + k ≤ m → (h * 2 ^ m + x) / 2 ^ k % 2 ^ j ≡ x / 2 ^ k % 2 ^ j
 above h m j k x l =
     sym (field (h * 2 ^ m + x) j k)
     ∙ ap (λ (y : ℕ). y / 2 ^ k)

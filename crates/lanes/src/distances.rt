@@ -8,16 +8,15 @@ use crate::lane::{QUADWORD, ones};
 use crate::sums::subtract_unsigned;
 
 // The lanes, added up.
+#[tactic(auto, using(crate::proofs::AddingUp::adding_up))]
 fn total(x: u64, w: u64) -> u64
     requires { Fills w }
     ensures { result ≡ total (64 / w) (λ i. lane w i x) }
 {
     let ones = ones(w);
     let mut sum: u64 = 0;
-    let mut i: u64 = 0;
-    while i < QUADWORD / w {
+    for i in 0..QUADWORD / w {
         sum += (x >> (w * i)) & ones;
-        i += 1;
     }
     sum
 }

@@ -13,10 +13,8 @@ pub(crate) const DOUBLEWORD: u64 = 32;
 
 pub(crate) const QUADWORD: u64 = 64;
 
-// How many words and doublewords a register holds.
+// How many words a register holds.
 pub(crate) const WORDS: u64 = 4;
-
-pub(crate) const DOUBLEWORDS: u64 = 2;
 
 // How many numbers lanes of 16 and of 32 bits hold.
 pub(crate) const WORD_RANGE: u64 = 0x1_0000;

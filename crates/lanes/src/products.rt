@@ -1,19 +1,25 @@
 // PMULLW, PMULHW and PMADDWD: signed products of words; PMULHUW: unsigned ones.
-ghost use Rattle.std.specs.Prelude.{◌≡◌, ◌+◌, ◌*◌, ◌^◌, ◌<◌};
+ghost use Rattle.std.specs.Prelude.{◌≡◌, ℕ, ◌/◌, ◌^◌, ◌<◌};
 ghost use Rattle.basis.specs.Names.{sub_ℕ};
 ghost use Rattle.lanes.specs.Lane.{lane};
 ghost use Rattle.lanes.specs.Signed.{signed};
 ghost use Rattle.lanes.specs.Rules.{packed, pairwise, product, product_low, product_high, product_sum, product_high_unsigned};
-ghost use Rattle.lanes.specs.inner.Widths.{Within};
+ghost use Rattle.lanes.specs.inner.Widths.{Fills};
 
-use crate::lane::{DOUBLEWORD, DOUBLEWORD_RANGE, DOUBLEWORDS, WORD, WORD_RANGE, WORDS};
+use crate::lane::{DOUBLEWORD, DOUBLEWORD_RANGE, QUADWORD, WORD, WORD_RANGE};
 
-// The lanes below lane i, with lane i.
-fn with_lane(lanes: u64, x: u64, w: u64, i: u64) -> u64
-    requires { Within w i × (x < 2 ^ w) × (lanes < 2 ^ (w * i)) }
-    ensures { result ≡ x * 2 ^ (w * i) + lanes }
+// The register whose lane i is what `lane_of` leaves of i.
+fn lane_by_lane<F: Fn(u64) -> u64>(w: u64, lane_of: F) -> u64
+    requires fills { Fills w }
+    requires takes { (i : ℕ) → i < 64 / w → F.pre lane_of i }
+    requires fits { (i x : ℕ) → i < 64 / w → F.post lane_of i x → x < 2 ^ w }
+    ensures { (i : ℕ) → i < 64 / w → F.post lane_of i (lane w i result) }
 {
-    (x << (w * i)) + lanes
+    let mut lanes: u64 = 0;
+    for i in 0..QUADWORD / w {
+        lanes += lane_of(i) << (w * i);
+    }
+    lanes
 }
 
 // The number of word i. With its top bit turned over, a word is its number plus half the range.
@@ -32,79 +38,55 @@ fn product_of(a: u64, b: u64, i: u64) -> u64
     (word_of(a, i) * word_of(b, i) + DOUBLEWORD_RANGE as i64) as u64
 }
 
-fn multiply_low_lane(a: u64, b: u64, i: u64) -> u64
-    requires { i < 4 }
-    ensures { result ≡ pairwise product_low 16 a b i }
-{
-    product_of(a, b, i) % WORD_RANGE
-}
-
+#[tactic(auto, using(crate::proofs::Multiplying::multiplying))]
 pub(crate) fn multiply_low(a: u64, b: u64) -> u64
     ensures { result ≡ packed (pairwise product_low) 16 a b }
 {
-    let mut lanes: u64 = 0;
-    let mut i: u64 = 0;
-    while i < WORDS {
-        lanes = with_lane(lanes, multiply_low_lane(a, b, i), WORD, i);
-        i += 1;
-    }
-    lanes
+    lane_by_lane(
+        WORD,
+        |i|
+            requires { i < 4 }
+            ensures { result ≡ pairwise product_low 16 a b i }
+        { product_of(a, b, i) % WORD_RANGE },
+    )
 }
 
-fn multiply_high_lane(a: u64, b: u64, i: u64) -> u64
-    requires { i < 4 }
-    ensures { result ≡ pairwise product_high 16 a b i }
-{
-    product_of(a, b, i) / WORD_RANGE % WORD_RANGE
-}
-
+#[tactic(auto, using(crate::proofs::Multiplying::multiplying))]
 pub(crate) fn multiply_high(a: u64, b: u64) -> u64
     ensures { result ≡ packed (pairwise product_high) 16 a b }
 {
-    let mut lanes: u64 = 0;
-    let mut i: u64 = 0;
-    while i < WORDS {
-        lanes = with_lane(lanes, multiply_high_lane(a, b, i), WORD, i);
-        i += 1;
-    }
-    lanes
+    lane_by_lane(
+        WORD,
+        |i|
+            requires { i < 4 }
+            ensures { result ≡ pairwise product_high 16 a b i }
+        { product_of(a, b, i) / WORD_RANGE % WORD_RANGE },
+    )
 }
 
 // The products of words 2 i and 2 i + 1, added.
-fn multiply_add_lane(a: u64, b: u64, i: u64) -> u64
-    requires { i < 2 }
-    ensures { result ≡ pairwise product_sum 32 a b i }
-{
-    (product_of(a, b, i + i) + product_of(a, b, i + i + 1)) % DOUBLEWORD_RANGE
-}
-
+#[tactic(auto, using(crate::proofs::Multiplying::multiplying))]
 pub(crate) fn multiply_add(a: u64, b: u64) -> u64
     ensures { result ≡ packed (pairwise product_sum) 32 a b }
 {
-    let mut lanes: u64 = 0;
-    let mut i: u64 = 0;
-    while i < DOUBLEWORDS {
-        lanes = with_lane(lanes, multiply_add_lane(a, b, i), DOUBLEWORD, i);
-        i += 1;
-    }
-    lanes
+    lane_by_lane(
+        DOUBLEWORD,
+        |i|
+            requires { i < 2 }
+            ensures { result ≡ pairwise product_sum 32 a b i }
+        { (product_of(a, b, i + i) + product_of(a, b, i + i + 1)) % DOUBLEWORD_RANGE },
+    )
 }
 
-fn multiply_high_unsigned_lane(a: u64, b: u64, i: u64) -> u64
-    requires { i < 4 }
-    ensures { result ≡ pairwise product_high_unsigned 16 a b i }
-{
-    ((a >> (WORD * i)) % WORD_RANGE) * ((b >> (WORD * i)) % WORD_RANGE) / WORD_RANGE
-}
-
+#[tactic(auto, using(crate::proofs::Multiplying::multiplying))]
 pub(crate) fn multiply_high_unsigned(a: u64, b: u64) -> u64
     ensures { result ≡ packed (pairwise product_high_unsigned) 16 a b }
 {
-    let mut lanes: u64 = 0;
-    let mut i: u64 = 0;
-    while i < WORDS {
-        lanes = with_lane(lanes, multiply_high_unsigned_lane(a, b, i), WORD, i);
-        i += 1;
-    }
-    lanes
+    lane_by_lane(
+        WORD,
+        |i|
+            requires { i < 4 }
+            ensures { result ≡ pairwise product_high_unsigned 16 a b i }
+        { ((a >> (WORD * i)) % WORD_RANGE) * ((b >> (WORD * i)) % WORD_RANGE) / WORD_RANGE },
+    )
 }

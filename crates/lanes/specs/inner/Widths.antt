@@ -1,9 +1,5 @@
--- Which lanes lie in a register, and which widths fill it.
-use Rattle.std.specs.Prelude.{◌≡◌, ℕ, ◌+◌, ◌*◌, ◌/◌, ◌≤◌}
-
--- lane i lies in the register
-abbrev pub Within : ℕ → ℕ → Type 0
-Within w i = (1 ≤ w) × (w + w * i ≤ 64)
+-- Which widths fill a register.
+use Rattle.std.specs.Prelude.{◌≡◌, ℕ, ◌*◌, ◌/◌, ◌≤◌}
 
 -- the lanes fill the register
 abbrev pub Fills : ℕ → Type 0
