@@ -1,9 +1,11 @@
 -- Lanes that change places with the next lane up: what differs between the two is turned over in both, where a mask has ones.
-use Rattle.std.specs.Prelude.{◌≡◌, Bool, false, cond, ℕ, zero, suc, ◌+◌, ◌*◌, ◌/◌, ◌%◌, ◌^◌, ◌≤◌, ◌<◌, eqb}
+use Rattle.std.specs.Prelude.{◌≡◌, refl, Bool, false, cond, ℕ, zero, suc, ◌+◌, ◌-◌, ◌*◌, ◌/◌, ◌%◌, ◌^◌, ◌≤◌, ◌<◌, eqb}
 use Rattle.basis.specs.Names.{bit_and, bit_xor}
-use Rattle.basis.proofs.Names.{sym, ap, ap₂, ◌∙◌, dite, ℕ_discrete, add_comm, mul-suc, mul-zero, mul-mod_left, mod-lt, arith, rules, eq-eqb, ne_eqb, and_zero_r, xor_comm, xor_lt, xor_zero_r, pow_pos, shl-shr, shr-shr}
-use Rattle.lanes.specs.Lane.{lane, register}
+use Rattle.basis.proofs.Names.{sym, ap, ap₂, ◌∙◌, subst, inl, inr, dite, ℕ_discrete, add_comm, mul-suc, mul-zero, mul-mod_left, mod-lt, arith, rules, eq-eqb, ne_eqb, and_zero_r, xor_comm, xor_lt, xor_zero_r, pow_pos, shl-shr, shr-shr}
+use Rattle.lanes.specs.Lane.{lane, build, register}
 use Rattle.lanes.specs.Rules.{packed, all_ones}
+use Rattle.lanes.specs.inner.Widths.{Narrow}
+use Rattle.lanes.specs.inner.EveryLane.{repeated}
 use Rattle.lanes.specs.inner.Turns.{exchanged, swapped}
 use Rattle.lanes.proofs.Registers.{lane_lt, lane_first, lane-mod, lane-register}
 use Rattle.lanes.proofs.Powers.{shifted_fits}
@@ -98,7 +100,7 @@ module _ (w x mask : ℕ) (l : 1 ≤ w) (whole : w * (64 / w) ≡ 64) (hx : x < 
       (λ q. rw (eq-eqb (i % 4) 1 q) (ap (λ (j : ℕ). lane w j x) (omega arith)))
       (λ q. rw (ne_eqb (i % 4) 1 q) (ap (λ (j : ℕ). lane w j x) (omega arith)))
 
-  pub swapped_is : bit_xor (bit_xor x (differing w x x mask)) (differing w x x mask * 2 ^ w % 2 ^ 64) ≡ packed swapped w x x
+  swapped_is : bit_xor (bit_xor x (differing w x x mask)) (differing w x x mask * 2 ^ w % 2 ^ 64) ≡ packed swapped w x x
   unfolding swapped
   swapped_is =
       by_lanes swapped w x x _ whole swapped_fits
@@ -110,4 +112,20 @@ module _ (w x mask : ℕ) (l : 1 ≤ w) (whole : w * (64 / w) ≡ 64) (hx : x < 
       (λ p. rw (eq-eqb (i % 4) 1 p, second_lane i k p, xor_zero_r) (ap (λ (j : ℕ). lane w j x) (omega arith)))
       (λ p. rw (ne_eqb (i % 4) 1 p) (other_lane i k p)))
 
-pub ruleset exchanging = (rules, swapped_is)
+-- what holds at 8 and at 16 bits
+at_narrow : (P : ℕ → Type 0) (w : ℕ) → P 8 → P 16 → Narrow w → P w
+at_narrow P w h k (inl e) = subst P (sym e) h
+at_narrow P w h k (inr e) = subst P (sym e) k
+
+-- the mask that has ones in the second of every four bytes, or words
+second_mask : (w : ℕ) → Narrow w → repeated (4 * w) ((2 ^ w - 1) * 2 ^ w % 2 ^ 64) ≡ register w (λ i. all_ones w (second i))
+unfolding repeated register build
+second_mask w = at_narrow (λ v. repeated (4 * v) ((2 ^ v - 1) * 2 ^ v % 2 ^ 64) ≡ register v (λ i. all_ones v (second i))) w refl refl
+
+pub exchanged_is : (w x low mask : ℕ) → Narrow w → x < 2 ^ 64 → low ≡ 2 ^ w - 1 → mask ≡ repeated (4 * w) (low * 2 ^ w % 2 ^ 64)
+    → bit_xor (bit_xor x (differing w x x mask)) (differing w x x mask * 2 ^ w % 2 ^ 64) ≡ packed swapped w x x
+exchanged_is w x low mask n h e em =
+    swapped_is w x mask (at_narrow (λ v. 1 ≤ v) w (omega arith) (omega arith) n) (at_narrow (λ v. v * (64 / v) ≡ 64) w refl refl n) h
+    (em ∙ ap (λ (y : ℕ). repeated (4 * w) (y * 2 ^ w % 2 ^ 64)) e ∙ second_mask w n)
+
+pub ruleset exchanging = (rules, exchanged_is)

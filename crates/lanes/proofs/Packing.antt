@@ -53,12 +53,12 @@ module _ (clamped : ℕ → ℤ → ℤ) (a b : ℕ) where
         ∙ lane-packed w a b (i % n * 2 + i / n) (omega (arith, half_lt i k, mod-lt i some)) (in_turn clamped) (in_turn-fits clamped)
         ∙ ap (λ (x : ℕ). wrap w (clamped w (signed (w + w) x))) (place i k))
 
-  pub words_apart : (z r : ℕ) → r ≡ packed swapped 16 z z → z ≡ packed (in_turn clamped) 16 a b → r ≡ packed (pack clamped) 16 a b
+  words_apart : (z r : ℕ) → r ≡ packed swapped 16 z z → z ≡ packed (in_turn clamped) 16 a b → r ≡ packed (pack clamped) 16 a b
   words_apart z r er ez =
       apart 16 z r ez (rw er (packed_lt 16 z z swapped swapped_fits)) refl (omega arith) refl
       (λ i k. swapped-lane 16 z r er i k ∙ ap (λ (j : ℕ). lane 16 j z) (omega arith))
 
-  pub bytes_apart : (y z r : ℕ) → r ≡ packed swapped 16 y y → y ≡ packed swapped 8 z z → z ≡ packed (in_turn clamped) 8 a b
+  bytes_apart : (y z r : ℕ) → r ≡ packed swapped 16 y y → y ≡ packed swapped 8 z z → z ≡ packed (in_turn clamped) 8 a b
       → r ≡ packed (pack clamped) 8 a b
   bytes_apart y z r er ey ez =
       apart 8 z r ez (rw er (packed_lt 16 y y swapped swapped_fits)) refl (omega arith) refl
@@ -68,4 +68,11 @@ module _ (clamped : ℕ → ℤ → ℤ) (a b : ℕ) where
       ∙ ap (lane 8 (i % 2)) (swapped-lane 16 y r er (i / 2) (omega arith)) ∙ inner 8 e (i % 2) y (omega arith)
       ∙ swapped-lane 8 z y ey (e + e + i % 2) (omega arith) ∙ ap (λ (j : ℕ). lane 8 j z) (twice_exchanged i k))
 
-pub ruleset packing = (rules, words_apart, bytes_apart)
+  pub put_words_apart : (w z r : ℕ) → w ≡ 16 → r ≡ packed swapped 16 z z → z ≡ packed (in_turn clamped) w a b → r ≡ packed (pack clamped) w a b
+  put_words_apart w z r e er ez = rw e (words_apart z r er (rw e at ez))
+
+  pub put_bytes_apart : (w y z r : ℕ) → w ≡ 8 → r ≡ packed swapped 16 y y → y ≡ packed swapped 8 z z → z ≡ packed (in_turn clamped) w a b
+      → r ≡ packed (pack clamped) w a b
+  put_bytes_apart w y z r e er ey ez = rw e (bytes_apart y z r er ey (rw e at ez))
+
+pub ruleset packing = (rules, put_words_apart, put_bytes_apart)

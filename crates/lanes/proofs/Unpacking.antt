@@ -1,9 +1,9 @@
 -- From an unpack to the unpack at half the width: in every four lanes, two of the destination stand before two of the source, and the middle two
 -- change places.
-use Rattle.std.specs.Prelude.{◌≡◌, cond, ℕ, ◌+◌, ◌*◌, ◌/◌, ◌%◌, ◌<◌, eqb}
+use Rattle.std.specs.Prelude.{◌≡◌, refl, cond, ℕ, ◌+◌, ◌*◌, ◌/◌, ◌%◌, ◌^◌, ◌<◌, eqb}
 use Rattle.basis.proofs.Names.{sym, ap, ap₂, ◌∙◌, arith, rules}
-use Rattle.lanes.specs.Lane.{lane}
-use Rattle.lanes.specs.Rules.{packed, unpack}
+use Rattle.lanes.specs.Lane.{lane, build, register}
+use Rattle.lanes.specs.Rules.{packed, unpack, unpack_low, unpack_high}
 use Rattle.lanes.specs.inner.Turns.{exchanged, swapped}
 use Rattle.lanes.proofs.Registers.{inner}
 use Rattle.lanes.proofs.Fitting.{unpack-fits}
@@ -28,4 +28,28 @@ module _ (first half w a b x r : ℕ) (er : r ≡ packed swapped w x x) (ex : x 
       by_lanes (unpack half) w a b r whole (unpack-fits half) (rw er (packed_lt w x x swapped swapped_fits))
       (λ i k. swapped-lane w x r er i k ∙ halved_lane i k)
 
-pub ruleset unpacking = (rules, halved)
+-- the halves side by side are the unpack at 32 bits
+pub low_halves : (a b : ℕ) → b * 2 ^ 32 % 2 ^ 64 + a % 2 ^ 32 ≡ packed unpack_low 32 a b
+unfolding packed register build lane unpack
+low_halves a b = search rules
+
+pub high_halves : (a b : ℕ) → b < 2 ^ 64 → a < 2 ^ 64 → b / 2 ^ 32 * 2 ^ 32 + a / 2 ^ 32 ≡ packed unpack_high 32 a b
+unfolding packed register build lane unpack
+high_halves a b h k = search rules
+
+module _ (w a b x r : ℕ) where
+  pub low_words : w ≡ 16 → r ≡ packed swapped 16 x x → x ≡ packed unpack_low 32 a b → r ≡ packed unpack_low w a b
+  low_words e er ex = rw e (halved 0 0 16 a b x r er ex refl refl refl refl)
+
+  pub high_words : w ≡ 16 → r ≡ packed swapped 16 x x → x ≡ packed unpack_high 32 a b → r ≡ packed unpack_high w a b
+  unfolding packed
+  high_words e er ex = rw e (halved 1 2 16 a b x r er ex refl refl refl refl)
+
+  pub low_bytes : (y : ℕ) → w ≡ 8 → r ≡ packed swapped 8 y y → y ≡ packed swapped 16 x x → x ≡ packed unpack_low 32 a b → r ≡ packed unpack_low w a b
+  low_bytes y e er ey ex = rw e (halved 0 0 8 a b y r er (halved 0 0 16 a b x y ey ex refl refl refl refl) refl refl refl refl)
+
+  pub high_bytes : (y : ℕ) → w ≡ 8 → r ≡ packed swapped 8 y y → y ≡ packed swapped 16 x x → x ≡ packed unpack_high 32 a b → r ≡ packed unpack_high w a b
+  unfolding packed
+  high_bytes y e er ey ex = rw e (halved 2 4 8 a b y r er (halved 1 2 16 a b x y ey ex refl refl refl refl) refl refl refl refl)
+
+pub ruleset unpacking = (rules, low_halves, high_halves, low_words, high_words, low_bytes, high_bytes)

@@ -6,6 +6,7 @@ ghost use Rattle.lanes.specs.inner.Widths.{Fills};
 use crate::lane::{ones, rests, signs};
 
 // Ones in the lanes below zero.
+#[tactic(auto, using(crate::proofs::Signs::signing))]
 pub(crate) fn negatives(x: u64, w: u64) -> u64
     requires { Fills w }
     ensures { result ≡ packed (pairwise greater) w 0 x }
@@ -14,6 +15,7 @@ pub(crate) fn negatives(x: u64, w: u64) -> u64
 }
 
 // Where lanes are equal no bit differs; where they are not, the top bit does, or the rest of the bits that differ, with ones added, reaches it.
+#[tactic(auto, using(crate::proofs::Comparing::comparing))]
 pub(crate) fn equals(a: u64, b: u64, w: u64) -> u64
     requires { Fills w }
     ensures { result ≡ packed (pairwise equal) w a b }
@@ -24,6 +26,7 @@ pub(crate) fn equals(a: u64, b: u64, w: u64) -> u64
 }
 
 // A lane is greater where only the other is below zero, or where both have one sign and its rest, without the top bit, is beyond the other's.
+#[tactic(auto, using(crate::proofs::Comparing::comparing))]
 pub(crate) fn exceeds(a: u64, b: u64, w: u64) -> u64
     requires { Fills w }
     ensures { result ≡ packed (pairwise greater) w a b }

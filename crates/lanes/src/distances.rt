@@ -22,6 +22,7 @@ fn total(x: u64, w: u64) -> u64
 }
 
 // Of the two differences, clamped at 0, one is 0 and the other is the distance.
+#[tactic(auto, using(crate::proofs::AddingUp::distancing))]
 pub(crate) fn distances(a: u64, b: u64, w: u64) -> u64
     requires { Fills w }
     ensures { result ≡ distances w a b }

@@ -8,6 +8,7 @@ use crate::sums::subtract_unsigned;
 
 // Where a's number is greater, what differs is turned over: in b for the greatest, in a for the least.
 
+#[tactic(auto, using(crate::proofs::Ranking::ranking))]
 pub(crate) fn greatest_signed(a: u64, b: u64, w: u64) -> u64
     requires { Fills w }
     ensures { result ≡ packed (pairwise maximum_signed) w a b }
@@ -15,6 +16,7 @@ pub(crate) fn greatest_signed(a: u64, b: u64, w: u64) -> u64
     b ^ ((b ^ a) & exceeds(a, b, w))
 }
 
+#[tactic(auto, using(crate::proofs::Ranking::ranking))]
 pub(crate) fn least_signed(a: u64, b: u64, w: u64) -> u64
     requires { Fills w }
     ensures { result ≡ packed (pairwise minimum_signed) w a b }
@@ -24,6 +26,7 @@ pub(crate) fn least_signed(a: u64, b: u64, w: u64) -> u64
 
 // What b has beyond a, added to a, is the greatest; what a has beyond b, taken from a, leaves the least.
 
+#[tactic(auto, using(crate::proofs::Ranking::ranking))]
 pub(crate) fn greatest_unsigned(a: u64, b: u64, w: u64) -> u64
     requires { Fills w }
     ensures { result ≡ packed (pairwise maximum_unsigned) w a b }
@@ -31,6 +34,7 @@ pub(crate) fn greatest_unsigned(a: u64, b: u64, w: u64) -> u64
     a + subtract_unsigned(b, a, w)
 }
 
+#[tactic(auto, using(crate::proofs::Ranking::ranking))]
 pub(crate) fn least_unsigned(a: u64, b: u64, w: u64) -> u64
     requires { Fills w }
     ensures { result ≡ packed (pairwise minimum_unsigned) w a b }

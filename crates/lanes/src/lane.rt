@@ -39,6 +39,7 @@ pub(crate) fn ones(w: u64) -> u64
 }
 
 // The lowest bit of every lane: all ones, divided by a lane's ones.
+#[tactic(auto, using(crate::proofs::LowestBits::lowest))]
 pub(crate) fn lowest_bits(w: u64) -> u64
     requires { Fills w }
     ensures { result ≡ lowest_bits w }
@@ -47,6 +48,7 @@ pub(crate) fn lowest_bits(w: u64) -> u64
 }
 
 // x in every lane.
+#[tactic(auto, using(crate::proofs::Repeating::repeating))]
 pub(crate) fn repeated(x: u64, w: u64) -> u64
     requires { Fills w × (x < 2 ^ w) }
     ensures { result ≡ repeated w x }
@@ -55,6 +57,7 @@ pub(crate) fn repeated(x: u64, w: u64) -> u64
 }
 
 // All bits of every lane but its top bit.
+#[tactic(auto, using(crate::proofs::Repeating::repeating))]
 pub(crate) fn rests(w: u64) -> u64
     requires { Fills w }
     ensures { result ≡ rests w }
@@ -63,6 +66,7 @@ pub(crate) fn rests(w: u64) -> u64
 }
 
 // The lanes' top bits, each at the low end of its lane.
+#[tactic(auto, using(crate::proofs::Signs::signing))]
 pub(crate) fn signs(x: u64, w: u64) -> u64
     requires { Fills w }
     ensures { result ≡ register w (top_bit w x) }
@@ -71,6 +75,7 @@ pub(crate) fn signs(x: u64, w: u64) -> u64
 }
 
 // The ends of the signed range, in every lane the one on its side: the greatest number, or, where the top bit is set, 1 more, which is the least.
+#[tactic(auto, using(crate::proofs::Ends::ending))]
 pub(crate) fn ends(x: u64, w: u64) -> u64
     requires { Fills w }
     ensures { result ≡ register w (range_end w x) }

@@ -20,11 +20,7 @@ use distances::distances;
 use extremes::{greatest_signed, greatest_unsigned, least_signed, least_unsigned};
 use lane::{BYTE, DOUBLEWORD, QUADWORD, WORD};
 use means::average;
-use packs::{
-    pack_signed_bytes, pack_signed_words, pack_unsigned_bytes, unpack_high_bytes,
-    unpack_high_doublewords, unpack_high_words, unpack_low_bytes, unpack_low_doublewords,
-    unpack_low_words,
-};
+use packs::{pack_signed, pack_unsigned, unpack_high, unpack_low};
 pub use picks::{blend, extract, insert, shuffle, top_bits};
 use products::{multiply_add, multiply_high, multiply_high_unsigned, multiply_low};
 use shifts::{shift_left, shift_right, shift_right_signed};
@@ -152,22 +148,23 @@ pub const PSHUFW: u8 = 57;
 pub const KEEP: u8 = 255;
 
 // What the operation of this number leaves. A number that names none keeps the destination.
+#[tactic(auto, unfolding(crate::specs::Operations::operate, crate::specs::Rules::and_not))]
 pub fn operate(operation: u8, destination: u64, source: u64) -> u64
     ensures { result ≡ operate (operation_of operation) destination source }
 {
     match operation {
-        PUNPCKLBW => unpack_low_bytes(destination, source),
-        PUNPCKLWD => unpack_low_words(destination, source),
-        PUNPCKLDQ => unpack_low_doublewords(destination, source),
-        PACKSSWB => pack_signed_bytes(destination, source),
-        PACKUSWB => pack_unsigned_bytes(destination, source),
-        PACKSSDW => pack_signed_words(destination, source),
+        PUNPCKLBW => unpack_low(destination, source, BYTE),
+        PUNPCKLWD => unpack_low(destination, source, WORD),
+        PUNPCKLDQ => unpack_low(destination, source, DOUBLEWORD),
+        PACKSSWB => pack_signed(destination, source, BYTE),
+        PACKUSWB => pack_unsigned(destination, source, BYTE),
+        PACKSSDW => pack_signed(destination, source, WORD),
         PCMPGTB => exceeds(destination, source, BYTE),
         PCMPGTW => exceeds(destination, source, WORD),
         PCMPGTD => exceeds(destination, source, DOUBLEWORD),
-        PUNPCKHBW => unpack_high_bytes(destination, source),
-        PUNPCKHWD => unpack_high_words(destination, source),
-        PUNPCKHDQ => unpack_high_doublewords(destination, source),
+        PUNPCKHBW => unpack_high(destination, source, BYTE),
+        PUNPCKHWD => unpack_high(destination, source, WORD),
+        PUNPCKHDQ => unpack_high(destination, source, DOUBLEWORD),
         MOVE => source,
         PCMPEQB => equals(destination, source, BYTE),
         PCMPEQW => equals(destination, source, WORD),
@@ -208,6 +205,7 @@ pub fn operate(operation: u8, destination: u64, source: u64) -> u64
 // The same from the first operation of manual 000 on. Of PEXTRW, PMOVMSKB and PSHUFW the first number is the source, the second the place or the order.
 // MASKMOVQ and PINSRW go by a third number: without one they keep the destination. In a function of its own: in `operate` these texts would keep the
 // compiler from making each family of manual 004 at its widths.
+#[tactic(auto, unfolding(crate::specs::Operations::operate))]
 fn extension(operation: u8, destination: u64, source: u64) -> u64
     requires { 45 ≤ operation }
     ensures { result ≡ operate (operation_of operation) destination source }

@@ -7,6 +7,7 @@ use crate::lane::rests;
 
 // Two numbers are twice all their bits, less those that differ. So the mean is all bits, less half of those that differ; what that shift moves into
 // another lane is left out.
+#[tactic(auto, using(crate::proofs::Averaging::averaging))]
 pub(crate) fn average(a: u64, b: u64, w: u64) -> u64
     requires { Fills w }
     ensures { result ≡ packed (pairwise mean) w a b }

@@ -9,6 +9,7 @@ use crate::lane::{BYTE, DOUBLEWORD, WORD, WORD_RANGE, WORDS, signs};
 const LESS_TWO: u64 = 254;
 
 // The word at a place, counted round the four.
+#[tactic(auto, unfolding(crate::specs::Rules::extract, crate::specs::Lane::lane))]
 pub fn extract(source: u64, place: u64) -> u64
     ensures { result ≡ extract 16 source place }
 {
@@ -24,6 +25,7 @@ pub fn insert(destination: u64, source: u64, place: u64) -> u64
 }
 
 // Two words by the two low digits of the order.
+#[tactic(auto, using(crate::proofs::Picking::picking))]
 fn two_words(source: u64, order: u64) -> u64
     ensures { (result ≡ extract 16 source (order / 4) * 2 ^ 16 + extract 16 source order) × (result < 2 ^ 32) }
 {
@@ -31,6 +33,7 @@ fn two_words(source: u64, order: u64) -> u64
 }
 
 // Four words: two by the two digits above, and two by the low ones.
+#[tactic(auto, using(crate::proofs::Picking::picking))]
 pub fn shuffle(source: u64, order: u64) -> u64
     ensures { result ≡ packed shuffle 16 source order }
 {
@@ -38,6 +41,7 @@ pub fn shuffle(source: u64, order: u64) -> u64
 }
 
 // A byte's place weighs 256 times the one below it, and 256 is 2 and 254: of seven bits 8 apart, the remainder at 254 is the seven side by side.
+#[tactic(auto, using(crate::proofs::Picking::picking))]
 pub fn top_bits(source: u64) -> u64
     ensures { result ≡ top_bits 8 source }
 {
@@ -46,6 +50,7 @@ pub fn top_bits(source: u64) -> u64
 }
 
 // What differs between the two is turned over where the mask's top bit is set.
+#[tactic(auto, using(crate::proofs::Picking::picking))]
 pub fn blend(destination: u64, source: u64, mask: u64) -> u64
     ensures { result ≡ packed (blend mask) 8 destination source }
 {

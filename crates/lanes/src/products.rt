@@ -23,6 +23,7 @@ fn lane_by_lane<F: Fn(u64) -> u64>(w: u64, lane_of: F) -> u64
 }
 
 // The number of word i. With its top bit turned over, a word is its number plus half the range.
+#[tactic(auto, using(crate::proofs::WordProducts::words))]
 fn word_of(a: u64, i: u64) -> i64
     requires { i < 4 }
     ensures { result ≡ signed 16 (lane 16 i a) }
@@ -31,6 +32,7 @@ fn word_of(a: u64, i: u64) -> i64
 }
 
 // The signed product of word i of two registers, and 2^32, so that it is never below zero.
+#[tactic(auto, using(crate::proofs::WordProducts::products))]
 fn product_of(a: u64, b: u64, i: u64) -> u64
     requires { i < 4 }
     ensures { (product 16 (lane 16 i a) (lane 16 i b) ≡ sub_ℕ result (2 ^ 32)) × (result < 2 ^ 34) }

@@ -7,6 +7,7 @@ use crate::compares::negatives;
 use crate::lane::{ones, repeated};
 
 // The bits that would move into the next lane up are left out first.
+#[tactic(auto, using(crate::proofs::Shifting::shifting))]
 pub(crate) fn shift_left(a: u64, count: u64, w: u64) -> u64
     requires { Fills w }
     ensures { result ≡ packed (shift left) w a count }
@@ -18,6 +19,7 @@ pub(crate) fn shift_left(a: u64, count: u64, w: u64) -> u64
 }
 
 // The bits that moved in from the next lane up are left out.
+#[tactic(auto, using(crate::proofs::Shifting::shifting))]
 pub(crate) fn shift_right(a: u64, count: u64, w: u64) -> u64
     requires { Fills w }
     ensures { result ≡ packed (shift right) w a count }
@@ -29,6 +31,7 @@ pub(crate) fn shift_right(a: u64, count: u64, w: u64) -> u64
 }
 
 // The lanes below zero are turned over, shifted, and turned back.
+#[tactic(auto, using(crate::proofs::Shifting::shifting))]
 pub(crate) fn shift_right_signed(a: u64, count: u64, w: u64) -> u64
     requires { Fills w }
     ensures { result ≡ packed (shift right_signed) w a count }

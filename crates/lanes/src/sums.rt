@@ -9,6 +9,7 @@ use crate::lane::{ends, lowest_bits};
 // All lanes at once. The lanes' lowest bits, one bit down, are the top bits of all lanes but the highest. a ^ a_tops is a without them, so nothing is
 // carried into another lane. Exclusive or then adds them to what was carried into their places, and drops what they carry. What the highest lane
 // carries leaves the register.
+#[tactic(auto, using(crate::proofs::AddingAtOnce::adding_at_once))]
 pub(crate) fn add(a: u64, b: u64, w: u64) -> u64
     requires { Fills w }
     ensures { result ≡ packed (pairwise sum) w a b }
@@ -20,6 +21,7 @@ pub(crate) fn add(a: u64, b: u64, w: u64) -> u64
 }
 
 // A sum with another sign than both its numbers has gone beyond the end of the range on their side.
+#[tactic(auto, using(crate::proofs::AddingSigned::adding_signed))]
 pub(crate) fn add_signed(a: u64, b: u64, w: u64) -> u64
     requires { Fills w }
     ensures { result ≡ packed (pairwise sum_signed) w a b }
@@ -30,6 +32,7 @@ pub(crate) fn add_signed(a: u64, b: u64, w: u64) -> u64
 }
 
 // A sum has gone beyond the range where both top bits are set, or one of them and not the sum's; there all bits are set.
+#[tactic(auto, using(crate::proofs::AddingUnsigned::adding_unsigned))]
 pub(crate) fn add_unsigned(a: u64, b: u64, w: u64) -> u64
     requires { Fills w }
     ensures { result ≡ packed (pairwise sum_unsigned) w a b }
@@ -40,6 +43,7 @@ pub(crate) fn add_unsigned(a: u64, b: u64, w: u64) -> u64
 
 // Each subtraction is its addition from the other side: a - b is not (not a + b), clamped or not.
 
+#[tactic(auto, using(crate::proofs::Complementing::complementing))]
 pub(crate) fn subtract(a: u64, b: u64, w: u64) -> u64
     requires { Fills w }
     ensures { result ≡ packed (pairwise difference) w a b }
@@ -47,6 +51,7 @@ pub(crate) fn subtract(a: u64, b: u64, w: u64) -> u64
     !add(!a, b, w)
 }
 
+#[tactic(auto, using(crate::proofs::Complementing::complementing))]
 pub(crate) fn subtract_signed(a: u64, b: u64, w: u64) -> u64
     requires { Fills w }
     ensures { result ≡ packed (pairwise difference_signed) w a b }
@@ -54,6 +59,7 @@ pub(crate) fn subtract_signed(a: u64, b: u64, w: u64) -> u64
     !add_signed(!a, b, w)
 }
 
+#[tactic(auto, using(crate::proofs::Complementing::complementing))]
 pub(crate) fn subtract_unsigned(a: u64, b: u64, w: u64) -> u64
     requires { Fills w }
     ensures { result ≡ packed (pairwise difference_unsigned) w a b }
