@@ -118,14 +118,14 @@ at_narrow P w h k (inl e) = subst P (sym e) h
 at_narrow P w h k (inr e) = subst P (sym e) k
 
 -- the mask that has ones in the second of every four bytes, or words
-second_mask : (w : ℕ) → Narrow w → repeated (4 * w) ((2 ^ w - 1) * 2 ^ w % 2 ^ 64) ≡ register w (λ i. all_ones w (second i))
+second_mask : (w : ℕ) → Narrow w → repeated (w + w + (w + w)) ((2 ^ w - 1) * 2 ^ w % 2 ^ 64) ≡ register w (λ i. all_ones w (second i))
 unfolding repeated register build
-second_mask w = at_narrow (λ v. repeated (4 * v) ((2 ^ v - 1) * 2 ^ v % 2 ^ 64) ≡ register v (λ i. all_ones v (second i))) w refl refl
+second_mask w = at_narrow (λ v. repeated (v + v + (v + v)) ((2 ^ v - 1) * 2 ^ v % 2 ^ 64) ≡ register v (λ i. all_ones v (second i))) w refl refl
 
-pub exchanged_is : (w x low mask : ℕ) → Narrow w → x < 2 ^ 64 → low ≡ 2 ^ w - 1 → mask ≡ repeated (4 * w) (low * 2 ^ w % 2 ^ 64)
+pub exchanged_is : (w x low mask : ℕ) → Narrow w → x < 2 ^ 64 → low ≡ 2 ^ w - 1 → mask ≡ repeated (w + w + (w + w)) (low * 2 ^ w % 2 ^ 64)
     → bit_xor (bit_xor x (differing w x x mask)) (differing w x x mask * 2 ^ w % 2 ^ 64) ≡ packed swapped w x x
 exchanged_is w x low mask n h e em =
     swapped_is w x mask (at_narrow (λ v. 1 ≤ v) w (omega arith) (omega arith) n) (at_narrow (λ v. v * (64 / v) ≡ 64) w refl refl n) h
-    (em ∙ ap (λ (y : ℕ). repeated (4 * w) (y * 2 ^ w % 2 ^ 64)) e ∙ second_mask w n)
+    (em ∙ ap (λ (y : ℕ). repeated (w + w + (w + w)) (y * 2 ^ w % 2 ^ 64)) e ∙ second_mask w n)
 
 pub ruleset exchanging = (rules, exchanged_is)

@@ -27,6 +27,7 @@ use shifts::{shift_left, shift_right, shift_right_signed};
 use sums::{add, add_signed, add_unsigned, subtract, subtract_signed, subtract_unsigned};
 
 // The operations' numbers, in the order of the table of opcode bytes.
+// No enum: `operate` takes every u8, as its clause says by `operation_of`, and codec's table of entries holds these numbers.
 pub const PUNPCKLBW: u8 = 0;
 
 pub const PUNPCKLWD: u8 = 1;

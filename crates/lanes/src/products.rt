@@ -4,20 +4,18 @@ ghost use Rattle.basis.specs.Names.{sub_ℕ};
 ghost use Rattle.lanes.specs.Lane.{lane};
 ghost use Rattle.lanes.specs.Signed.{signed};
 ghost use Rattle.lanes.specs.Rules.{packed, pairwise, product, product_low, product_high, product_sum, product_high_unsigned};
-ghost use Rattle.lanes.specs.inner.Widths.{Fills};
 
-use crate::lane::{DOUBLEWORD, DOUBLEWORD_RANGE, QUADWORD, WORD, WORD_RANGE};
+use crate::lane::{DOUBLEWORD, DOUBLEWORD_RANGE, QUADWORD, WORD, WORD_RANGE, Width};
 
 // The register whose lane i is what `lane_of` leaves of i.
-fn lane_by_lane<F: Fn(u64) -> u64>(w: u64, lane_of: F) -> u64
-    requires fills { Fills w }
-    requires takes { (i : ℕ) → i < 64 / w → F.pre lane_of i }
-    requires fits { (i x : ℕ) → i < 64 / w → F.post lane_of i x → x < 2 ^ w }
-    ensures { (i : ℕ) → i < 64 / w → F.post lane_of i (lane w i result) }
+fn lane_by_lane<F: Fn(u64) -> u64>(w: Width, lane_of: F) -> u64
+    requires takes { (i : ℕ) → i < 64 / w.bits → F.pre lane_of i }
+    requires fits { (i x : ℕ) → i < 64 / w.bits → F.post lane_of i x → x < 2 ^ w.bits }
+    ensures { (i : ℕ) → i < 64 / w.bits → F.post lane_of i (lane w.bits i result) }
 {
     let mut lanes: u64 = 0;
-    for i in 0..QUADWORD / w {
-        lanes += lane_of(i) << (w * i);
+    for i in 0..QUADWORD.bits / w.bits {
+        lanes += lane_of(i) << (w.bits * i);
     }
     lanes
 }
@@ -28,7 +26,7 @@ fn word_of(a: u64, i: u64) -> i64
     requires { i < 4 }
     ensures { result ≡ signed 16 (lane 16 i a) }
 {
-    ((a >> (WORD * i)) % WORD_RANGE ^ (WORD_RANGE / 2)) as i64 - (WORD_RANGE / 2) as i64
+    ((a >> (WORD.bits * i)) % WORD_RANGE ^ (WORD_RANGE / 2)) as i64 - (WORD_RANGE / 2) as i64
 }
 
 // The signed product of word i of two registers, and 2^32, so that it is never below zero.
@@ -89,6 +87,9 @@ pub(crate) fn multiply_high_unsigned(a: u64, b: u64) -> u64
         |i|
             requires { i < 4 }
             ensures { result ≡ pairwise product_high_unsigned 16 a b i }
-        { ((a >> (WORD * i)) % WORD_RANGE) * ((b >> (WORD * i)) % WORD_RANGE) / WORD_RANGE },
+        {
+            ((a >> (WORD.bits * i)) % WORD_RANGE) * ((b >> (WORD.bits * i)) % WORD_RANGE)
+                / WORD_RANGE
+        },
     )
 }

@@ -5,4 +5,4 @@ use Rattle.lanes.specs.Rules.{total}
 use Rattle.lanes.proofs.distances.total.Given as goal
 
 abbrev pub invariant-loop-i : goal.invariant-loop-i
-invariant-loop-i l = l.sum ≡ total l.i (λ j. lane l.w j l.x)
+invariant-loop-i l = l.sum ≡ total l.i (λ j. lane l.w.bits j l.x)

@@ -4,4 +4,4 @@ use Rattle.lanes.specs.Lane.{lane}
 use Rattle.lanes.proofs.products.lane_by_lane.Given as goal
 
 abbrev pub invariant-loop-i : goal.invariant-loop-i
-invariant-loop-i g l = (l.lanes < 2 ^ (l.w * l.i)) × ((j : ℕ) → j < l.i → goal.F-post g l.lane_of j (lane l.w j l.lanes))
+invariant-loop-i g l = (l.lanes < 2 ^ (l.w.bits * l.i)) × ((j : ℕ) → j < l.i → goal.F-post g l.lane_of j (lane l.w.bits j l.lanes))
