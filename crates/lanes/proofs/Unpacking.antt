@@ -45,10 +45,12 @@ module _ (w a b x r : ℕ) where
   unfolding packed
   high_words e er ex = rw e (halved 1 2 16 a b x r er ex refl refl refl refl)
 
-  pub low_bytes : (y : ℕ) → w ≡ 8 → r ≡ packed swapped 8 y y → y ≡ packed swapped 16 x x → x ≡ packed unpack_low 32 a b → r ≡ packed unpack_low w a b
+  pub low_bytes : (y : ℕ) → w ≡ 8 → r ≡ packed swapped 8 y y → y ≡ packed swapped 16 x x → x ≡ packed unpack_low 32 a b
+      → r ≡ packed unpack_low w a b
   low_bytes y e er ey ex = rw e (halved 0 0 8 a b y r er (halved 0 0 16 a b x y ey ex refl refl refl refl) refl refl refl refl)
 
-  pub high_bytes : (y : ℕ) → w ≡ 8 → r ≡ packed swapped 8 y y → y ≡ packed swapped 16 x x → x ≡ packed unpack_high 32 a b → r ≡ packed unpack_high w a b
+  pub high_bytes : (y : ℕ) → w ≡ 8 → r ≡ packed swapped 8 y y → y ≡ packed swapped 16 x x → x ≡ packed unpack_high 32 a b
+      → r ≡ packed unpack_high w a b
   unfolding packed
   high_bytes y e er ey ex = rw e (halved 2 4 8 a b y r er (halved 1 2 16 a b x y ey ex refl refl refl refl) refl refl refl refl)
 
