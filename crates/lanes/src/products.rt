@@ -20,6 +20,8 @@ fn lane_by_lane<F: Fn(u64) -> u64>(w: Width, lane_of: F) -> u64
     lanes
 }
 
+// A word's place is a number below 4 in the contracts here and no type: it is counted by a loop, and a type would be made of it anew at each turn.
+
 // The number of word i. With its top bit turned over, a word is its number plus half the range.
 #[tactic(auto, using(crate::proofs::WordProducts::words))]
 fn word_of(a: u64, i: u64) -> i64
