@@ -1,8 +1,8 @@
 -- What the code's tests on a form's number say of the form: rules for the functions that take one.
-use Rattle.std.specs.Prelude.{ℕ, zero, suc, ◌+◌, ◌≤◌, ◌<◌, ◌≡◌, refl, Bool, true, false, not, ◌&&◌, ◌||◌, List, [], ◌∷◌, eqb, ltb}
-use Rattle.basis.proofs.Names.{sym, subst, ◌∙◌, and-true, or-false, false≢true, arith, rules, ne_eqb, eqb-true, eqb-false, ltb-true, ltb-false, not-true}
+use Rattle.std.specs.Prelude.{ℕ, zero, suc, ◌+◌, ◌≤◌, ◌<◌, ◌≡◌, refl, Bool, true, false, not, ◌&&◌, ◌||◌, ◌⊎◌, List, [], ◌∷◌, eqb, ltb}
+use Rattle.basis.proofs.Names.{sym, ap, subst, ◌∙◌, and-true, or-false, false≢true, arith, rules, ne_eqb, eqb-true, eqb-false, ltb-true, ltb-false, not-true}
 use Rattle.words.proofs.Laws.{and_both}
-use Rattle.codec.specs.Forms.{Use, Slot, reg, rm, rm/mem, mem, edi, fixed, opcode, zero_slot, Form, alone/7, mmreg1·mmreg2/mem64, mmreg1·mmreg2/mem64+suffix, forms, is_absent, is_any, has_operand, is_among, list_allows, slot_allows, slots_allow, allows, immediate_size, has_suffix, accepts}
+use Rattle.codec.specs.Forms.{Use, Slot, reg, rm, rm/mem, mem, edi, fixed, opcode, zero_slot, Form, mmreg1·mmreg2/mem64, mmreg1·mmreg2/mem64+suffix, forms, is_absent, is_any, has_operand, is_among, list_allows, slot_allows, slots_allow, allows, immediate_size, has_suffix, accepts}
 use Rattle.codec.specs.Table.{form_of}
 use Rattle.codec.proofs.Bytes.{found_has, number_passes}
 use Rattle.codec.proofs.Sizes.{sized_0, sized_1, sized_4}
@@ -89,17 +89,9 @@ module _ (n : ℕ) where
   operand_there p q =
       in_range (λ k. true ≡ has_operand (form_of k)) 2 8 n p q (refl, (refl, (refl, (refl, (refl, (refl, (refl, (refl, tt))))))))
 
-  -- of loops, ADD alone
-  pub operand_loop : 10 ≤ n → n ≤ 13 → eqb n 11 ≡ has_operand (form_of n)
-  operand_loop p q = in_range (λ k. eqb k 11 ≡ has_operand (form_of k)) 10 4 n p (omega arith) (refl, (refl, (refl, (refl, tt))))
-
 module _ (n mode reg rm : ℕ) where
   pub allowed_past : 15 < n → true ≡ allows (form_of n) mode reg rm
   allowed_past h = sym (free_allows (form_of n) mode reg rm (number_passes is_free 16 n h refl refl))
-
-  pub allowed_before : n < 2 → true ≡ allows (form_of n) mode reg rm
-  unfolding allows
-  allowed_before h = in_range (λ k. true ≡ allows (form_of k) mode reg rm) 0 2 n (omega arith) h (refl, (refl, tt))
 
   -- shifts by an immediate
   module _ (p : 2 ≤ n) (q : n ≤ 3) where
@@ -110,77 +102,6 @@ module _ (n mode reg rm : ℕ) where
     pub allowed_digit : (t : Bool) → mode ≡ 3 → t ≡ is_among reg (form_of n).digits → t ≡ allows (form_of n) mode reg rm
     unfolding allows
     allowed_digit t m e = e ∙ in_range (λ k. is_among reg (form_of k).digits ≡ allows (form_of k) mode reg rm) 2 2 n p (omega arith) (simp m, (simp m, tt))
-
-  -- PINSRW and PSHUFW
-  pub allowed_both : 3 < n → n ≤ 5 → true ≡ allows (form_of n) mode reg rm
-  unfolding allows
-  allowed_both p q = in_range (λ k. true ≡ allows (form_of k) mode reg rm) 4 2 n p (omega arith) (refl, (refl, tt))
-
-  module _ (p : 5 < n) where
-    -- PEXTRW, PMOVMSKB and MASKMOVQ
-    pub allowed_register : n ≤ 8 → eqb mode 3 ≡ allows (form_of n) mode reg rm
-    unfolding allows
-    allowed_register q = in_range (λ k. eqb mode 3 ≡ allows (form_of k) mode reg rm) 6 3 n p (omega arith) (always, (always, (always, tt)))
-      where
-        always : eqb mode 3 ≡ (eqb mode 3 && true)
-        always = sym (and-true (eqb mode 3))
-
-    -- SFENCE
-    pub allowed_fence : (t : Bool) → n ≡ 9 → t ≡ allows alone/7 mode reg rm → t ≡ allows (form_of n) mode reg rm
-    allowed_fence t e h = rw e h
-
-    -- ADD
-    pub add_memory : n ≡ 11 → (mode ≡ 3 → ⊥) → false ≡ allows (form_of n) mode reg rm
-    unfolding allows
-    add_memory e h = simp (e, ne_eqb mode 3 h)
-
-    pub add_digit : n ≡ 11 → mode ≡ 3 → eqb reg 0 ≡ allows (form_of n) mode reg rm
-    unfolding allows
-    add_digit e h = simp (e, h) (sym (or-false (eqb reg 0)))
-
-    -- the others of loops
-    pub allowed_loop : 8 < n → (n ≡ 9 → ⊥) → (n ≡ 11 → ⊥) → n < 14 → true ≡ allows (form_of n) mode reg rm
-    unfolding allows
-    allowed_loop a b c d =
-        in_range (λ k. (k ≡ 11 → ⊥) → true ≡ allows (form_of k) mode reg rm) 10 4 n (omega (arith, b)) d
-        (λ h. refl, (λ h. absurd (h refl), (λ h. refl, (λ h. refl, tt)))) c
-
-    -- MOVNTQ and the prefetches
-    module _ (q : 14 ≤ n) (h : n ≤ 15) where
-      pub allowed_never : mode ≡ 3 → false ≡ allows (form_of n) mode reg rm
-      unfolding allows
-      allowed_never m = in_range (λ k. false ≡ allows (form_of k) mode reg rm) 14 2 n q (omega arith) (simp m, (simp m, tt))
-
-      pub allowed_stream : (mode ≡ 3 → ⊥) → n ≡ 15 → true ≡ allows (form_of n) mode reg rm
-      unfolding allows
-      allowed_stream m e = simp (e, ne_eqb mode 3 m)
-
-      pub allowed_prefetch : (mode ≡ 3 → ⊥) → (n ≡ 15 → ⊥) → ltb reg 4 ≡ allows (form_of n) mode reg rm
-      unfolding allows
-      allowed_prefetch m e =
-          let is : n ≡ 14 = omega (arith, e) in
-          rw is (simp (ne_eqb mode 3 m) (below_four reg))
-
-module _ (mode reg rm : ℕ) where
-  pub fence_memory : (mode ≡ 3 → ⊥) → false ≡ allows alone/7 mode reg rm
-  unfolding allows
-  fence_memory h = simp (ne_eqb mode 3 h)
-
-  pub fence_other : mode ≡ 3 → (rm ≡ 0 → ⊥) → false ≡ allows alone/7 mode reg rm
-  unfolding allows
-  fence_other m h = simp (m, ne_eqb rm 0 h)
-
-  pub fence_digit : mode ≡ 3 → rm ≡ 0 → eqb reg 7 ≡ allows alone/7 mode reg rm
-  unfolding allows
-  fence_digit m h = simp (m, h) (sym (or-false (eqb reg 7)))
-
--- from MOVNTQ on every mod but 11 is allowed
-pub allowed_in_memory : (n mode digit other : ℕ) → 15 ≤ n → (mode ≡ 3 → ⊥) → true ≡ allows (form_of n) mode digit other
-allowed_in_memory n mode digit other h m = by (eqb n 15) refl
-  where
-    by : (t : Bool) → eqb n 15 ≡ t → true ≡ allows (form_of n) mode digit other
-    by true e = allowed_stream n mode digit other (omega arith) (omega arith) (omega (arith, eqb-true n 15 e)) m (eqb-true n 15 e)
-    by false e = allowed_past n mode digit other (omega (arith, eqb-false n 15 e))
 
 -- the digits of a shift, whose number is 2 or 3
 module _ (n reg : ℕ) (p : 2 ≤ n) (q : n ≤ 3) where
@@ -237,21 +158,197 @@ immediate_before n h = in_range (λ k. 0 ≡ immediate_size (form_of k)) 0 2 n (
 pub immediate_there : (n : ℕ) → n ≤ 6 → 2 ≤ n → 1 ≡ immediate_size (form_of n)
 immediate_there n p q = in_range (λ k. 1 ≡ immediate_size (form_of k)) 2 5 n q (omega arith) (refl, (refl, (refl, (refl, (refl, tt)))))
 
--- PMOVMSKB, MASKMOVQ and SFENCE
-pub immediate_none : (n : ℕ) → 6 < n → n < 10 → 0 ≡ immediate_size (form_of n)
-immediate_none n p q = in_range (λ k. 0 ≡ immediate_size (form_of k)) 7 3 n p q (refl, (refl, (refl, tt)))
-
--- loops
+-- the tests on a number in one: each form that is tested for, and all others
 module _ (n : ℕ) where
-  pub immediate_set : n ≡ 10 → 4 ≡ immediate_size (form_of n)
-  immediate_set e = simp e
+  pub operand_else : (n ≡ 0 → ⊥) → (n ≡ 1 → ⊥) → (n ≡ 10 → ⊥) → (n ≡ 12 → ⊥) → (n ≡ 13 → ⊥) → true ≡ has_operand (form_of n)
+  operand_else a b c d e = by (ltb 13 n) refl
+    where
+      by : (t : Bool) → ltb 13 n ≡ t → true ≡ has_operand (form_of n)
+      by true h = operand_past n (ltb-true 13 n h)
+      by false h =
+          let low : n ≤ 13 = ltb-false 13 n h in
+          in_range (λ k. (k ≡ 0 → ⊥) → (k ≡ 1 → ⊥) → (k ≡ 10 → ⊥) → (k ≡ 12 → ⊥) → (k ≡ 13 → ⊥) → true ≡ has_operand (form_of k)) 0 14 n (omega arith) (omega arith) (
+            λ a b c d e. absurd (a refl),
+            (
+              λ a b c d e. absurd (b refl),
+              (
+                λ a b c d e. refl,
+                (
+                  λ a b c d e. refl,
+                  (
+                    λ a b c d e. refl,
+                    (
+                      λ a b c d e. refl,
+                      (
+                        λ a b c d e. refl,
+                        (
+                          λ a b c d e. refl,
+                          (
+                            λ a b c d e. refl,
+                            (
+                              λ a b c d e. refl,
+                              (
+                                λ a b c d e. absurd (c refl),
+                                (
+                                  λ a b c d e. refl,
+                                  (λ a b c d e. absurd (d refl), (λ a b c d e. absurd (e refl), tt)),
+                                ),
+                              ),
+                            ),
+                          ),
+                        ),
+                      ),
+                    ),
+                  ),
+                ),
+              ),
+            ),
+          ) a b c d e
 
-  pub immediate_decrement : n ≡ 12 → 0 ≡ immediate_size (form_of n)
-  immediate_decrement e = simp e
+  pub immediate_else : (n < 2 ⊎ 6 < n) → (n ≡ 10 → ⊥) → (n ≡ 11 → ⊥) → (n ≡ 13 → ⊥) → (n ≡ 16 → ⊥) → 0 ≡ immediate_size (form_of n)
+  immediate_else z a b c d = by (ltb 13 n) refl
+    where
+      by : (t : Bool) → ltb 13 n ≡ t → 0 ≡ immediate_size (form_of n)
+      by true h = immediate_past n (ltb-true 13 n h) d
+      by false h =
+          let low : n ≤ 13 = ltb-false 13 n h in
+          in_range (λ k. (k < 2 ⊎ 6 < k) → (k ≡ 10 → ⊥) → (k ≡ 11 → ⊥) → (k ≡ 13 → ⊥) → 0 ≡ immediate_size (form_of k)) 0 14 n (omega arith) (omega arith) (
+            λ z a b c. refl,
+            (
+              λ z a b c. refl,
+              (
+                λ z a b c. absurd (omega arith),
+                (
+                  λ z a b c. absurd (omega arith),
+                  (
+                    λ z a b c. absurd (omega arith),
+                    (
+                      λ z a b c. absurd (omega arith),
+                      (
+                        λ z a b c. absurd (omega arith),
+                        (
+                          λ z a b c. refl,
+                          (
+                            λ z a b c. refl,
+                            (
+                              λ z a b c. refl,
+                              (
+                                λ z a b c. absurd (a refl),
+                                (
+                                  λ z a b c. absurd (b refl),
+                                  (λ z a b c. refl, (λ z a b c. absurd (c refl), tt)),
+                                ),
+                              ),
+                            ),
+                          ),
+                        ),
+                      ),
+                    ),
+                  ),
+                ),
+              ),
+            ),
+          ) z a b c
 
-  pub immediate_loop : 10 ≤ n → (n ≡ 10 → ⊥) → (n ≡ 12 → ⊥) → n ≤ 13 → 1 ≡ immediate_size (form_of n)
-  immediate_loop p a b q =
-      in_range (λ k. (k ≡ 10 → ⊥) → (k ≡ 12 → ⊥) → 1 ≡ immediate_size (form_of k)) 10 4 n p (omega arith)
-      (λ g h. absurd (g refl), (λ g h. refl, (λ g h. absurd (h refl), (λ g h. refl, tt)))) a b
+  module _ (mode reg rm : ℕ) where
+    pub allowed_else : (n ≡ 2 → ⊥) → (n ≡ 3 → ⊥) → (n ≡ 6 → ⊥) → (n ≡ 7 → ⊥) → (n ≡ 8 → ⊥) → (n ≡ 9 → ⊥) → (n ≡ 11 → ⊥) → (n ≡ 14 → ⊥) → (n ≡ 15 → ⊥)
+        → true ≡ allows (form_of n) mode reg rm
+    unfolding allows
+    allowed_else a b c d e f g h i = by (ltb 15 n) refl
+      where
+        by : (t : Bool) → ltb 15 n ≡ t → true ≡ allows (form_of n) mode reg rm
+        by true h = allowed_past n mode reg rm (ltb-true 15 n h)
+        by false z =
+            let low : n ≤ 15 = ltb-false 15 n z in
+            in_range
+            (λ k. (k ≡ 2 → ⊥) → (k ≡ 3 → ⊥) → (k ≡ 6 → ⊥) → (k ≡ 7 → ⊥) → (k ≡ 8 → ⊥) → (k ≡ 9 → ⊥) → (k ≡ 11 → ⊥) → (k ≡ 14 → ⊥) → (k ≡ 15 → ⊥) → true ≡ allows (form_of k) mode reg rm)
+            0 16 n (omega arith) (omega arith) (
+              λ a b c d e f g h i. refl,
+              (
+                λ a b c d e f g h i. refl,
+                (
+                  λ a b c d e f g h i. absurd (a refl),
+                  (
+                    λ a b c d e f g h i. absurd (b refl),
+                    (
+                      λ a b c d e f g h i. refl,
+                      (
+                        λ a b c d e f g h i. refl,
+                        (
+                          λ a b c d e f g h i. absurd (c refl),
+                          (
+                            λ a b c d e f g h i. absurd (d refl),
+                            (
+                              λ a b c d e f g h i. absurd (e refl),
+                              (
+                                λ a b c d e f g h i. absurd (f refl),
+                                (
+                                  λ a b c d e f g h i. refl,
+                                  (
+                                    λ a b c d e f g h i. absurd (g refl),
+                                    (λ a b c d e f g h i. refl, (λ a b c d e f g h i. refl, (λ a b c d e f g h i. absurd (h refl), (λ a b c d e f g h i. absurd (i refl), tt)))),
+                                  ),
+                                ),
+                              ),
+                            ),
+                          ),
+                        ),
+                      ),
+                    ),
+                  ),
+                ),
+              ),
+            ) a b c d e f g h i
 
-pub ruleset form_rules = (rules, sized_0, sized_1, sized_4, operand_past, operand_before, operand_there, operand_loop, allowed_past, allowed_before, allowed_memory, allowed_digit, allowed_both, allowed_register, allowed_fence, add_memory, add_digit, allowed_loop, allowed_never, allowed_stream, allowed_prefetch, fence_memory, fence_other, fence_digit, digit_2, digit_6, digit_4, digit_none, accepted_other, accepted_suffix, immediate_past, immediate_suffix, immediate_before, immediate_there, immediate_none, immediate_set, immediate_decrement, immediate_loop)
+    -- the forms that restrain it
+    pub allowed_shift : 2 ≤ n → n ≤ 3 → allows (form_of n) mode reg rm ≡ (eqb mode 3 && is_among reg (form_of n).digits)
+    unfolding allows
+    allowed_shift p q = in_range (λ k. allows (form_of k) mode reg rm ≡ (eqb mode 3 && is_among reg (form_of k).digits)) 2 2 n p (omega arith) (refl, (refl, tt))
+
+    pub allowed_registers : 6 ≤ n → n ≤ 8 → allows (form_of n) mode reg rm ≡ eqb mode 3
+    unfolding allows
+    allowed_registers p q = in_range (λ k. allows (form_of k) mode reg rm ≡ eqb mode 3) 6 3 n p (omega arith) (and-true (eqb mode 3), (and-true (eqb mode 3), (and-true (eqb mode 3), tt)))
+
+    pub allowed_fence : n ≡ 9 → allows (form_of n) mode reg rm ≡ (eqb mode 3 && (eqb rm 0 && eqb reg 7))
+    unfolding allows
+    allowed_fence e = simp (e, or-false) (by (eqb mode 3))
+      where
+        by : (t : Bool) → (slot_allows (fixed 0) t rm && eqb reg 7) ≡ (t && (eqb rm 0 && eqb reg 7))
+        by true = refl
+        by false = refl
+
+    pub allowed_add : n ≡ 11 → allows (form_of n) mode reg rm ≡ (eqb mode 3 && eqb reg 0)
+    unfolding allows
+    allowed_add e = simp (e, or-false)
+
+    pub allowed_prefetch : n ≡ 14 → allows (form_of n) mode reg rm ≡ (not (eqb mode 3) && ltb reg 4)
+    unfolding allows
+    allowed_prefetch e = simp (e, below_four)
+
+    pub fence_memory : n ≡ 9 → (mode ≡ 3 → ⊥) → false ≡ allows (form_of n) mode reg rm
+    fence_memory e h = sym (allowed_fence e ∙ ap (λ (t : Bool). t && (eqb rm 0 && eqb reg 7)) (ne_eqb mode 3 h))
+
+    pub fence_other : n ≡ 9 → mode ≡ 3 → (rm ≡ 0 → ⊥) → false ≡ allows (form_of n) mode reg rm
+    fence_other e m h = sym (allowed_fence e ∙ simp (m, ne_eqb rm 0 h))
+
+    pub add_memory : n ≡ 11 → (mode ≡ 3 → ⊥) → false ≡ allows (form_of n) mode reg rm
+    add_memory e h = sym (allowed_add e ∙ ap (λ (t : Bool). t && eqb reg 0) (ne_eqb mode 3 h))
+
+    pub prefetch_memory : n ≡ 14 → (mode ≡ 3 → ⊥) → ltb reg 4 ≡ allows (form_of n) mode reg rm
+    prefetch_memory e h = sym (allowed_prefetch e ∙ ap (λ (t : Bool). not t && ltb reg 4) (ne_eqb mode 3 h))
+
+    pub allowed_stream : n ≡ 15 → allows (form_of n) mode reg rm ≡ not (eqb mode 3)
+    unfolding allows
+    allowed_stream e = simp (e, and-true)
+
+-- from MOVNTQ on every mod but 11 is allowed
+pub allowed_in_memory : (n mode digit other : ℕ) → 15 ≤ n → (mode ≡ 3 → ⊥) → true ≡ allows (form_of n) mode digit other
+allowed_in_memory n mode digit other h m = by (eqb n 15) refl
+  where
+    by : (t : Bool) → eqb n 15 ≡ t → true ≡ allows (form_of n) mode digit other
+    by true e = sym (allowed_stream n mode digit other (eqb-true n 15 e) ∙ ap not (ne_eqb mode 3 m))
+    by false e = allowed_past n mode digit other (omega (arith, eqb-false n 15 e))
+
+pub ruleset form_rules = (rules, sized_0, sized_1, sized_4, operand_else, digit_2, digit_6, digit_4, digit_none, accepted_other, accepted_suffix, immediate_else, immediate_there)
+
+pub ruleset allowed_rules = (rules, allowed_shift, allowed_registers, allowed_fence, fence_memory, fence_other, allowed_add, add_memory, prefetch_memory, allowed_prefetch, allowed_stream, allowed_else)

@@ -1,4 +1,5 @@
 // The parts of an entry of the table, and the forms by their numbers.
+// They are numbers and no enum: what `table` and `read_from` promise speaks of entries that are numbers, and of any 256 of them.
 
 // What form, operand size and lane width are multiplied by in an entry, and how many values a part has. The operation is lowest.
 pub const FORM: u32 = 0x1000000;

@@ -24,7 +24,7 @@ use refusals::Refusal;
 pub const LONGEST_CODE: usize = 4096;
 
 // The fields of the ModRM byte and of the SIB byte, and the displacement, as they stood; a field that is not there is 0.
-#[derive(Clone, Copy)]
+#[derive(Clone, Copy, PartialEq, Eq, Debug)]
 pub struct Operand {
     pub mode: u8,
     pub reg: u8,
@@ -37,7 +37,7 @@ pub struct Operand {
 
 // The opcode bytes, of which the second is 0 where there is one alone, the operand and the immediate; where the opcode has a digit (71 to 73, 18, AE,
 // 83), it is in reg, and where it has a suffix (0F), that is the immediate.
-#[derive(Clone, Copy)]
+#[derive(Clone, Copy, PartialEq, Eq, Debug)]
 pub struct Instruction {
     pub first: u8,
     pub second: u8,
@@ -47,7 +47,7 @@ pub struct Instruction {
 
 // What an instruction does to the tag mark, whether the control marks stop it, and which others it meets wherever they read and write. The silent
 // ones touch nothing: the prefetches and SFENCE. Those of loops are MOV, ADD, DEC and JNZ.
-#[derive(Clone, Copy)]
+#[derive(Clone, Copy, PartialEq, Eq, Debug)]
 pub enum Kind {
     Ordinary,
     Emms,
@@ -56,7 +56,7 @@ pub enum Kind {
 }
 
 // What reading with a table finds: the entry of the opcode bytes, the instruction and the position after it.
-#[derive(Clone, Copy)]
+#[derive(Clone, Copy, PartialEq, Eq, Debug)]
 pub struct Found {
     pub entry: u32,
     pub instruction: Instruction,

@@ -1,4 +1,5 @@
 // The values of mod, and the values of rm, index and base that name no register.
+// They are numbers and no enum: an `Operand` holds its fields as they stood, any number, and `write` refuses the wrong ones by 11.
 
 // mod.
 pub const NO_DISPLACEMENT: u8 = 0;

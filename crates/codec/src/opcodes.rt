@@ -3,7 +3,6 @@ ghost use Rattle.std.specs.Prelude.{◌≡◌, ◌≤◌, get_or};
 ghost use Rattle.codec.specs.Opcodes.{form_of_first, form_for};
 ghost use Rattle.codec.specs.Table.{form_of};
 
-use crate::fields;
 use crate::forms::{
     ABSENT, ADD, DECREMENT, EMMS, EXTRACT, FENCE, FORM, INSERT, JUMP, LANE, LOAD_D, LOAD_Q, LOW,
     MASKED, PREFETCH, SET, SHIFT_Q, SHIFT_WD, SHUFFLE, SIZE, STORE_D, STORE_Q, STREAM, SUFFIXED,
@@ -18,32 +17,31 @@ pub(crate) fn entry_in(table: &[u32; 256], second: u8) -> u32
     table[second as usize]
 }
 
-// The first bytes of loops: ADD's, JNZ's, and the first of MOV's and of DEC's, whose last three bits name a register.
+// The first bytes of loops: ADD's, JNZ's, and the first and the last of MOV's and of DEC's, whose last three bits name a register.
 const ADD_BYTE: u8 = 0x83;
 
 const JUMP_IF_NOT_ZERO: u8 = 0x75;
 
 const MOVES: u8 = 0xb8;
 
+const LAST_MOVE: u8 = 0xbf;
+
 const DECREMENTS: u8 = 0x48;
 
+const LAST_DECREMENT: u8 = 0x4f;
+
 // The form of a first byte other than 0F.
+#[tactic(auto, using(crate::proofs::Entries::first_forms))]
 pub(crate) fn first_form(first: u8) -> u32
     ensures { (result ≡ (form_of_first first).number) × (result ≤ 13) }
 {
-    if first / fields::VALUES == MOVES / fields::VALUES {
-        return SET;
+    match first {
+        MOVES..=LAST_MOVE => SET,
+        ADD_BYTE => ADD,
+        DECREMENTS..=LAST_DECREMENT => DECREMENT,
+        JUMP_IF_NOT_ZERO => JUMP,
+        _ => ABSENT,
     }
-    if first == ADD_BYTE {
-        return ADD;
-    }
-    if first / fields::VALUES == DECREMENTS / fields::VALUES {
-        return DECREMENT;
-    }
-    if first == JUMP_IF_NOT_ZERO {
-        return JUMP;
-    }
-    ABSENT
 }
 
 // The form of both opcode bytes, of the second by our table.

@@ -1,4 +1,5 @@
 // The suffixes of 3DNow, each by its instruction.
+// They are numbers and no enum: an `Instruction` holds its immediate as it stood, any number, and `write` refuses the wrong ones by 11.
 pub const PI2FW: u32 = 0x0c;
 
 pub const PF2IW: u32 = 0x1c;

@@ -1,4 +1,6 @@
 // The writer: whether a record has bytes, how many, and one function for each part that puts them, from left to right.
+#![tactic(auto, using(crate::proofs::Puts::puts, crate::proofs::Checks::checks))]
+
 ghost use Rattle.std.specs.Prelude.{◌≡◌, true, ◌&&◌, ◌+◌, ◌≤◌, length};
 ghost use Rattle.basis.specs.Names.{sets};
 ghost use Rattle.words.specs.Number.{bytes};
@@ -33,99 +35,58 @@ fn field_fits(k: usize, value: u32) -> bool
     requires { Sized k }
     ensures { result ≡ fits k value }
 {
-    if k == fields::NO_BYTE {
-        return value == 0;
+    match k {
+        fields::NO_BYTE => value == 0,
+        fields::ONE_BYTE => value < fields::BYTE,
+        _ => true,
     }
-    if k == fields::ONE_BYTE {
-        return value < fields::BYTE;
-    }
-    true
 }
 
 // Whether the fields of an SIB byte fit it; where there is none they are 0.
+#[tactic(auto, using(crate::proofs::Tests::tests), unfolding(crate::specs::Fits::sib_fits))]
 fn sib_fits(there: bool, scale: u8, index: u8, base: u8) -> bool
     ensures { result ≡ sib_fits there scale index base }
 {
     if there {
-        if UPPER_VALUES <= scale {
-            return false;
-        }
-        if fields::VALUES <= index {
-            return false;
-        }
-        base < fields::VALUES
+        scale < UPPER_VALUES && index < fields::VALUES && base < fields::VALUES
     } else {
-        if scale != 0 {
-            return false;
-        }
-        if index != 0 {
-            return false;
-        }
-        base == 0
+        scale == 0 && index == 0 && base == 0
     }
 }
 
 // Whether each field of an operand fits its place.
+#[tactic(auto, using(crate::proofs::Tests::tests), unfolding(crate::specs::Fits::operand_fits))]
 fn operand_fits(operand: Operand) -> bool
     ensures { result ≡ operand_fits operand }
 {
-    if UPPER_VALUES <= operand.mode {
-        return false;
-    }
-    if fields::VALUES <= operand.reg {
-        return false;
-    }
-    if fields::VALUES <= operand.rm {
-        return false;
-    }
-    if sib_fits(
-        fields::sib_follows(operand.mode, operand.rm),
-        operand.scale,
-        operand.index,
-        operand.base,
-    ) {
-        field_fits(
-            fields::displacement_size(operand.mode, operand.rm, operand.base),
-            operand.displacement,
-        )
-    } else {
-        false
-    }
+    let sib = fields::sib_follows(operand.mode, operand.rm);
+    let size = fields::displacement_size(operand.mode, operand.rm, operand.base);
+    operand.mode < UPPER_VALUES
+        && operand.reg < fields::VALUES
+        && operand.rm < fields::VALUES
+        && sib_fits(sib, operand.scale, operand.index, operand.base)
+        && field_fits(size, operand.displacement)
 }
 
 // Whether there is nothing in an operand.
+#[tactic(auto, using(crate::proofs::Tests::tests), unfolding(crate::specs::Fits::operand_is_zero))]
 fn operand_is_zero(operand: Operand) -> bool
     ensures { result ≡ operand_is_zero operand }
 {
-    if operand.mode != 0 {
-        return false;
-    }
-    if operand.reg != 0 {
-        return false;
-    }
-    if operand.rm != 0 {
-        return false;
-    }
-    if operand.scale != 0 {
-        return false;
-    }
-    if operand.index != 0 {
-        return false;
-    }
-    if operand.base != 0 {
-        return false;
-    }
-    operand.displacement == 0
+    operand.mode == 0
+        && operand.reg == 0
+        && operand.rm == 0
+        && operand.scale == 0
+        && operand.index == 0
+        && operand.base == 0
+        && operand.displacement == 0
 }
 
 // Whether the immediate is one that the form may have.
 fn immediate_fits(form: u32, immediate: u32) -> bool
     ensures { result ≡ (fits (immediate_size (form_of form)) immediate && accepts (form_of form) immediate) }
 {
-    if field_fits(fields::immediate_size(form), immediate) {
-        return fields::accepted(form, immediate);
-    }
-    false
+    field_fits(fields::immediate_size(form), immediate) && fields::accepted(form, immediate)
 }
 
 // Whether the operand and the immediate are such as the form has.
@@ -136,27 +97,19 @@ fn parts_fit(form: u32, operand: Operand, immediate: u32) -> bool
         return false;
     }
     if fields::has_operand(form) {
-        if fields::allowed(form, operand.mode, operand.reg, operand.rm) {
-            if operand_fits(operand) {
-                return immediate_fits(form, immediate);
-            }
-        }
-        return false;
+        fields::allowed(form, operand.mode, operand.reg, operand.rm)
+            && operand_fits(operand)
+            && immediate_fits(form, immediate)
+    } else {
+        operand_is_zero(operand) && immediate_fits(form, immediate)
     }
-    if operand_is_zero(operand) {
-        return immediate_fits(form, immediate);
-    }
-    false
 }
 
 // Whether the opcode bytes are 0F and another, or one, and the second is 0.
 fn opcode_fits(first: u8, second: u8) -> bool
     ensures { result ≡ opcode_fits first second }
 {
-    if first == ESCAPE {
-        return true;
-    }
-    second == 0
+    first == ESCAPE || second == 0
 }
 
 // Whether any byte string reads as the record.
@@ -164,11 +117,8 @@ pub(crate) fn has_bytes(form: u32, instruction: Instruction) -> bool
     requires { form_of form ≡ form_for instruction.first instruction.second }
     ensures { result ≡ has_bytes instruction }
 {
-    if opcode_fits(instruction.first, instruction.second) {
-        let operand = instruction.operand;
-        return parts_fit(form, operand, instruction.immediate);
-    }
-    false
+    opcode_fits(instruction.first, instruction.second)
+        && parts_fit(form, instruction.operand, instruction.immediate)
 }
 
 // How many bytes the opcode has.
