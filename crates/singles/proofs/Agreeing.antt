@@ -1,7 +1,7 @@
 -- The tables over halves and the tables over the numbers that these stand for say the same.
-use Rattle.std.specs.Prelude.{◌≡◌, refl, ℕ, ◌+◌, ◌-◌, ◌*◌, ◌/◌, ◌^◌, min, ◌<◌, Bool, true, false, not, cond, eqb, ltb, ℤ, Float}
+use Rattle.std.specs.Prelude.{◌≡◌, refl, ℕ, ◌+◌, ◌-◌, ◌*◌, ◌/◌, ◌^◌, min, ◌<◌, Bool, true, false, not, cond, eqb, ltb, ℤ, Float, Option, Some}
 use Rattle.basis.specs.Names.{binary32, of_bits, to_unsigned, neg, lt}
-use Rattle.basis.proofs.Names.{ap, ap₂, ◌∙◌, arith, rules, lt-ltb, ltb-true, ltb-false, pow_pos, nan, inf, up, down, down_pos, HasValue, div_same, fin}
+use Rattle.basis.proofs.Names.{ap, ap₂, ◌∙◌, arith, lt-ltb, ltb-true, ltb-false, pow_pos, nan, inf, up, down, down_pos, HasValue, div_same, fin}
 use Rattle.lanes.specs.Lane.{lane}
 use Rattle.singles.specs.Ranges.{exponent, zero_range, normal_range, unsupported_range, range_of, is_negative}
 use Rattle.singles.specs.Tables.{greater_cell, greater_half, maximum_cell, maximum_half, units, whole_part, word_row, word_cell, word_half}
@@ -9,9 +9,6 @@ use Rattle.singles.specs.Siblings.{both, pf2iw, pfcmpgt, pfmax}
 use Rattle.singles.specs.inner.Numbers.{sort, class_of, greater, maximum, rounded, word}
 use Rattle.singles.specs.declared.classes.Class.{Class}
 use Rattle.singles.specs.declared.classes.Class.TheVariants.{Zero, Normal, Unsupported}
-use Rattle.singles.specs.declared.tables.Half.{Half}
-use Rattle.singles.specs.declared.tables.Half.TheVariants.{Made}
-use Rattle.singles.specs.declared.answers.Answer.{Answer}
 use Rattle.singles.proofs.Rounding.{cut, small}
 use Rattle.singles.proofs.Values.{IsNormal, has_value, exceeds_is, over_zero, under_zero}
 
@@ -31,7 +28,7 @@ view n = by (eqb (exponent n) 0xFF) (eqb (exponent n) 0x00) refl refl
     by false false p q = normal_view (rw (p, q)) (rw (p, q)) (record { supported = p; nonzero = q })
 
 -- Table 10
-turned : (s : Bool) (a b : ℕ) → Made (cond (not s) a b) ≡ Made (cond s b a)
+turned : (s : Bool) (a b : ℕ) → Some (cond (not s) a b) ≡ Some (cond s b a)
 turned true a b = refl
 turned false a b = refl
 
@@ -114,7 +111,7 @@ word_is n = by (view n)
   where
     by : View n → word (class_of n) ≡ word_cell (range_of n) n
     by (zero_view p q) = rw (p, q)
-    by (normal_view p q g) = rw (p, q) (ap Made (rows _ (is_negative n) (units n) (2 ^ 150) (pow_pos 150) (has_value n g)))
+    by (normal_view p q g) = rw (p, q) (ap Some (rows _ (is_negative n) (units n) (2 ^ 150) (pow_pos 150) (has_value n g)))
     by (unsupported_view p q) = rw (p, q)
 
 -- in registers, as the code has their halves' classes
@@ -123,7 +120,7 @@ pub class_is : (i a n : ℕ) (number : Float) (x : Class) → n ≡ lane 32 i a 
 unfolding class_of
 class_is i a n number x p q h = h ∙ ap₂ sort p q
 
-module _ (r : Answer) (low high : Half) (is : r ≡ both low high) where
+module _ (r : Option ℕ) (low high : Option ℕ) (is : r ≡ both low high) where
   pub pf2iw_is : (b : ℕ) (x u : Class) → low ≡ word x → high ≡ word u → x ≡ class_of (lane 32 0 b) → u ≡ class_of (lane 32 1 b) → r ≡ pf2iw b
   unfolding pf2iw
   pf2iw_is b x u l h xs us = is ∙ ap₂ both (l ∙ ap word xs ∙ word_is _) (h ∙ ap word us ∙ word_is _)
@@ -140,5 +137,3 @@ module _ (r : Answer) (low high : Half) (is : r ≡ both low high) where
   unfolding pfmax
   pfmax_is a b n k i j x y u v l h ns ks is' js xs ys us vs =
       is ∙ ap₂ both (l ∙ rw (ns, ks, xs, ys) (maximum_is _ _)) (h ∙ rw (is', js, us, vs) (maximum_is _ _))
-
-pub ruleset agreeing = (rules, class_is, pf2iw_is, pfcmpgt_is, pfmax_is)

@@ -1,28 +1,24 @@
 -- Nothing is left exactly where a half that is read is unsupported.
-use Rattle.std.specs.Prelude.{◌≡◌, refl, ℕ, Bool, true, false, ◌||◌}
+use Rattle.std.specs.Prelude.{◌≡◌, refl, ℕ, Bool, true, false, ◌||◌, Option, Some, None}
 use Rattle.basis.proofs.Names.{sym, ap₂, ◌∙◌, false≢true}
 use Rattle.lanes.specs.Lane.{lane}
 use Rattle.singles.specs.Ranges.{Range, zero_range, normal_range, unsupported_range, range_of}
 use Rattle.singles.specs.Tables.{greater_cell, greater_half, maximum_cell, maximum_half, word_cell, word_half}
 use Rattle.singles.specs.Siblings.{both, pf2iw, pfcmpgt, pfmax, Sibling, PF2IW, PI2FW, PSWAPD, PAVGUSB, PFCMPGT, PFMAX, leave, is_unsupported, has_unsupported, refuses}
-use Rattle.singles.specs.declared.tables.Half.{Half}
-use Rattle.singles.specs.declared.tables.Half.TheVariants.{Made, Undefined}
-use Rattle.singles.specs.declared.answers.Answer.{Answer}
-use Rattle.singles.specs.declared.answers.Answer.TheVariants.{Leaves, Fails}
 
-abbrev fails : Answer → Bool
-fails (Leaves r) = false
-fails Fails = true
+abbrev fails : Option ℕ → Bool
+fails (Some r) = false
+fails None = true
 
-abbrev is_undefined : Half → Bool
-is_undefined (Made n) = false
-is_undefined Undefined = true
+abbrev is_undefined : Option ℕ → Bool
+is_undefined (Some n) = false
+is_undefined None = true
 
-both_fails : (low high : Half) → fails (both low high) ≡ (is_undefined low || is_undefined high)
+both_fails : (low high : Option ℕ) → fails (both low high) ≡ (is_undefined low || is_undefined high)
 unfolding both
-both_fails (Made l) (Made h) = refl
-both_fails (Made l) Undefined = refl
-both_fails Undefined high = refl
+both_fails (Some l) (Some h) = refl
+both_fails (Some l) None = refl
+both_fails None high = refl
 
 module _ (a b : ℕ) where
   greater_undefined : (x y : Range) → is_undefined (greater_cell x y a b) ≡ (is_unsupported x || is_unsupported y)
@@ -81,17 +77,17 @@ fails_exactly PFMAX a b =
     both_fails _ _ ∙ ap₂ ◌||◌ (maximum_undefined _ _ (low a) (low b)) (maximum_undefined _ _ (high a) (high b))
     ∙ across (is_unsupported (low a)) (is_unsupported (low b)) _ _
 
-failing : (r : Answer) → fails r ≡ true → r ≡ Fails
-failing (Leaves v) h = absurd (false≢true h)
-failing Fails h = refl
+failing : (r : Option ℕ) → fails r ≡ true → r ≡ None
+failing (Some v) h = absurd (false≢true h)
+failing None h = refl
 
-leaving : (r : Answer) → fails r ≡ false → (v : ℕ) × (r ≡ Leaves v)
-leaving (Leaves v) h = (v, refl)
-leaving Fails h = absurd (false≢true (sym h))
+leaving : (r : Option ℕ) → fails r ≡ false → (v : ℕ) × (r ≡ Some v)
+leaving (Some v) h = (v, refl)
+leaving None h = absurd (false≢true (sym h))
 
 module _ (x : Sibling) (a b : ℕ) where
-  pub fails_where : refuses x a b ≡ true → leave x a b ≡ Fails
+  pub fails_where : refuses x a b ≡ true → leave x a b ≡ None
   fails_where h = failing (leave x a b) (fails_exactly x a b ∙ h)
 
-  pub leaves_where : refuses x a b ≡ false → (v : ℕ) × (leave x a b ≡ Leaves v)
+  pub leaves_where : refuses x a b ≡ false → (v : ℕ) × (leave x a b ≡ Some v)
   leaves_where h = leaving (leave x a b) (fails_exactly x a b ∙ h)

@@ -1,7 +1,6 @@
--- The laws, each file after what it builds on: of halves and their classes, of the tables' cells, of rounding; of the numbers' values, and that the
+-- The laws, each file after what it builds on: of halves, of rounding; of the numbers' values, and that the
 -- tables over halves and those over numbers agree; where nothing is left; the illustrations; and the theorems that each contract allows one answer.
 pub mod Sorting
-pub mod Cells
 pub mod Rounding
 pub mod Values
 pub mod Agreeing

@@ -1,22 +1,20 @@
 -- Every cell of the tables, at both signs and at the ends of what it is for. The numbers are our own, but PAVGUSB's, which are 003's: for the others
 -- the manuals have none. Both halves of a register are examples.
-use Rattle.std.specs.Prelude.{ℕ, Bool, true, false, ◌&&◌, List, [], ◌∷◌, eqb}
+use Rattle.std.specs.Prelude.{ℕ, Bool, true, false, ◌&&◌, List, [], ◌∷◌, eqb, Option, Some, None}
 use Rattle.singles.specs.Siblings.{Sibling, PF2IW, PI2FW, PSWAPD, PAVGUSB, PFCMPGT, PFMAX, leave}
-use Rattle.singles.specs.declared.answers.Answer.{Answer}
-use Rattle.singles.specs.declared.answers.Answer.TheVariants.{Leaves, Fails}
 
 -- an instruction, its destination, its source, and what it leaves; or nothing
 pub data Illustration : Type 0 where
   shows : Sibling → ℕ → ℕ → ℕ → Illustration
   fails : Sibling → ℕ → ℕ → Illustration
 
-abbrev leaves : Answer → ℕ → Bool
-leaves (Leaves x) result = eqb x result
-leaves Fails result = false
+abbrev leaves : Option ℕ → ℕ → Bool
+leaves (Some x) result = eqb x result
+leaves None result = false
 
-abbrev is_nothing : Answer → Bool
-is_nothing (Leaves x) = false
-is_nothing Fails = true
+abbrev is_nothing : Option ℕ → Bool
+is_nothing (Some x) = false
+is_nothing None = true
 
 abbrev pub hold : List Illustration → Bool
 hold [] = true

@@ -1,26 +1,22 @@
 -- The instructions on pairs of single-precision numbers, and those that come with them: what each leaves of its destination and its source, and where
 -- it leaves nothing. Those of 000 stand before those of 003, each in the manual's order.
-use Rattle.std.specs.Prelude.{ℕ, ◌+◌, ◌*◌, ◌^◌, Bool, true, false, ◌||◌}
+use Rattle.std.specs.Prelude.{ℕ, ◌+◌, ◌*◌, ◌^◌, Bool, true, false, ◌||◌, Option, Some, None}
 use Rattle.lanes.specs.Lane.{lane}
 use Rattle.lanes.specs.Operations.{PAVGB, operate}
 use Rattle.singles.specs.Ranges.{Range, zero_range, normal_range, unsupported_range, range_of}
 use Rattle.singles.specs.Tables.{greater_half, maximum_half, word_half, single_of}
-use Rattle.singles.specs.declared.tables.Half.{Half}
-use Rattle.singles.specs.declared.tables.Half.TheVariants.{Made, Undefined}
-use Rattle.singles.specs.declared.answers.Answer.{Answer}
-use Rattle.singles.specs.declared.answers.Answer.TheVariants.{Leaves, Fails}
 
 -- the register of two halves, bits 31:0 and 63:32
 abbrev pub join : ℕ → ℕ → ℕ
 join low high = high * 2 ^ 32 + low
 
 -- where the tables leave a half undefined, nothing is left
-unfoldable pub both : Half → Half → Answer
-both (Made low) (Made high) = Leaves (join low high)
-both (Made low) Undefined = Fails
-both Undefined high = Fails
+unfoldable pub both : Option ℕ → Option ℕ → Option ℕ
+both (Some low) (Some high) = Some (join low high)
+both (Some low) None = None
+both None high = None
 
-unfoldable pub pf2iw : ℕ → Answer
+unfoldable pub pf2iw : ℕ → Option ℕ
 pf2iw source = both (word_half (lane 32 0 source)) (word_half (lane 32 1 source))
 
 unfoldable pub pi2fw : ℕ → ℕ
@@ -29,11 +25,11 @@ pi2fw source = join (single_of (lane 32 0 source)) (single_of (lane 32 1 source)
 unfoldable pub pswapd : ℕ → ℕ
 pswapd source = join (lane 32 1 source) (lane 32 0 source)
 
-unfoldable pub pfcmpgt : ℕ → ℕ → Answer
+unfoldable pub pfcmpgt : ℕ → ℕ → Option ℕ
 pfcmpgt destination source =
     both (greater_half (lane 32 0 destination) (lane 32 0 source)) (greater_half (lane 32 1 destination) (lane 32 1 source))
 
-unfoldable pub pfmax : ℕ → ℕ → Answer
+unfoldable pub pfmax : ℕ → ℕ → Option ℕ
 pfmax destination source =
     both (maximum_half (lane 32 0 destination) (lane 32 0 source)) (maximum_half (lane 32 1 destination) (lane 32 1 source))
 
@@ -41,11 +37,11 @@ pub data Sibling : Type 0 where
   PF2IW PI2FW PSWAPD PAVGUSB PFCMPGT PFMAX : Sibling
 
 -- PAVGUSB is PAVGB: 000 says that they are identical
-unfoldable pub leave : Sibling → ℕ → ℕ → Answer
+unfoldable pub leave : Sibling → ℕ → ℕ → Option ℕ
 leave PF2IW destination source = pf2iw source
-leave PI2FW destination source = Leaves (pi2fw source)
-leave PSWAPD destination source = Leaves (pswapd source)
-leave PAVGUSB destination source = Leaves (operate PAVGB destination source)
+leave PI2FW destination source = Some (pi2fw source)
+leave PSWAPD destination source = Some (pswapd source)
+leave PAVGUSB destination source = Some (operate PAVGB destination source)
 leave PFCMPGT destination source = pfcmpgt destination source
 leave PFMAX destination source = pfmax destination source
 

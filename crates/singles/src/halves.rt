@@ -9,12 +9,14 @@ use crate::classes::{INFINITY, SIGN};
 // How many values a half has.
 pub(crate) const HALF_RANGE: u64 = 0x1_0000_0000;
 
+#[tactic(auto, using(crate::proofs::Sorting::low_lane))]
 pub(crate) fn low_half(register: u64) -> u32
     ensures { result ≡ lane 32 0 register }
 {
     (register % HALF_RANGE) as u32
 }
 
+#[tactic(auto, using(crate::proofs::Sorting::high_lane))]
 pub(crate) fn high_half(register: u64) -> u32
     ensures { result ≡ lane 32 1 register }
 {
@@ -24,15 +26,16 @@ pub(crate) fn high_half(register: u64) -> u32
 pub(crate) fn joined(low: u32, high: u32) -> u64
     ensures { result ≡ join low high }
 {
-    (high as u64) * HALF_RANGE + (low as u64)
+    u64::from(high) * HALF_RANGE + u64::from(low)
 }
 
 // The number that a half stands for: every NaN's half for the one NaN.
+#[tactic(auto, using(crate::proofs::Sorting::nan_above, std::proofs::lemmas::Float::not_nan_f32_bits))]
 fn number_of(half: u32) -> f32
     ensures { result ≡ of_bits binary32 half }
 {
     if INFINITY < half % SIGN {
-        return 0.0 / 0.0;
+        return f32::NAN;
     }
     f32::from_bits(half)
 }
