@@ -1,9 +1,7 @@
 -- What each instruction takes and gives: by its form's operands and its operation, as those of loops do, or as 3DNow's do, by their suffix.
-use Rattle.std.specs.Prelude.{Bool, true, false, cond, List, [], ◌∷◌, map, ℕ, ◌+◌, ◌-◌, ◌^◌, ◌%◌, eqb, length, get_or}
+use Rattle.std.specs.Prelude.{Bool, true, false, cond, List, [], ◌∷◌, map, ℕ, ◌+◌, ◌-◌, ◌^◌, ◌%◌, eqb, length, get_or, Option, Some, None}
 use Rattle.lanes.specs.Operations.{Operation, operate, operate_three}
 use Rattle.singles.specs.Siblings.{leave}
-use Rattle.singles.specs.declared.answers.Answer.{Answer}
-use Rattle.singles.specs.declared.answers.Answer.TheVariants.{Leaves, Fails}
 use Rattle.reorder.specs.Result.{Result, done, refused, map_result}
 use Rattle.reorder.specs.Footprint.{Footprint}
 use Rattle.codec.specs.Forms.{Use, read, written, updated, untouched, File, mmx_file, integer_file, Slot, reg, rm, rm/mem, mem, edi, fixed, opcode, zero_slot, Form, has_suffix}
@@ -77,9 +75,9 @@ is_loop Silent = false
 is_loop Loop = true
 
 -- what one of 3DNow's leaves, or 22 where a half that it reads is unsupported
-abbrev pub supported : Answer → Result ℕ
-supported (Leaves x) = done x
-supported Fails = refused half_unsupported
+abbrev pub supported : Option ℕ → Result ℕ
+supported (Some x) = done x
+supported None = refused half_unsupported
 
 -- of the numbers that are read: the first and the last (which are one, where one is read)
 abbrev pub left_by_suffix : Suffixed → List ℕ → Result ℕ

@@ -1,24 +1,14 @@
 -- The works of 3DNow's instructions, by their suffixes. Rules for the functions that make them.
-use Rattle.std.specs.Prelude.{◌≡◌, refl, ℕ, eqb}
+use Rattle.std.specs.Prelude.{◌≡◌, refl, ℕ, eqb, Option, Some}
 use Rattle.basis.proofs.Names.{sym, ap, ap₂, ◌∙◌, rules, ne_eqb, eqb-true}
 use Rattle.lanes.specs.Operations.{described, MOVE, PAVGB}
 use Rattle.singles.specs.Siblings.{Sibling, PF2IW, PI2FW, PSWAPD, PAVGUSB, PFCMPGT, PFMAX, pf2iw, pi2fw, pswapd, pfcmpgt, pfmax, leave}
-use Rattle.singles.specs.declared.answers.Answer.{Answer}
-use Rattle.singles.specs.declared.answers.Answer.TheVariants.{Leaves, Fails}
 use Rattle.codec.specs.Contents.{maximum, siblings}
 use Rattle.codec.specs.Opcodes.{suffixed_of}
 use Rattle.codec.proofs.Bytes.{found_each}
-use Rattle.manual.specs.Refusals.{half_unsupported}
 use Rattle.works.specs.declared.Work.{Work}
-use Rattle.works.specs.Works.{to_operate, work_of, refused_work}
-use Rattle.works.specs.Siblings.{value_left, operation_left, answered_work, sibling_work, suffixed_work}
-
-module _ (number : ℕ) (answer : Answer) (place next : ℕ) (r : Work) where
-  pub answered_leaves : (value : ℕ) → answer ≡ Leaves value → r ≡ work_of to_operate number place value next → r ≡ answered_work number answer place next
-  answered_leaves value e made = rw e made
-
-  pub answered_fails : answer ≡ Fails → r ≡ refused_work half_unsupported → r ≡ answered_work number answer place next
-  answered_fails e made = rw e made
+use Rattle.works.specs.Works.{to_operate}
+use Rattle.works.specs.Siblings.{value_left, operation_left, sibling_work, suffixed_work}
 
 -- a suffix names its instruction
 module _ (suffix : ℕ) where
@@ -61,7 +51,7 @@ module _ (suffix : ℕ) where
       )
 
   -- what it leaves
-  module _ (old source : ℕ) (r : Answer) where
+  module _ (old source : ℕ) (r : Option ℕ) where
     abbrev Leaving : Type 0
     Leaving = r ≡ value_left (suffixed_of suffix).sibling old source
 
@@ -76,15 +66,15 @@ module _ (suffix : ℕ) where
     unfolding leave
     left-greater e h = left_by PFCMPGT (names_greater e) h
 
-    pub left_singles : (v : ℕ) → suffix ≡ 0x0c → v ≡ pi2fw source → r ≡ Leaves v → Leaving
+    pub left_singles : (v : ℕ) → suffix ≡ 0x0c → v ≡ pi2fw source → r ≡ Some v → Leaving
     unfolding leave
-    left_singles v e g h = left_by PI2FW (names_singles e) (h ∙ ap Leaves g)
+    left_singles v e g h = left_by PI2FW (names_singles e) (h ∙ ap Some g)
 
-    pub left_swap : (v : ℕ) → suffix ≡ 0xbb → v ≡ pswapd source → r ≡ Leaves v → Leaving
+    pub left_swap : (v : ℕ) → suffix ≡ 0xbb → v ≡ pswapd source → r ≡ Some v → Leaving
     unfolding leave
-    left_swap v e g h = left_by PSWAPD (names_swap e) (h ∙ ap Leaves g)
+    left_swap v e g h = left_by PSWAPD (names_swap e) (h ∙ ap Some g)
 
-    pub left-mean : suffix ≡ 0xbf → r ≡ Leaves source → Leaving
+    pub left-mean : suffix ≡ 0xbf → r ≡ Some source → Leaving
     left-mean e h = left_by PAVGUSB (names_mean e) h
 
     pub left-maximum : (suffix ≡ 0x1c → ⊥) → (suffix ≡ 0xa0 → ⊥) → (suffix ≡ 0x0c → ⊥) → (suffix ≡ 0xbb → ⊥) → (suffix ≡ 0xbf → ⊥) → r ≡ pfmax old source → Leaving
@@ -101,11 +91,6 @@ module _ (suffix : ℕ) where
       found_each (λ x. x) maximum (λ x. (described MOVE).number ≡ operation_left x.sibling) (λ x. eqb suffix x.suffix) refl siblings
       (λ h. refl, (λ h. refl, (λ h. refl, (λ h. absurd (none (eqb-true suffix 0xbf h)), (λ h. refl, (λ h. refl, tt))))))
 
--- with the operand's number
-pub of_suffix_made : (suffix old source place next number : ℕ) (answer : Answer) (r : Work) → number ≡ operation_left (suffixed_of suffix).sibling
-    → answer ≡ value_left (suffixed_of suffix).sibling old source → r ≡ answered_work number answer place next → r ≡ sibling_work (suffixed_of suffix).sibling old source place next
-of_suffix_made suffix old source place next number answer r n a made = made ∙ ap₂ (λ (k : ℕ) (x : Answer). answered_work k x place next) n a
-
 -- from a work that has it, unless that is refused
 module _ (suffix old : ℕ) (work r : Work) where
   pub suffixed-refused : (work.what ≡ to_operate → ⊥) → r ≡ work → r ≡ suffixed_work suffix old work
@@ -114,4 +99,4 @@ module _ (suffix old : ℕ) (work r : Work) where
   pub suffixed_made : work.what ≡ to_operate → r ≡ sibling_work (suffixed_of suffix).sibling old work.value work.place work.next → r ≡ suffixed_work suffix old work
   suffixed_made e made = simp e made
 
-pub ruleset answering = (rules, answered_leaves, answered_fails, left_words, left-greater, left_singles, left_swap, left-mean, left-maximum, operation_mean, operation_move, of_suffix_made, suffixed-refused, suffixed_made)
+pub ruleset answering = (rules, left_words, left-greater, left_singles, left_swap, left-mean, left-maximum, operation_mean, operation_move, suffixed-refused, suffixed_made)

@@ -1,10 +1,8 @@
 -- The footprint of an instruction with a suffix: it is refused as its step is, and else that of a load or of a computation. Rules for what the code
 -- makes of one.
-use Rattle.std.specs.Prelude.{◌≡◌, refl, ◌⊎◌, true, List, [], ℕ, ◌/◌, ◌%◌, ◌^◌, eqb, length, get_or}
+use Rattle.std.specs.Prelude.{◌≡◌, refl, ◌⊎◌, true, List, [], ℕ, ◌/◌, ◌%◌, ◌^◌, eqb, length, get_or, Option, Some, None}
 use Rattle.basis.proofs.Names.{sym, ap, subst, ◌∙◌, inl, inr, false≢true, rules}
 use Rattle.singles.specs.Siblings.{Sibling, PF2IW, PI2FW, PSWAPD, PAVGUSB, PFCMPGT, PFMAX, leave}
-use Rattle.singles.specs.declared.answers.Answer.{Answer}
-use Rattle.singles.specs.declared.answers.Answer.TheVariants.{Leaves, Fails}
 use Rattle.words.specs.Buffer.{loaded}
 use Rattle.reorder.specs.Result.{Result, done, refused, and_then, map_result}
 use Rattle.reorder.specs.Plan.{Plan, looks, leaves, perform}
@@ -125,9 +123,9 @@ module _ (s : State) where
 abbrev Ended : Work → Type 0
 Ended work = (work.what ≡ to_refuse) ⊎ (work.what ≡ to_operate)
 
-answer_ends : (number : ℕ) (answer : Answer) (place next : ℕ) → Ended (answered_work number answer place next)
-answer_ends number (Leaves value) place next = inr refl
-answer_ends number Fails place next = inl refl
+answer_ends : (number : ℕ) (answer : Option ℕ) (place next : ℕ) → Ended (answered_work number answer place next)
+answer_ends number (Some value) place next = inr refl
+answer_ends number None place next = inl refl
 
 sibling_ends : (x : Sibling) (old source place next : ℕ) → Ended (sibling_work x old source place next)
 sibling_ends x old source place next = answer_ends (operation_left x) (value_left x old source) place next

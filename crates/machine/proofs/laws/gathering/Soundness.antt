@@ -1,10 +1,8 @@
 -- The works that the code makes are sound, by what is to be done.
-use Rattle.std.specs.Prelude.{◌≡◌, refl, Bool, true, false, cond, List, ℕ, ◌<◌, length, get_or}
+use Rattle.std.specs.Prelude.{◌≡◌, refl, Bool, true, false, cond, List, ℕ, ◌<◌, length, get_or, Option, Some, None}
 use Rattle.basis.proofs.Names.{arith}
 use Rattle.lanes.specs.Operations.{operate_three, described, MOVE, MASKMOVQ}
 use Rattle.singles.specs.Siblings.{Sibling}
-use Rattle.singles.specs.declared.answers.Answer.{Answer}
-use Rattle.singles.specs.declared.answers.Answer.TheVariants.{Leaves, Fails}
 use Rattle.words.specs.Buffer.{loaded}
 use Rattle.codec.specs.Opcodes.{suffixed_of}
 use Rattle.manual.specs.Refusals.{outside_memory, half_unsupported}
@@ -73,9 +71,9 @@ sound_picked form old immediate registers integers memory number place (Bytes a 
     sound_operation (described MOVE).number place (picked_of form old (loaded memory a size) immediate) next p
 sound_picked form old immediate registers integers memory number place (Refused n) next p h = sound_refusal n h
 
-sound_answer : (number : ℕ) (answer : Answer) (place next : ℕ) → place < 8 → Sound (answered_work number answer place next)
-sound_answer number (Leaves value) place next p = sound_operation number place value next p
-sound_answer number Fails place next p = sound_refusal half_unsupported (λ e. omega arith)
+sound_answer : (number : ℕ) (answer : Option ℕ) (place next : ℕ) → place < 8 → Sound (answered_work number answer place next)
+sound_answer number (Some value) place next p = sound_operation number place value next p
+sound_answer number None place next p = sound_refusal half_unsupported (λ e. omega arith)
 
 sound_sibling : (x : Sibling) (old source place next : ℕ) → place < 8 → Sound (sibling_work x old source place next)
 sound_sibling x old source place next p = sound_answer (operation_left x) (value_left x old source) place next p

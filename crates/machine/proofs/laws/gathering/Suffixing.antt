@@ -1,10 +1,8 @@
 -- The work that the code makes of an instruction with a suffix does what its effect does.
-use Rattle.std.specs.Prelude.{◌≡◌, refl, Bool, true, false, List, map, ℕ, ◌/◌, ◌%◌, ◌^◌, eqb, length, get_or}
+use Rattle.std.specs.Prelude.{◌≡◌, refl, Bool, true, false, List, map, ℕ, ◌/◌, ◌%◌, ◌^◌, eqb, length, get_or, Option, Some, None}
 use Rattle.basis.proofs.Names.{sym, ap, subst, ◌∙◌, rules}
 use Rattle.lanes.specs.Operations.{operate, described, MOVE}
 use Rattle.singles.specs.Siblings.{Sibling, PF2IW, PI2FW, PSWAPD, PAVGUSB, PFCMPGT, PFMAX, leave}
-use Rattle.singles.specs.declared.answers.Answer.{Answer}
-use Rattle.singles.specs.declared.answers.Answer.TheVariants.{Leaves, Fails}
 use Rattle.words.proofs.Laws.{loaded_bytewise}
 use Rattle.reorder.specs.Result.{Result, done, and_then, map_result}
 use Rattle.codec.specs.Forms.{mmx_file, Form, mmreg1·mmreg2/mem64+suffix, memory_size}
@@ -80,11 +78,11 @@ module _ (registers integers m : List ℕ) (next : ℕ) where
   abbrev Makes : Work → (ℕ → State → Result State) → Type 0
   Makes work after = (floor : ℕ) (marks : Marks) (at : ℕ) → performed floor work at (state marks) ≡ concluded at (done next) (state marks) (after floor (state marks))
 
-  answer_makes : (answer : Answer) (place : ℕ)
+  answer_makes : (answer : Option ℕ) (place : ℕ)
       → Makes (answered_work (described MOVE).number answer place next) (λ floor s. and_then (supported answer) (λ left. put_at s floor (mmx_register place) left))
   unfolding performed operate
-  answer_makes (Leaves value) place floor marks at = refl
-  answer_makes Fails place floor marks at = refl
+  answer_makes (Some value) place floor marks at = refl
+  answer_makes None place floor marks at = refl
 
   sibling_makes : (x : Sibling) (place v : ℕ) → let old = get_or registers place 0 in
       Makes (sibling_work x old v place next) (λ floor s. and_then (supported (leave x old v)) (λ left. put_at s floor (mmx_register place) left))
