@@ -1,7 +1,9 @@
 -- Rules for the functions: what the tests of a place tell, and the bytes that are got and put there one by one, turn by turn.
-use Rattle.std.specs.Prelude.{◌≡◌, Bool, true, false, not, List, ℕ, suc, ◌+◌, ◌*◌, ◌-◌, ◌/◌, ◌%◌, ◌<◌, ◌≤◌, ◌^◌, leb, length, get_or, set}
+use Rattle.std.specs.Prelude.{[], ◌∷◌, refl, ◌++◌, take, drop, ◌≡◌, Bool, true, false, not, List, ℕ, suc, ◌+◌, ◌*◌, ◌-◌, ◌/◌, ◌%◌, ◌<◌, ◌≤◌, ◌^◌, leb, length, get_or, set}
 use Rattle.basis.specs.Names.{sets}
-use Rattle.basis.proofs.Names.{sym, ◌∙◌, dec_le, add-zero, sub_self, sub-zero, pow-le-pow_right, arith, rules, le-leb, lt-leb, not-true, not-false}
+use borrow.Rule.Slice.PartMut.{put_mid}
+use Rattle.words.proofs.Numbers.{length-bytes}
+use Rattle.basis.proofs.Names.{append_assoc, ap₂, length-take, length-drop, drop_of_length-le, append-nil, drop-drop, sets-eq, sym, ◌∙◌, dec_le, add-zero, sub_self, sub-zero, pow-le-pow_right, arith, rules, le-leb, lt-leb, not-true, not-false}
 use mir.Syntax.{w8}
 use mir.Val.{Fits}
 use Rattle.words.specs.Number.{number, bytes}
@@ -78,19 +80,38 @@ module _ (buffer : List ℕ) (at size remaining value : ℕ) (passed : value ≡
     more_fits i = omega (arith, room, byte i)
 
 -- the bytes from the first one up: what is left of them, put, gives the end
-pub all-remaining : (buffer : List ℕ) (at size value : ℕ) → sets buffer (at + 0) (bytes (size - 0) value) ≡ sets buffer at (bytes size value)
-all-remaining buffer at size value = rw (add-zero, sub-zero)
-
-module _ (buffer end : List ℕ) (at size i rest : ℕ) (remaining : sets buffer (at + i) (bytes (size - i) rest) ≡ end) where
-  pub one_put : i < size → sets (set buffer (at + i) (rest % 256)) (at + (i + 1)) (bytes (size - (i + 1)) (rest / 256)) ≡ end
+module _ (buffer end : List ℕ) (place size i rest : ℕ) (remaining : sets buffer place (bytes (size - i) rest) ≡ end) where
+  pub one_put : i < size → sets (set buffer place (rest % 256)) (place + 1) (bytes (size - (i + 1)) (rest / 256)) ≡ end
   one_put more =
-      let next : at + (i + 1) ≡ suc (at + i) = omega arith in
+      let next : place + 1 ≡ suc place = omega arith in
       let fewer : size - i ≡ suc (size - (i + 1)) = omega arith in
       rw next (rw fewer at remaining)
 
   pub none_remaining : size ≤ i → buffer ≡ end
   none_remaining all = let none : size - i ≡ 0 = omega arith in rw none at remaining
 
+none_taken : (l : List ℕ) → take 0 l ≡ []
+none_taken [] = refl
+none_taken (b ∷ l) = refl
+
+-- a list filled with as many numbers as it has, and a part of a buffer with the bytes
+filled_whole : (b part : List ℕ) → length b ≡ length part → sets part 0 b ≡ b
+filled_whole b part same =
+    sets-eq b part 0 (omega arith)
+    ∙ ap₂ (λ (x y : List ℕ). x ++ b ++ y) (none_taken part) (drop_of_length-le part {i = 0 + length b} (omega arith)) ∙ append-nil b
+
+pub part_put : (buffer : List ℕ) (at size value : ℕ) (part : List ℕ) → at + size ≤ length buffer
+    → part ≡ sets (take (at + size - at) (drop at buffer)) 0 (bytes size value)
+    → put_mid at (at + size - at) buffer part ≡ sets buffer at (bytes size value)
+part_put buffer at size value part fit is =
+    let all : length (bytes size value) ≡ size = length-bytes size value in
+    let few : at + size - at ≡ size = omega arith in
+    let there : length (take size (drop at buffer)) ≡ size = simp (length-take, length-drop) (omega arith) in
+    let filled = filled_whole (bytes size value) (take size (drop at buffer)) (omega arith) in
+    let put = sets-eq (bytes size value) buffer at (omega arith) in
+    let whole = rw few at is in
+    rw (few, whole, filled, put, all, drop-drop, append_assoc)
+
 pub ruleset placing = (rules, too_large, too_long, no_sum, not_loaded, not_stored, few_there, lies_there, is_loaded, is_stored)
 
-pub ruleset passing = (rules, none_passed, one_passed, all_passed, moved_fits, more_fits, all-remaining, one_put, none_remaining)
+pub ruleset passing = (rules, none_passed, one_passed, all_passed, moved_fits, more_fits)

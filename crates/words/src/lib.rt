@@ -18,16 +18,11 @@ const DOUBLEWORD: usize = 4;
 const BASE: u64 = 256;
 
 // Whether a number of this size may be asked for at this place of a buffer with so many bytes.
+#[tactic(auto, using(crate::proofs::Placing::placing))]
 fn lies_inside(room: usize, at: usize, size: usize) -> bool
     ensures { result ≡ inside room at size }
 {
-    if QUADWORD < size {
-        return false;
-    }
-    if room < size {
-        return false;
-    }
-    at <= room - size
+    size <= QUADWORD && size <= room && at <= room - size
 }
 
 // Any size, from the most significant byte down.
@@ -50,44 +45,38 @@ fn store_bytes(buffer: &mut [u8], at: usize, size: usize, value: u64)
     ensures { buffer.new ≡ sets buffer.old at (bytes size value) }
 {
     let mut rest = value;
-    let mut i: usize = 0;
-    while i < size {
-        buffer[at + i] = (rest % BASE) as u8;
-        rest = rest / BASE;
-        i += 1;
+    for byte in &mut buffer[at..at + size] {
+        *byte = (rest % BASE) as u8;
+        rest /= BASE;
     }
 }
 
 // The number of the `size` bytes at a place. The loop over a constant size compiles to one load.
+#[tactic(auto, using(crate::proofs::Placing::placing))]
 pub fn load(buffer: &[u8], at: usize, size: usize) -> u64
     ensures { result ≡ loaded buffer.now at size }
 {
     if !lies_inside(buffer.len(), at, size) {
         return 0;
     }
-    if size == QUADWORD {
-        return load_bytes(buffer, at, QUADWORD);
+    match size {
+        QUADWORD => load_bytes(buffer, at, QUADWORD),
+        DOUBLEWORD => load_bytes(buffer, at, DOUBLEWORD),
+        _ => load_bytes(buffer, at, size),
     }
-    if size == DOUBLEWORD {
-        return load_bytes(buffer, at, DOUBLEWORD);
-    }
-    load_bytes(buffer, at, size)
 }
 
 // The `size` lowest bytes of a number go to a place. The loop over a constant size compiles to one store.
+#[tactic(auto, using(crate::proofs::Placing::placing))]
 pub fn store(buffer: &mut [u8], at: usize, size: usize, value: u64)
     ensures { buffer.new ≡ stored buffer.old at size value }
 {
     if !lies_inside(buffer.len(), at, size) {
         return;
     }
-    if size == QUADWORD {
-        store_bytes(buffer, at, QUADWORD, value);
-        return;
+    match size {
+        QUADWORD => store_bytes(buffer, at, QUADWORD, value),
+        DOUBLEWORD => store_bytes(buffer, at, DOUBLEWORD, value),
+        _ => store_bytes(buffer, at, size, value),
     }
-    if size == DOUBLEWORD {
-        store_bytes(buffer, at, DOUBLEWORD, value);
-        return;
-    }
-    store_bytes(buffer, at, size, value);
 }
