@@ -51,33 +51,16 @@ module _ (buffer : List ℕ) (at size : ℕ) (r : Bool) (tested : r ≡ inside (
     pub is_stored : (value : ℕ) (after : List ℕ) → after ≡ sets buffer at (bytes k value) → after ≡ stored buffer at size value
     is_stored value after put = rw (stored_bytewise, ← tested, not-false r passed, same) put
 
--- the bytes from the last one down: the value is the number of those that are passed
-pub none_passed : (buffer : List ℕ) (at size : ℕ) → 0 ≡ number (gets (size - size) buffer at)
-none_passed buffer at size = rw sub_self
+-- the bytes from the last one down to the one at i: the value is their number
+module _ (buffer : List ℕ) (end i value : ℕ) (passed : value ≡ number (gets (end - i) buffer i)) where
+  pub one_fits : ((j : ℕ) → Fits w8 (get_or buffer j 0)) → end - i ≤ 7 → 256 * value + 255 < 2 ^ 64
+  one_fits byte few =
+      let most : 256 ^ (end - i) ≤ 256 ^ 7 = pow-le-pow_right (omega arith) few in
+      omega (arith, gets_below (end - i) buffer i (λ j. (byte j).fits))
 
-module _ (buffer : List ℕ) (at size remaining value : ℕ) (passed : value ≡ number (gets (size - remaining) buffer (at + remaining))) where
-  pub one_passed : 0 < remaining → remaining ≤ size → get_or buffer (at + (remaining - 1)) 0 + 256 * value ≡ number (gets (size - (remaining - 1)) buffer (at + (remaining - 1)))
-  one_passed some within =
-      let more : size - (remaining - 1) ≡ suc (size - remaining) = omega arith in
-      let next : at + remaining ≡ at + (remaining - 1) + 1 = omega arith in
-      rw (more, passed, next)
-
-  pub all_passed : remaining ≤ 0 → value ≡ number (gets size buffer at)
-  all_passed none =
-      let whole : size - remaining ≡ size = omega arith in let start : at + remaining ≡ at = omega arith in rw (whole, start) at passed
-
-  module _ (byte : (i : ℕ) → Fits w8 (get_or buffer i 0)) (few : size ≤ 8) (some : 0 < remaining) (within : remaining ≤ size) where
-    room : 256 * value + 255 < 2 ^ 64
-    room =
-        let fewer : size - remaining ≤ 7 = omega arith in
-        let most : 256 ^ (size - remaining) ≤ 256 ^ 7 = pow-le-pow_right (omega arith) fewer in
-        omega (arith, gets_below (size - remaining) buffer (at + remaining) (λ j. (byte j).fits))
-
-    pub moved_fits : 256 * value < 2 ^ 64
-    moved_fits = omega (arith, room)
-
-    pub more_fits : (i : ℕ) → get_or buffer i 0 + 256 * value < 2 ^ 64
-    more_fits i = omega (arith, room, byte i)
+pub all_passed : (buffer : List ℕ) (at size i value : ℕ) → value ≡ number (gets (at + size - i) buffer i) → i ≡ at → value ≡ number (gets size buffer at)
+all_passed buffer at size i value passed first =
+    let whole : at + size - i ≡ size = omega arith in rw (whole, first) at passed
 
 -- the bytes from the first one up: what is left of them, put, gives the end
 module _ (buffer end : List ℕ) (place size i rest : ℕ) (remaining : sets buffer place (bytes (size - i) rest) ≡ end) where
@@ -113,5 +96,3 @@ part_put buffer at size value part fit is =
     rw (few, whole, filled, put, all, drop-drop, append_assoc)
 
 pub ruleset placing = (rules, too_large, too_long, no_sum, not_loaded, not_stored, few_there, lies_there, is_loaded, is_stored)
-
-pub ruleset passing = (rules, none_passed, one_passed, all_passed, moved_fits, more_fits)

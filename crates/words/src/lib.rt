@@ -31,10 +31,8 @@ fn load_bytes(buffer: &[u8], at: usize, size: usize) -> u64
     ensures { result ≡ number (gets size buffer.now at) }
 {
     let mut value: u64 = 0;
-    let mut remaining = size;
-    while 0 < remaining {
-        remaining -= 1;
-        value = buffer[at + remaining] as u64 + BASE * value;
+    for i in (at..at + size).rev() {
+        value = u64::from(buffer[i]) + BASE * value;
     }
     value
 }
