@@ -1,3 +1,2 @@
--- What the page program prints, and the words of its private contracts.
+-- What the page program prints.
 pub mod Prints
-pub mod inner

@@ -6,36 +6,9 @@ ghost use Rattle.std.specs.Prelude.{IsTrue};
 ghost use Rattle.std.specs.Io.KnownBytes.{Appends};
 ghost use Rattle.player.specs.Page.{page_text};
 ghost use Rattle.page.specs.Prints.{PrintsPage};
-ghost use Rattle.page.specs.inner.Inputs.{ReadWithin, WasRead};
 
 use std::io::{Read, Write};
 use std::process::ExitCode;
-
-// One byte more than the longest page file has, so that a longer one is seen as such.
-const FILE_BYTES: usize = pagefile::LONGEST_FILE + 1;
-
-// What standard input gave: a whole file of so many bytes, or a read that failed.
-#[derive(Drop)]
-enum Input {
-    Whole(usize),
-    Failed,
-}
-
-// Reads until the input ends or the buffer is full. A pipe gives its bytes in parts, so that a short read is no end: an answer of 0 is.
-fn read<R: Read>(input: &mut R, file: &mut [u8]) -> Input
-    ensures within { ReadWithin result file.new }
-    ensures whole { WasRead result (R.remaining input.old) (R.remaining input.new) file.new }
-{
-    let mut n: usize = 0;
-    while n < file.len() {
-        match input.read(&mut file[n..]) {
-            Ok(0) => return Input::Whole(n),
-            Ok(more) => n += more,
-            Err(_) => return Input::Failed,
-        }
-    }
-    Input::Whole(n)
-}
 
 // Prints what is printed of a page file, and answers whether all of it was written.
 fn print<W: Write>(output: &mut W, file: &[u8]) -> bool
@@ -55,15 +28,15 @@ fn tell(errors: &mut impl Write, line: &[u8]) {
 fn play_page<R: Read, W: Write, E: Write>(input: &mut R, output: &mut W, errors: &mut E) -> bool
     ensures { IsTrue result → PrintsPage (R.remaining input.old) (W.contents output.old) (W.contents output.new) }
 {
-    let mut file = [0u8; FILE_BYTES];
-    match read(input, &mut file) {
-        Input::Whole(n) => {
+    let mut file = [0u8; pagefile::FILE_BYTES];
+    match inputs::read_all(input, &mut file) {
+        Ok(n) => {
             if print(output, &file[..n]) {
                 return true;
             }
             tell(errors, b"page: the text could not be written whole\n");
         }
-        Input::Failed => tell(errors, b"page: the file could not be read to its end\n"),
+        Err(_) => tell(errors, b"page: the file could not be read to its end\n"),
     }
     false
 }

@@ -33,8 +33,10 @@ const MARKS_BYTES: usize = 1;
 // The marks have bits 0 to 4, so they are below this.
 const MARKS_LIMIT: u8 = 32;
 
-// The bytes of the longest file.
+// The bytes of the longest file, and of a buffer for one: a byte more, so that a longer file is seen as such.
 pub const LONGEST_FILE: usize = 65536;
+
+pub const FILE_BYTES: usize = LONGEST_FILE + 1;
 
 // Whether a field of this tag may have these contents.
 #[tactic(auto, unfolding(crate::specs::Fields::may_hold))]

@@ -7,9 +7,6 @@ use std::io;
 use std::io::Read;
 use std::rt::Files;
 
-// One byte more than the longest page file has, so that a longer one is seen as such.
-const FILE_BYTES: usize = pagefile::LONGEST_FILE + 1;
-
 // Room for any path.
 const NAME_BYTES: usize = 4096;
 
@@ -25,7 +22,7 @@ fn write_heading(rt: &impl Print, name: &[u8]) -> io::Result<()> {
 
 // The text of a page, from an open file.
 fn write_text(rt: &impl Print, input: &mut impl Read) -> io::Result<()> {
-    let mut file = [0u8; FILE_BYTES];
+    let mut file = [0u8; pagefile::FILE_BYTES];
     let n = inputs::read_full(input, &mut file);
     let mut text = printout::buffer();
     let written = player::play(&file[..n], &mut text);

@@ -8,9 +8,6 @@ use std::io::Write;
 // How often the page is played.
 const ROUNDS: u32 = 20_000;
 
-// One byte more than the longest page file has, so that a longer one is seen as such.
-const FILE_BYTES: usize = pagefile::LONGEST_FILE + 1;
-
 // All rounds but the last.
 fn play_before(file: &[u8], text: &mut [u8]) {
     for _ in 1..ROUNDS {
@@ -26,7 +23,7 @@ fn print(output: &mut impl Write, file: &[u8]) -> io::Result<()> {
 }
 
 fn main(rt: HostRuntime) -> io::Result<()> {
-    let mut file = [0u8; FILE_BYTES];
+    let mut file = [0u8; pagefile::FILE_BYTES];
     let n = inputs::read_full(&mut rt.stdin(), &mut file);
     print(&mut rt.stdout(), &file[..n])
 }

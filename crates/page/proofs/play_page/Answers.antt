@@ -6,5 +6,6 @@ use Rattle.page.proofs.play_page.Goals as goal
 
 pub returns-then-print : goal.returns-then-print
 returns-then-print g c =
-    let room : length c.read.new.file ≡ 65537 = search rules in
-    λ t. prints_page _ _ _ _ c.read.new.file c.in-Whole.n room c.in-Whole.ensures.within c.in-Whole.ensures.whole (c.if-print.ensures t)
+    let room : length c.read_all.new.buffer ≡ 65537 = search rules in
+    let read = c.in-Ok.ensures in
+    λ t. prints_page _ _ _ _ c.read_all.new.buffer c.in-Ok.n room read.within (read.bytes, read.whole) (c.if-print.ensures t)

@@ -1,7 +1,7 @@
--- `read_full` ends, since each turn that goes on has put a byte more; what was put is what the input had next.
+-- `read_on` ends, since each turn that goes on has put a byte more; what was put is what the input had next.
 use Rattle.std.specs.Prelude.{◌≡◌, ◌≤◌, ◌-◌, length, take}
 use Rattle.std.specs.Io.KnownBytes.{Consumes}
-use Rattle.inputs.proofs.read_full.Given as goal
+use Rattle.inputs.proofs.read_on.Given as goal
 
 abbrev pub invariant-loop-done : goal.invariant-loop-done
 invariant-loop-done g l =

@@ -1,7 +1,7 @@
 -- A turn leaves what was read so far at the buffer's start; a read that gives nothing takes nothing.
 use Rattle.basis.proofs.Names.{rules}
 use Rattle.inputs.proofs.Readings.{read_more}
-use Rattle.inputs.proofs.read_full.Goals as goal
+use Rattle.inputs.proofs.read_on.Goals as goal
 
 pub loop-done-preserved : goal.loop-done-preserved
 loop-done-preserved g c =

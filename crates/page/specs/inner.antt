@@ -1,2 +1,0 @@
--- The words of private contracts: nobody has to believe them.
-pub mod Inputs
