@@ -1,6 +1,8 @@
 -- What is printed of a page, piece by piece: each text is the definition's in the case that the code has reached.
-use Rattle.std.specs.Prelude.{◌≡◌, refl, List, ℕ, ◌≤◌, ◌<◌, length}
+use Rattle.std.specs.Prelude.{Err, ◌≡◌, refl, List, ℕ, ◌≤◌, ◌<◌, length}
 use Rattle.basis.proofs.Names.{sym, rules, lt-ltb, le-ltb}
+use Rattle.refusals.specs.declared.Refusal.{Refusal}
+use Rattle.refusals.specs.Numbers.{number_of}
 use Rattle.manual.specs.State.{State, longest_memory}
 use Rattle.manual.specs.Runs.{run_of}
 use Rattle.codec.specs.Refusals.{code_too_long}
@@ -13,7 +15,7 @@ use Rattle.machine.specs.declared.Ran.{Ran}
 use Rattle.machine.specs.State.{state_of}
 use Rattle.machine.specs.Starts.{start_of}
 use Rattle.machine.specs.Runs.{paper_of_end, paper_of_run}
-use Rattle.pagefile.specs.Parsing.{code_of, memory_of, mmx_of, integers_of, well_formed_with, refused_with, page_of}
+use Rattle.pagefile.specs.Parsing.{code_of, memory_of, mmx_of, integers_of, well_formed_with, page_of, paper_of_page}
 use Rattle.printout.specs.Lines.{report_text, refusal_text}
 use Rattle.printout.specs.Printing.{Printed, printed}
 use Rattle.player.specs.Page.{budget, state_text, answer_text, run_in, well_formed_text, page_text}
@@ -50,8 +52,8 @@ module _ (file memory : List ℕ) (marks : ℕ) (m : memory ≡ memory_of file) 
     page_run short' = rw (← read, ← m, ← c, le-ltb _ _ short, le-ltb _ _ short')
 
 -- a malformed one
-pub refused_text : (file : List ℕ) (number : ℕ) → refused_with number ≡ page_of file → page_text file ≡ refusal_text number
+pub malformed : (file : List ℕ) (refusal : Refusal) → paper_of_page (Err refusal) ≡ page_of file → page_text file ≡ refusal_text (number_of refusal)
 unfolding page_text
-refused_text file number read = rw (← read)
+malformed file refusal read = rw (← read)
 
-pub ruleset admitting = (rules, long_memory, long_code, page_run, refused_text)
+pub ruleset admitting = (rules, long_memory, long_code, page_run, malformed)
