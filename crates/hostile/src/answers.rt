@@ -1,90 +1,56 @@
 // Which answer the first line of a text gives.
-ghost use Rattle.std.specs.Prelude.{◌<◌, ◌≤◌};
+ghost use Rattle.std.specs.Prelude.{◌<◌};
 
-// The answers: a refusal is its own number.
-pub(crate) const DONE: usize = 0;
+use std::fmt;
 
-const LAST_REFUSAL: usize = 22;
+// The numbers of refusals are 1 to this.
+pub(crate) const LAST_REFUSAL: u8 = 22;
 
-pub(crate) const SPENT: usize = 23;
+// A refusal by its number.
+#[derive(Clone, Copy, PartialEq, Eq, Debug)]
+pub(crate) enum Answer {
+    Done,
+    Refused(u8),
+    Spent,
+}
 
-pub(crate) const NONE: usize = 24;
-
-pub(crate) const ANSWERS: usize = 25;
-
-// Where the number of a refusal stands.
-const NUMBER_AT: usize = 8;
-
-// How many digits there are: no digit is this number.
-const BASE: usize = 10;
-
-// Whether a text starts with a word.
-fn starts_with(text: &[u8], word: &[u8]) -> bool {
-    if text.len() < word.len() {
-        return false;
-    }
-    for i in 0..word.len() {
-        if text[i] != word[i] {
-            return false;
+impl fmt::Display for Answer {
+    fn fmt<W: fmt::Write>(&self, f: &mut fmt::Formatter<W>) -> fmt::Result {
+        match self {
+            Answer::Done => write!(f, "done"),
+            Answer::Refused(number) => write!(f, "refused {number}"),
+            Answer::Spent => write!(f, "spent"),
         }
     }
-    true
 }
 
-// The digit at a place of a text, or the base where none stands there.
-fn digit_at(text: &[u8], at: usize) -> usize
-    ensures { result ≤ 10 }
-{
-    if text.len() <= at {
-        return BASE;
-    }
-    let character = text[at];
-    if character < b'0' {
-        return BASE;
-    }
-    if b'9' < character {
-        return BASE;
-    }
-    (character - b'0') as usize
-}
+// How many rows of counts there are: a refusal's is its own number, and the last is that of texts which give none of these.
+pub(crate) const ROWS: usize = 25;
 
-// A refusal's number as an answer.
-fn listed(number: usize) -> usize
+pub(crate) fn row_of(answer: Option<Answer>) -> usize
     ensures { result < 25 }
 {
-    if number == DONE {
-        return NONE;
+    match answer {
+        Some(Answer::Done) => 0,
+        Some(Answer::Refused(number @ 1..=LAST_REFUSAL)) => number as usize,
+        Some(Answer::Spent) => 23,
+        _ => 24,
     }
-    if LAST_REFUSAL < number {
-        return NONE;
-    }
-    number
 }
 
-// The answer of a text that starts with `refused`: its number has one digit or two.
-fn refusal_of(text: &[u8]) -> usize
-    ensures { result < 25 }
-{
-    let first = digit_at(text, NUMBER_AT);
-    let second = digit_at(text, NUMBER_AT + 1);
-    if second == BASE {
-        return listed(first);
+// The answer of a text: a refusal's number has one digit or two.
+pub(crate) fn answer_of(text: &[u8]) -> Option<Answer> {
+    if text.starts_with(b"done ") {
+        return Some(Answer::Done);
     }
-    listed(BASE * first + second)
-}
-
-// The answer of a text.
-pub(crate) fn answer_of(text: &[u8]) -> usize
-    ensures { result < 25 }
-{
-    if starts_with(text, b"done ") {
-        return DONE;
+    if text.starts_with(b"spent ") {
+        return Some(Answer::Spent);
     }
-    if starts_with(text, b"spent ") {
-        return SPENT;
+    match text.strip_prefix(b"refused ")? {
+        [tens @ b'0'..=b'9', ones @ b'0'..=b'9', ..] => {
+            Some(Answer::Refused(10 * (tens - b'0') + (ones - b'0')))
+        }
+        [ones @ b'0'..=b'9', ..] => Some(Answer::Refused(ones - b'0')),
+        _ => None,
     }
-    if starts_with(text, b"refused ") {
-        return refusal_of(text);
-    }
-    NONE
 }

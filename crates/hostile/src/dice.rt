@@ -1,42 +1,54 @@
 // A fixed generator: every run rolls the same numbers.
 ghost use Rattle.std.specs.Prelude.{◌<◌};
 
-// What it starts from.
-pub(crate) const SEED: u64 = 0x0123_4567_89ab_cdef;
-
 // How many bytes there are, and one in how many cases is rare.
-const BYTES: u64 = 256;
+const BYTES: usize = 256;
 
-const RARITY: u64 = 32;
+const RARITY: usize = 32;
 
-// The generator's number after x.
-fn next(x: u64) -> u64 {
-    let y = x ^ (x << 13);
-    let z = y ^ (y >> 7);
-    z ^ (z << 17)
-}
+#[derive(Drop)]
+pub(crate) struct Dice(u64);
 
-// A number below a number of sides.
-pub(crate) fn roll(dice: &mut u64, sides: u64) -> u64
-    requires { 0 < sides }
-    ensures { result < sides }
-{
-    let number = next(*dice);
-    *dice = number;
-    number % sides
-}
+impl Dice {
+    // What it starts from.
+    pub(crate) fn new() -> Dice {
+        Dice(0x0123_4567_89ab_cdef)
+    }
 
-// Any byte.
-pub(crate) fn any_byte(dice: &mut u64) -> u8 {
-    roll(dice, BYTES) as u8
-}
+    // A number below a number of sides.
+    pub(crate) fn roll(&mut self, sides: usize) -> usize
+        requires { 0 < sides }
+        ensures { result < sides }
+    {
+        self.0 ^= self.0 << 13;
+        self.0 ^= self.0 >> 7;
+        self.0 ^= self.0 << 17;
+        self.0 as usize % sides
+    }
 
-// One case in two.
-pub(crate) fn is_half(dice: &mut u64) -> bool {
-    roll(dice, 2) == 0
-}
+    // Any byte.
+    pub(crate) fn byte(&mut self) -> u8 {
+        self.roll(BYTES) as u8
+    }
 
-// One case in a few dozen.
-pub(crate) fn is_rare(dice: &mut u64) -> bool {
-    roll(dice, RARITY) == 0
+    // One case in two.
+    pub(crate) fn is_half(&mut self) -> bool {
+        self.roll(2) == 0
+    }
+
+    // One case in a few dozen.
+    pub(crate) fn is_rare(&mut self) -> bool {
+        self.roll(RARITY) == 0
+    }
+
+    // Mostly a likely byte, and now and then any.
+    pub(crate) fn mostly<F: FnOnce(&mut Dice) -> u8>(&mut self, likely: F) -> u8
+        requires { F.IsAlwaysCallable likely }
+    {
+        if self.is_rare() {
+            self.byte()
+        } else {
+            likely(self)
+        }
+    }
 }

@@ -2,19 +2,16 @@
 // no page's, and 20 and 21 need a floor. The last line counts what must never be: a text that is none of these, or a byte changed behind the text.
 #![tactic(auto)]
 
-ghost use Rattle.std.specs.Prelude.{◌<◌};
-
-use answers::{ANSWERS, DONE, NONE, SPENT, answer_of};
-use files::{ROOM, Sort};
+use answers::{Answer, LAST_REFUSAL, ROWS, answer_of, row_of};
+use draft::Draft;
 use std::io;
 use std::io::Write;
-use std::num::wrapping_add_u64;
 
 mod answers;
 mod code;
 mod dice;
+mod draft;
 mod files;
-mod put;
 
 // How many files of each sort.
 const PLAIN: u64 = 3000;
@@ -23,101 +20,77 @@ const HEADED: u64 = 3000;
 
 const LIKELY: u64 = 4000;
 
+// One byte more than a file may have.
+const ROOM: usize = pagefile::LONGEST_FILE + 1;
+
 // What stands in the buffer before a call.
 const FILL: u8 = 0xcc;
 
-// Whether a buffer is as it was from a place on.
-fn is_untouched(text: &[u8], from: usize) -> bool {
-    let mut at = from;
-    while at < text.len() {
-        if text[at] != FILL {
-            return false;
-        }
-        at += 1;
-    }
-    true
+// How many files of a sort gave each answer, by rows.
+type Counts = [u64; ROWS];
+
+// The same for all three sorts.
+#[derive(Drop)]
+struct Table {
+    plain: Counts,
+    headed: Counts,
+    likely: Counts,
 }
 
-// The answer that a file gets.
-fn answer_to(file: &[u8]) -> usize
-    ensures { result < 25 }
-{
-    let mut text = [FILL; printout::LONGEST_REPORT];
-    let written = player::play(file, &mut text);
-    if is_untouched(&text, written) {
-        answer_of(&text[0..written])
+// The answer that a file gets, where the buffer stays as it was behind the text.
+fn answer_to(file: &[u8]) -> Option<Answer> {
+    let mut room = [FILL; printout::LONGEST_REPORT];
+    let written = player::play(file, &mut room);
+    let (text, behind) = room.split_at(written);
+    if behind.iter().all(|byte| *byte == FILL) {
+        answer_of(text)
     } else {
-        NONE
+        None
     }
 }
 
-// Plays one file more, and counts its answer.
-fn play_next(sort: Sort, file: &mut [u8], dice: &mut u64, counts: &mut [u64; ANSWERS]) {
-    let end = files::make(file, dice, sort);
-    let answer = answer_to(&file[0..end]);
-    counts[answer] = wrapping_add_u64(counts[answer], 1);
-}
-
-// How many files of a sort get each answer.
-fn tally(sort: Sort, count: u64) -> [u64; ANSWERS] {
-    let mut file = [0u8; ROOM];
-    let mut dice = dice::SEED;
-    let mut counts = [0u64; ANSWERS];
+// Plays so many files, each made in this way, and counts the answers.
+fn tally<F: Fn(&mut Draft)>(make: F, count: u64) -> Counts
+    requires { F.IsAlwaysCallable make }
+{
+    let mut draft = Draft::new();
+    let mut counts: Counts = [0; ROWS];
     for _ in 0..count {
-        play_next(sort, &mut file, &mut dice, &mut counts);
+        make(&mut draft);
+        let row = row_of(answer_to(draft.file()));
+        counts[row] = counts[row].wrapping_add(1);
     }
     counts
 }
 
-fn write(out: &mut impl Write, text: &str) -> io::Result<()> {
-    write!(out, "{text}")
-}
-
-fn write_count(out: &mut impl Write, name: &str, count: u64) -> io::Result<()> {
-    write!(out, "{name}{count}")
-}
-
-fn write_name(out: &mut impl Write, answer: usize) -> io::Result<()> {
-    match answer {
-        DONE => write(out, "done"),
-        SPENT => write(out, "spent"),
-        NONE => write(out, "none of these"),
-        _ => write_count(out, "refused ", answer as u64),
-    }
-}
-
 // A line: the answer's name, and how many files of each sort gave it.
-fn write_line(
-    out: &mut impl Write,
-    answer: usize,
-    plain: u64,
-    headed: u64,
-    likely: u64,
-) -> io::Result<()> {
-    write_name(out, answer)?;
-    write_count(out, ": plain ", plain)?;
-    write_count(out, ", headed ", headed)?;
-    write_count(out, ", likely ", likely)?;
-    write(out, "\n")
+fn write_line(out: &mut impl Write, answer: Option<Answer>, table: &Table) -> io::Result<()> {
+    match answer {
+        Some(answer) => write!(out, "{answer}")?,
+        None => write!(out, "none of these")?,
+    }
+    let row = row_of(answer);
+    let plain = table.plain[row];
+    let headed = table.headed[row];
+    let likely = table.likely[row];
+    write!(out, ": plain {plain}, headed {headed}, likely {likely}\n")
 }
 
 // A line for each answer.
-fn write_table(
-    out: &mut impl Write,
-    plain: &[u64; ANSWERS],
-    headed: &[u64; ANSWERS],
-    likely: &[u64; ANSWERS],
-) -> io::Result<()> {
-    for answer in 0..ANSWERS {
-        write_line(out, answer, plain[answer], headed[answer], likely[answer])?;
+fn write_table(out: &mut impl Write, table: &Table) -> io::Result<()> {
+    write_line(out, Some(Answer::Done), table)?;
+    for number in 1..=LAST_REFUSAL {
+        write_line(out, Some(Answer::Refused(number)), table)?;
     }
-    Ok(())
+    write_line(out, Some(Answer::Spent), table)?;
+    write_line(out, None, table)
 }
 
 fn main(rt: HostRuntime) -> io::Result<()> {
-    let plain = tally(Sort::Plain, PLAIN);
-    let headed = tally(Sort::Headed, HEADED);
-    let likely = tally(Sort::Likely, LIKELY);
-    let mut out = io::writer(&rt);
-    write_table(&mut out, &plain, &headed, &likely)
+    let table = Table {
+        plain: tally(Draft::plain, PLAIN),
+        headed: tally(Draft::headed, HEADED),
+        likely: tally(Draft::likely, LIKELY),
+    };
+    write_table(&mut io::writer(&rt), &table)
 }
