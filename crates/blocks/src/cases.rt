@@ -1,9 +1,8 @@
 // Cases: what each is given, and what is printed of it.
 use crate::texts::{
-    decimal, show_counters, show_end, show_meeting, show_memory, show_refusal, show_step,
-    show_tags, show_tracing, text,
+    show_counters, show_meeting, show_memory, show_run, show_step, show_tags, show_tracing,
 };
-use machine::{Machine, Tracing};
+use machine::Machine;
 use std::io;
 use std::io::Write;
 
@@ -18,7 +17,8 @@ pub(crate) enum Left {
     Counters,
 }
 
-// What is done with a case: a meeting is that of the instructions at 0 and at the case's position.
+// What is done with a case: a meeting is that of the instructions at 0 and at the case's position. No closure stands for it, since a form also says
+// how long the usual memory is.
 #[derive(Clone, Copy)]
 pub(crate) enum Form {
     Run(Left),
@@ -39,66 +39,10 @@ pub(crate) struct Given {
 fn show_left(out: &mut impl Write, left: Left, machine: Machine, memory: &[u8]) -> io::Result<()> {
     match left {
         Left::Nothing => Ok(()),
-        Left::Tags => show_tags(out, machine.marks.valid),
+        Left::Tags => show_tags(out, machine),
         Left::Picture => show_memory(out, machine, memory),
         Left::Counters => show_counters(out, machine),
     }
-}
-
-fn run(
-    out: &mut impl Write,
-    left: Left,
-    given: Given,
-    code: &[u8],
-    memory: &mut [u8],
-) -> io::Result<()> {
-    let machine = given.machine;
-    let ran = machine.run(code, memory, given.floor, given.budget);
-    let end = ran.end;
-    let last = ran.machine;
-    show_end(out, end)?;
-    decimal(out, ran.count as u64)?;
-    text(out, " at ")?;
-    decimal(out, ran.at as u64)?;
-    show_left(out, left, last, memory)
-}
-
-fn step(
-    out: &mut impl Write,
-    left: Left,
-    given: Given,
-    code: &[u8],
-    memory: &mut [u8],
-) -> io::Result<()> {
-    let machine = given.machine;
-    let stepped = machine.step(code, given.at, memory, given.floor);
-    let answer = stepped.answer;
-    let last = stepped.machine;
-    show_step(out, answer, stepped.at)?;
-    show_left(out, left, last, memory)
-}
-
-fn footprint(out: &mut impl Write, given: Given, code: &[u8], memory: &[u8]) -> io::Result<()> {
-    let machine = given.machine;
-    show_tracing(out, machine.footprint(code, given.at, memory))
-}
-
-// Whether two footprints meet, or the refusal of the first that there is not.
-fn show_meeting_of(out: &mut impl Write, one: Tracing, other: Tracing) -> io::Result<()> {
-    match one {
-        Tracing::Traced(first) => match other {
-            Tracing::Traced(second) => show_meeting(out, machine::meets(first, second)),
-            Tracing::Refused(refusal) => show_refusal(out, refusal),
-        },
-        Tracing::Refused(refusal) => show_refusal(out, refusal),
-    }
-}
-
-fn meeting(out: &mut impl Write, given: Given, code: &[u8], memory: &[u8]) -> io::Result<()> {
-    let machine = given.machine;
-    let one = machine.footprint(code, 0, memory);
-    let other = machine.footprint(code, given.at, memory);
-    show_meeting_of(out, one, other)
 }
 
 pub(crate) fn play(
@@ -108,10 +52,23 @@ pub(crate) fn play(
     code: &[u8],
     memory: &mut [u8],
 ) -> io::Result<()> {
+    let machine = given.machine;
     match form {
-        Form::Run(left) => run(out, left, given, code, memory),
-        Form::Step(left) => step(out, left, given, code, memory),
-        Form::Footprint => footprint(out, given, code, memory),
-        Form::Meeting => meeting(out, given, code, memory),
+        Form::Run(left) => {
+            let ran = machine.run(code, memory, given.floor, given.budget);
+            show_run(out, ran)?;
+            show_left(out, left, ran.machine, memory)
+        }
+        Form::Step(left) => {
+            let stepped = machine.step(code, given.at, memory, given.floor);
+            show_step(out, stepped)?;
+            show_left(out, left, stepped.machine, memory)
+        }
+        Form::Footprint => show_tracing(out, machine.footprint(code, given.at, memory)),
+        Form::Meeting => {
+            let one = machine.footprint(code, 0, memory);
+            let other = machine.footprint(code, given.at, memory);
+            show_meeting(out, one, other)
+        }
     }
 }

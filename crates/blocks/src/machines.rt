@@ -13,7 +13,7 @@ const VALID: u8 = 8;
 
 const ZERO: u8 = 16;
 
-fn marks_of(bits: u8) -> Marks {
+pub(crate) fn marks_of(bits: u8) -> Marks {
     Marks {
         valid: bits & VALID != 0,
         zero: bits & ZERO != 0,
@@ -23,11 +23,11 @@ fn marks_of(bits: u8) -> Marks {
     }
 }
 
-// A machine with numbers in MM0 and EAX and with marks; MM1 is 2, ECX 128, ESP and EBP are 4, EDI 16.
-pub(crate) fn machine_with(first: u64, eax: u32, bits: u8) -> Machine {
+// No mark is set; MM0 is 255, MM1 2, EAX 0, ECX 128, ESP and EBP are 4, EDI 16.
+pub(crate) fn usual_machine() -> Machine {
     Machine {
-        mmx: [first, 2, 3, 4, 5, 6, 7, 8],
-        integers: [eax, 128, 0, 0, 4, 4, 0, 16],
-        marks: marks_of(bits),
+        mmx: [0xff, 2, 3, 4, 5, 6, 7, 8],
+        integers: [0, 128, 0, 0, 4, 4, 0, 16],
+        marks: marks_of(0),
     }
 }

@@ -28,15 +28,15 @@ fn standard_input(input: &mut impl Read, out: &mut impl Write) -> io::Result<()>
     let mut space = [0u8; ROOM];
     let size = inputs::read_full(input, &mut space);
     let mut memory = [0u8; MEMORY];
-    texts::text(out, "standard input: ")?;
+    write!(out, "standard input: ")?;
     cases::play(
         out,
         Form::Run(Left::Picture),
         tables::usual_given(),
-        &space[0..size],
+        &space[..size],
         &mut memory,
     )?;
-    texts::text(out, "\n")
+    write!(out, "\n")
 }
 
 fn main(rt: HostRuntime) -> io::Result<()> {

@@ -8,12 +8,13 @@ fn steps(out: &mut impl Write) -> io::Result<()> {
     play_all(
         out,
         Form::Step(Left::Nothing),
-        b"\
-         the second EMMS of two: 0f77/0f77\n\
-         a step at the code's end: 0f77/\n\
-         MOVQ [1], mm0 in a step: 0f7f0501000000\n\
-         MASKMOVQ mm0, mm1 at 16 in a step: 0ff7c1\n\
-         MOVQ [esp], mm0 in a step: 0f7f0424\n",
+        &[
+            "the second EMMS of two: 0f77/0f77",
+            "a step at the code's end: 0f77/",
+            "MOVQ [1], mm0 in a step: 0f7f0501000000",
+            "MASKMOVQ mm0, mm1 at 16 in a step: 0ff7c1",
+            "MOVQ [esp], mm0 in a step: 0f7f0424",
+        ],
     )
 }
 
@@ -21,13 +22,14 @@ fn stopped_steps(out: &mut impl Write) -> io::Result<()> {
     play_all(
         out,
         Form::Step(Left::Tags),
-        b"\
-         PREFETCHNTA [0] with all marks, tags empty: 0f1800 M7\n\
-         PREFETCHNTA [0] with all marks, tags valid: 0f1800 Mf\n\
-         SFENCE with all marks, tags empty: 0faef8 M7\n\
-         SFENCE with all marks, tags valid: 0faef8 Mf\n\
-         EMMS with all marks, tags valid: 0f77 Mf\n\
-         MOVNTQ [0], mm0 with all marks, tags empty: 0fe700 M7\n",
+        &[
+            "PREFETCHNTA [0] with all marks, tags empty: 0f1800 M7",
+            "PREFETCHNTA [0] with all marks, tags valid: 0f1800 Mf",
+            "SFENCE with all marks, tags empty: 0faef8 M7",
+            "SFENCE with all marks, tags valid: 0faef8 Mf",
+            "EMMS with all marks, tags valid: 0f77 Mf",
+            "MOVNTQ [0], mm0 with all marks, tags empty: 0fe700 M7",
+        ],
     )
 }
 
