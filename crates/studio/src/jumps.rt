@@ -16,11 +16,9 @@ pub(crate) fn reaches_jump(code: &[u8]) -> bool
         return false;
     }
     let table = codec::table();
-    let mut at: usize = 0;
-    while at < code.len() {
-        let Ok(found) = codec::read_from(&table, code, at) else {
-            return false;
-        };
+    let mut at = 0;
+    // each position is known when the instruction before it is read
+    while let Ok(found) = codec::read_from(&table, code, at) {
         if found.instruction.first == JUMP_IF_NOT_ZERO {
             return true;
         }

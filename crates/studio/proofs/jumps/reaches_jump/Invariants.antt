@@ -5,8 +5,8 @@ use Rattle.manual.specs.Jumps.{is_jump}
 use Rattle.manual.specs.Runs.{read}
 use Rattle.studio.proofs.jumps.reaches_jump.Given as goal
 
-abbrev pub invariant-loop-at : goal.invariant-loop-at
-invariant-loop-at l = reaches read is_jump (drop l.at l.code) ≡ reaches read is_jump l.code
+abbrev pub invariant-loop-found : goal.invariant-loop-found
+invariant-loop-found l = reaches read is_jump (drop l.at l.code) ≡ reaches read is_jump l.code
 
-abbrev pub decreases-loop-at : goal.decreases-loop-at
-decreases-loop-at l = length l.code - l.at
+abbrev pub decreases-loop-found : goal.decreases-loop-found
+decreases-loop-found l = length l.code - l.at

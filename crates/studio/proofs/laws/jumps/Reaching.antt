@@ -1,7 +1,7 @@
 -- Whether reading reaches a jump, as the code's loop finds it: reading from the position that the loop has come to reaches one just where reading
 -- from 0 does.
 use Rattle.std.specs.Prelude.{◌≡◌, true, false, Bool, ◌||◌, List, ℕ, ◌+◌, ◌-◌, ◌≤◌, ◌<◌, length, drop, Ok, Err}
-use Rattle.basis.proofs.Names.{sym, ap, ◌∙◌, arith, rules, eq-eqb, ne_eqb, lt-ltb, le-ltb, length-drop, drop-drop, drop_of_length-le}
+use Rattle.basis.proofs.Names.{sym, ap, ◌∙◌, arith, rules, eq-eqb, ne_eqb, lt-ltb, le-ltb, length-drop, drop-drop}
 use Rattle.reorder.specs.Result.{done}
 use Rattle.reorder.specs.Run.{Fetched}
 use Rattle.reorder.specs.Block.{reaches}
@@ -27,10 +27,6 @@ module _ (code : List ℕ) where
     -- so the answer from there is the answer
     answered : (t : Bool) → reaches read is_jump (drop at code) ≡ t → t ≡ reaches_jump code
     answered t e = simp (le-ltb longest_code (length code) fits) (sym e ∙ same)
-
-    -- at the end there is none
-    pub ends_without : length code ≤ at → false ≡ reaches_jump code
-    ends_without h = answered false (ap (reaches read is_jump) (drop_of_length-le code h))
 
     reading : read_at code at ≡ read_part (drop at code)
     unfolding read_at
@@ -71,4 +67,4 @@ module _ (code : List ℕ) where
       pub passed_by : (x.instruction.first ≡ jump_if_not_zero → ⊥) → reaches read is_jump (drop x.next code) ≡ reaches read is_jump code
       passed_by other = sym (simp (ne_eqb x.instruction.first jump_if_not_zero other) at first) ∙ same
 
-pub ruleset reaching = (rules, not_read, ends_without, unread_without, nearer, jump_found, passed_by)
+pub ruleset reaching = (rules, not_read, unread_without, nearer, jump_found, passed_by)
