@@ -16,6 +16,7 @@ fn lowest_register(mask: u8) -> Option<u8>
 }
 
 // The least byte of two ranges, in a memory of so many bytes: where the one that starts later starts, if that is in the other.
+#[tactic(auto, using(crate::proofs::laws::meetings::Bytes::ranging))]
 fn lowest_byte(one: Places, other: Places, bytes: usize) -> Option<usize>
     ensures { option_map byte result ≡ find (is_shared one other) (bytes_from 0 bytes) }
 {
@@ -43,6 +44,7 @@ fn lowest_meeting(one: Places, other: Places, manner: Manner, bytes: usize) -> O
 }
 
 // The first of two meetings, if there are any.
+#[tactic(auto, using(crate::proofs::laws::meetings::Ordering::lesser_first))]
 fn first_of(one: Option<Meeting>, other: Option<Meeting>) -> Option<Meeting>
     ensures { paper_of_meeting result ≡ first_of (paper_of_meeting one) (paper_of_meeting other) }
 {
@@ -53,6 +55,7 @@ fn first_of(one: Option<Meeting>, other: Option<Meeting>) -> Option<Meeting>
 }
 
 // EMMS is named before any place; else the lowest place where two instructions meet, and there the first manner.
+#[tactic(auto, using(crate::proofs::laws::meetings::Naming::naming))]
 fn meeting(first: Footprint, second: Footprint, bytes: usize) -> Option<Meeting>
     ensures { paper_of_meeting result ≡ meeting_in bytes first second }
 {

@@ -38,6 +38,7 @@ fn watch(machine: Machine, code: &[u8], memory: &mut [u8], low: u32, high: u32) 
 
 // Of a block without a jump, by the earlier and the later number: the run's answer where it is not done, then the refusal of the numbers, then the
 // meeting.
+#[tactic(auto, using(crate::proofs::laws::whys::Asking::asking))]
 fn ask(machine: Machine, code: &[u8], memory: &mut [u8], low: u32, high: u32) -> Asked
     requires straight { has_no_jump code.now ≡ true }
     requires ordered { low ≤ high }
@@ -61,6 +62,7 @@ fn ask(machine: Machine, code: &[u8], memory: &mut [u8], low: u32, high: u32) ->
 
 // Why two instructions of a block, by their numbers, cannot change places, in a run from a machine and a memory: the lowest place where they meet,
 // and how. The numbers are counted from 0 and may come in either order. The memory is left as the run leaves it.
+#[tactic(auto, using(crate::proofs::laws::whys::Asking::choosing))]
 pub fn why_not(machine: Machine, code: &[u8], memory: &mut [u8], first: u32, second: u32) -> Asked
     ensures { paper_of_asked result memory.new ≡ why_not code.now first second (state_of machine memory.old) }
 {

@@ -1,7 +1,7 @@
 -- The first of the meetings by manner, each at the lowest place where the two meet so, is the meeting that the definition finds place by place.
 use Rattle.std.specs.Prelude.{◌≡◌, refl, Bool, true, false, cond, List, [], ◌∷◌, find, Option, Some, None, option_map, ℕ, ltb}
 use Rattle.basis.specs.Names.{Memᴰ as In}
-use Rattle.basis.proofs.Names.{sym, ap, ap₂, ◌∙◌, Memᴰ-head as here, Memᴰ-tail as later}
+use Rattle.basis.proofs.Names.{rules, sym, ap, ap₂, ◌∙◌, Memᴰ-head as here, Memᴰ-tail as later}
 use Rattle.manual.specs.Places.{Place}
 use Rattle.manual.specs.Kinds.{kinds_meet}
 use Rattle.machine.specs.declared.Places.{Places}
@@ -115,3 +115,5 @@ module _ (f g : Footprint) where
   pub meeting_emms : (n : ℕ) → kinds_meet f.kind g.kind ≡ true → emms ≡ meeting_in n f g
   unfolding meeting_in
   meeting_emms n e = sym (simp e)
+
+pub ruleset naming = (rules, meeting_named, meeting_emms)
