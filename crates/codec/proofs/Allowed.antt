@@ -12,6 +12,8 @@ use Rattle.codec.specs.Answers.{paper_of_reading, paper_of_writing}
 use Rattle.codec.specs.Finding.{paper_of_found}
 use Rattle.codec.specs.declared.Instruction.{Instruction}
 use Rattle.codec.specs.declared.Found.{Found}
+use Rattle.codec.proofs.fields.allowed.Reads as allowed_reads
+use Rattle.codec.proofs.fields.allowed.Kinds as allowed_kinds
 use Rattle.codec.proofs.fields.is_suffix.Reads as is_suffix_reads
 use Rattle.codec.proofs.fields.is_suffix.Kinds as is_suffix_kinds
 use Rattle.codec.proofs.table.Reads as table_reads
@@ -44,6 +46,11 @@ written_one (Ok m) (Ok n) a b e = (cc, cc)
 written_one (Ok m) (Err s) a b e = (cc, cc)
 written_one (Err r) (Ok n) a b e = (cc, cc)
 written_one (Err r) (Err s) a b e = (refusal_one r s (cc), cc)
+
+pub allowed_one : (κs : Lfts 0) (a : Dens κs allowed_kinds.ps) (r₁ r₂ : (res_t allowed_kinds.r κs).Denot)
+    (s₁ s₂ : AtExit (ended_of 0 allowed_kinds.ps allowed_kinds.r) κs)
+    → allowed_reads.Post κs a r₁ s₁ → allowed_reads.Post κs a r₂ s₂ → r₁ ≡ r₂
+allowed_one κs a r₁ r₂ s₁ s₂ p q = p ∙ sym q
 
 pub is_suffix_one : (κs : Lfts 0) (a : Dens κs is_suffix_kinds.ps) (r₁ r₂ : (res_t is_suffix_kinds.r κs).Denot)
     (s₁ s₂ : AtExit (ended_of 0 is_suffix_kinds.ps is_suffix_kinds.r) κs)

@@ -54,7 +54,7 @@ pub(crate) fn has_operand(form: u32) -> bool
 
 // Whether a form may have a ModRM byte of these fields.
 #[tactic(auto, using(crate::proofs::FormNumbers::allowed_rules))]
-pub(crate) fn allowed(form: u32, mode: u8, reg: u8, rm: u8) -> bool
+pub fn allowed(form: u32, mode: u8, reg: u8, rm: u8) -> bool
     ensures { result ≡ allows (form_of form) mode reg rm }
 {
     match form {

@@ -1,7 +1,8 @@
 // The address of an operand in memory: base, index times scale, and displacement, in sums that wrap at 2^32.
-ghost use Rattle.std.specs.Prelude.{◌≢◌, ◌≡◌, ◌*◌, ◌^◌, ◌%◌, ◌<◌};
+ghost use Rattle.std.specs.Prelude.{◌≢◌, ◌≡◌, ◌*◌, ◌^◌, ◌%◌, ◌<◌, IfSome};
 ghost use Rattle.codec.specs.inner.Fields.{Registers};
 ghost use Rattle.manual.specs.Addresses.{signed_byte, displacement_of, base_of, index_of, address_of, register_part, address};
+ghost use Rattle.machine.specs.inner.Named.{named};
 
 use codec::Operand;
 use codec::modes::{BYTE_DISPLACEMENT, NO_BASE, NO_DISPLACEMENT, NO_INDEX, SIB};
@@ -11,15 +12,18 @@ const SIGN: u32 = 0x80;
 
 const SIGN_EXTENSION: u32 = 0xffffff00;
 
+// Not `works::extended`, which takes a byte: a displacement and an immediate have 32 bits, and nothing bounds them here.
+#[tactic(auto, using(crate::proofs::laws::addresses::Addressing::signed_low, crate::proofs::laws::addresses::Addressing::signed_high))]
 pub(crate) fn signed(byte: u32) -> u32
     ensures { result ≡ signed_byte byte % 2 ^ 32 }
 {
     if byte < SIGN {
         return byte;
     }
-    std::num::wrapping_add_u32(byte, SIGN_EXTENSION)
+    byte.wrapping_add(SIGN_EXTENSION)
 }
 
+#[tactic(auto, using(crate::proofs::laws::addresses::Addressing::extended_none, crate::proofs::laws::addresses::Addressing::extended_byte))]
 fn extended(mode: u8, displacement: u32) -> u32
     ensures { result ≡ displacement_of mode displacement % 2 ^ 32 }
 {
@@ -29,53 +33,60 @@ fn extended(mode: u8, displacement: u32) -> u32
     signed(displacement)
 }
 
-fn base_in(integers: &[u32; 8], mode: u8, register: u8) -> u32
-    requires { register < 8 }
-    ensures { result ≡ register_part integers.now (base_of mode register) }
+// The base register: at mod 00, 101 is none.
+#[tactic(auto, using(crate::proofs::laws::addresses::Addressing::basing))]
+pub(crate) fn base(mode: u8, register: u8) -> Option<u8>
+    ensures is { named result ≡ base_of mode register }
+    ensures same { IfSome result (λ k. k ≡ register) }
 {
-    if register != NO_BASE {
-        return integers[register as usize];
+    if mode == NO_DISPLACEMENT && register == NO_BASE {
+        return None;
     }
-    if mode == NO_DISPLACEMENT {
-        return 0;
-    }
-    integers[register as usize]
+    Some(register)
 }
 
-pub(crate) fn index_in(integers: &[u32; 8], register: u8) -> u32
-    requires { register < 8 }
-    ensures { result ≡ register_part integers.now (index_of register) }
+// The index register: 100 is none.
+#[tactic(auto, using(crate::proofs::laws::addresses::Addressing::index_is, crate::proofs::laws::addresses::Addressing::no_index))]
+pub(crate) fn index(register: u8) -> Option<u8>
+    ensures is { named result ≡ index_of register }
+    ensures same { IfSome result (λ k. k ≡ register) }
 {
     if register == NO_INDEX {
-        return 0;
+        return None;
     }
-    integers[register as usize]
+    Some(register)
 }
 
-// Doubled once for each unit of the scale.
+// What a register adds.
+pub(crate) fn part(integers: &[u32; 8], register: Option<u8>) -> u32
+    requires { IfSome register (λ k. k < 8) }
+    ensures { result ≡ register_part integers.now (named register) }
+{
+    match register {
+        Some(k) => integers[usize::from(k)],
+        None => 0,
+    }
+}
+
+#[tactic(auto, using(crate::proofs::laws::addresses::Addressing::shifted_by))]
 pub(crate) fn scaled(index: u32, scale: u8) -> u32
     ensures { result ≡ index * 2 ^ scale % 2 ^ 32 }
 {
-    let mut doubled = index;
-    let mut remaining = scale;
-    while 0 < remaining {
-        doubled = std::num::wrapping_add_u32(doubled, doubled);
-        remaining -= 1;
-    }
-    doubled
+    index.checked_shl(u32::from(scale)).unwrap_or(0)
 }
 
+#[tactic(auto, using(crate::proofs::laws::addresses::Addressing::sum_plain, crate::proofs::laws::addresses::Addressing::sum_sib))]
 pub(crate) fn address_of(integers: &[u32; 8], operand: Operand) -> u32
     requires { Registers operand × (operand.mode ≢ 3) }
     ensures { result ≡ address integers.now (address_of operand) }
 {
     let displacement = extended(operand.mode, operand.displacement);
     if operand.rm != SIB {
-        let start = base_in(integers, operand.mode, operand.rm);
-        return std::num::wrapping_add_u32(start, displacement);
+        let start = part(integers, base(operand.mode, operand.rm));
+        return start.wrapping_add(displacement);
     }
-    let start = base_in(integers, operand.mode, operand.base);
-    let index = index_in(integers, operand.index);
-    let from = std::num::wrapping_add_u32(start, scaled(index, operand.scale));
-    std::num::wrapping_add_u32(from, displacement)
+    let start = part(integers, base(operand.mode, operand.base));
+    let index = part(integers, index(operand.index));
+    let from = start.wrapping_add(scaled(index, operand.scale));
+    from.wrapping_add(displacement)
 }

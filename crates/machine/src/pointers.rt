@@ -34,7 +34,7 @@ fn past_long(start: u32, code: &[u8], at: usize) -> Option<Pointer>
     }
     let displacement = words::load(code, at, LONG_BYTES) as u32;
     Some(Pointer {
-        address: std::num::wrapping_add_u32(start, displacement),
+        address: start.wrapping_add(displacement),
         next: at + LONG_BYTES,
     })
 }
@@ -50,13 +50,13 @@ fn past_displacement(start: u32, code: &[u8], at: usize, modrm: u8) -> Option<Po
     }
     let byte = *code.get(at)?;
     Some(Pointer {
-        address: std::num::wrapping_add_u32(start, works::extended(byte)),
+        address: start.wrapping_add(works::extended(byte)),
         next: at + 1,
     })
 }
 
 // The index, with the base, which at mod 00 is none if it is 101, and the displacement added to it.
-#[tactic(auto, using(crate::proofs::laws::pointers::Pointing::base_displaced, crate::proofs::laws::pointers::Pointing::base_bare, crate::proofs::laws::pointers::Pointing::base_absent))]
+#[tactic(auto, using(crate::proofs::laws::pointers::Pointing::basing))]
 fn past_base(
     integers: &[u32; 8],
     base: u8,
@@ -68,7 +68,7 @@ fn past_base(
     requires { (at ≤ length code.now) × ((modrm < 192) × (base < 8)) }
     ensures { IfSome result (λ p. Displaced p (register_part integers.now (base_of (modrm / 64) base) + index) (modrm / 64) (displacement_size (modrm / 64) 4 base) code.now at) }
 {
-    let start = std::num::wrapping_add_u32(integers[base as usize], index);
+    let start = integers[usize::from(base)].wrapping_add(index);
     if DISPLACED <= modrm {
         return past_displacement(start, code, at, modrm);
     }
@@ -86,8 +86,8 @@ fn past_base(
 fn index_of(integers: &[u32; 8], sib: u8) -> u32
     ensures { result ≡ register_part integers.now (index_of (sib / 8 % 8)) * 2 ^ (sib / 64) % 2 ^ 32 }
 {
-    let index = addresses::index_in(integers, sib / MIDDLE % VALUES);
-    addresses::scaled(index, sib / UPPER)
+    let index = addresses::index(sib / MIDDLE % VALUES);
+    addresses::scaled(addresses::part(integers, index), sib / UPPER)
 }
 
 // What follows a ModRM byte whose mod is not 11.

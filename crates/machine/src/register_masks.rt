@@ -1,14 +1,17 @@
 // Register sets as masks: one register, and those that an address is made of.
-ghost use Rattle.std.specs.Prelude.{◌≡◌, ◌^◌, ◌<◌};
+ghost use Rattle.std.specs.Prelude.{◌≡◌, ◌^◌, ◌<◌, IfSome};
 ghost use Rattle.codec.specs.inner.Fields.{Registers};
-ghost use Rattle.manual.specs.Addresses.{base_of, index_of, registers_of};
+ghost use Rattle.manual.specs.Addresses.{registers_of};
 ghost use Rattle.machine.specs.Footprints.{mask};
+ghost use Rattle.machine.specs.inner.Named.{named};
 ghost use Rattle.machine.specs.inner.Reaches.{behind};
 
+use crate::addresses::{base, index};
 use codec::Operand;
-use codec::modes::{NO_BASE, NO_DISPLACEMENT, NO_INDEX, REGISTER, SIB};
+use codec::modes::{REGISTER, SIB};
 
 // The mask of one register.
+#[tactic(auto, using(crate::proofs::laws::footprints::Registers::one_bit))]
 pub(crate) fn bit(register: u8) -> u8
     requires { register < 8 }
     ensures { result ≡ 2 ^ register }
@@ -16,32 +19,20 @@ pub(crate) fn bit(register: u8) -> u8
     1 << register
 }
 
-// The base: 101 is none at mod 00.
-fn base_mask(mode: u8, register: u8) -> u8
-    requires { register < 8 }
-    ensures { result ≡ mask (registers_of (base_of mode register)) }
+// The mask of a register that may be named.
+#[tactic(auto, using(crate::proofs::laws::footprints::Registers::mask_named, crate::proofs::laws::footprints::Registers::mask_none))]
+fn mask(register: Option<u8>) -> u8
+    requires { IfSome register (λ k. k < 8) }
+    ensures { result ≡ mask (registers_of (named register)) }
 {
-    if register != NO_BASE {
-        return bit(register);
+    match register {
+        Some(k) => bit(k),
+        None => 0,
     }
-    if mode == NO_DISPLACEMENT {
-        return 0;
-    }
-    bit(register)
-}
-
-// The index: 100 is none.
-fn index_mask(register: u8) -> u8
-    requires { register < 8 }
-    ensures { result ≡ mask (registers_of (index_of register)) }
-{
-    if register == NO_INDEX {
-        return 0;
-    }
-    bit(register)
 }
 
 // The mask of the registers that an operand's address is made of: none at mod 11.
+#[tactic(auto, using(crate::proofs::laws::footprints::Registers::addressing))]
 pub(crate) fn address_mask(operand: Operand) -> u8
     requires { Registers operand }
     ensures { result ≡ behind operand }
@@ -50,7 +41,7 @@ pub(crate) fn address_mask(operand: Operand) -> u8
         return 0;
     }
     if operand.rm != SIB {
-        return base_mask(operand.mode, operand.rm);
+        return mask(base(operand.mode, operand.rm));
     }
-    base_mask(operand.mode, operand.base) | index_mask(operand.index)
+    mask(base(operand.mode, operand.base)) | mask(index(operand.index))
 }

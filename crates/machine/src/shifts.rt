@@ -14,32 +14,26 @@ const DOUBLEWORD_BITS: u8 = 32;
 const QUADWORD_BITS: u8 = 64;
 
 // Of a word, doubleword and quadword operation, the one for the width.
+#[tactic(auto, using(crate::proofs::laws::gathering::Shifting::shifting))]
 fn of_width(lane: u8, word: u8, doubleword: u8, quadword: u8) -> u8
     ensures { operation_of result ≡ of_width lane (operation_of word) (operation_of doubleword) (operation_of quadword) }
 {
-    if lane == WORD_BITS {
-        return word;
+    match lane {
+        WORD_BITS => word,
+        DOUBLEWORD_BITS => doubleword,
+        QUADWORD_BITS => quadword,
+        _ => KEEP,
     }
-    if lane == DOUBLEWORD_BITS {
-        return doubleword;
-    }
-    if lane == QUADWORD_BITS {
-        return quadword;
-    }
-    KEEP
 }
 
+#[tactic(auto, using(crate::proofs::laws::gathering::Shifting::shifting))]
 pub(crate) fn shift_number(lane: u8, digit: u8) -> u8
     ensures { operation_of result ≡ shift_of lane digit }
 {
-    if digit == RIGHT {
-        return of_width(lane, PSRLW, PSRLD, PSRLQ);
+    match digit {
+        RIGHT => of_width(lane, PSRLW, PSRLD, PSRLQ),
+        RIGHT_SIGNED => of_width(lane, PSRAW, PSRAD, KEEP),
+        LEFT => of_width(lane, PSLLW, PSLLD, PSLLQ),
+        _ => KEEP,
     }
-    if digit == RIGHT_SIGNED {
-        return of_width(lane, PSRAW, PSRAD, KEEP);
-    }
-    if digit == LEFT {
-        return of_width(lane, PSLLW, PSLLD, PSLLQ);
-    }
-    KEEP
 }

@@ -1,9 +1,10 @@
 // The machine that a page starts from.
-ghost use Rattle.std.specs.Prelude.{◌≡◌, ◌<◌};
-ghost use Rattle.machine.specs.Starts.{nth, eight, start_of};
+ghost use Rattle.std.specs.Prelude.{◌≡◌, ◌^◌, ◌≤◌, ◌<◌};
+ghost use Rattle.machine.specs.Starts.{nth, start_of};
 
 use crate::Machine;
 use manual::Marks;
+use std::array;
 
 // The bytes of an MMX register and of an integer register.
 const QUADWORD_BYTES: usize = 8;
@@ -21,60 +22,24 @@ const VALID: u8 = 8;
 
 const ZERO: u8 = 16;
 
-fn quadword(field: &[u8], k: usize) -> u64
-    requires { k < 8 }
-    ensures { result ≡ nth field.now 8 k }
+// The k-th number of so many bytes in a field.
+fn nth(field: &[u8], size: usize, k: usize) -> u64
+    requires { (size ≤ 8) × (k < 8) }
+    ensures is { result ≡ nth field.now size k }
+    ensures below { result < 256 ^ size }
 {
-    words::load(field, QUADWORD_BYTES * k, QUADWORD_BYTES)
-}
-
-fn doubleword(field: &[u8], k: usize) -> u32
-    requires { k < 8 }
-    ensures { result ≡ nth field.now 4 k }
-{
-    words::load(field, DOUBLEWORD_BYTES * k, DOUBLEWORD_BYTES) as u32
-}
-
-fn mmx_of(field: &[u8]) -> [u64; 8]
-    ensures { result ≡ eight field.now 8 }
-{
-    [
-        quadword(field, 0),
-        quadword(field, 1),
-        quadword(field, 2),
-        quadword(field, 3),
-        quadword(field, 4),
-        quadword(field, 5),
-        quadword(field, 6),
-        quadword(field, 7),
-    ]
-}
-
-fn integers_of(field: &[u8]) -> [u32; 8]
-    ensures { result ≡ eight field.now 4 }
-{
-    [
-        doubleword(field, 0),
-        doubleword(field, 1),
-        doubleword(field, 2),
-        doubleword(field, 3),
-        doubleword(field, 4),
-        doubleword(field, 5),
-        doubleword(field, 6),
-        doubleword(field, 7),
-    ]
+    words::load(field, size * k, size)
 }
 
 impl Machine {
     // Registers from the contents of a page's fields, marks from its marks byte; an empty field is all zero.
+    #[tactic(auto, unfolding(crate::specs::Starts::start_of))]
     pub fn from_page(mmx: &[u8], integers: &[u8], marks: u8) -> Machine
         ensures { result ≡ start_of mmx.now integers.now marks }
     {
-        let registers = mmx_of(mmx);
-        let others = integers_of(integers);
         Machine {
-            mmx: registers,
-            integers: others,
+            mmx: array::from_fn(|k| nth(mmx, QUADWORD_BYTES, k)),
+            integers: array::from_fn(|k| nth(integers, DOUBLEWORD_BYTES, k) as u32),
             marks: Marks {
                 valid: marks / VALID % 2 == 1,
                 zero: marks / ZERO % 2 == 1,

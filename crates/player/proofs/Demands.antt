@@ -5,7 +5,7 @@
 pub use Rattle.lanes.proofs.Allowed.{operate_one, extract_one, insert_one, shuffle_one, top_bits_one, blend_one}
 pub use Rattle.singles.proofs.Allowed.{maximum_one, greater_one, to_words_one, from_words_one, swapped_one, of_one as singles_of_one}
 pub use Rattle.words.proofs.Allowed.{load_one, store_one}
-pub use Rattle.codec.proofs.Allowed.{is_suffix_one, table_one, read_from_one, read_one, write_one}
+pub use Rattle.codec.proofs.Allowed.{allowed_one, is_suffix_one, table_one, read_from_one, read_one, write_one}
 pub use Rattle.works.proofs.Allowed.{work_of_one, refused_one, barred_one, table_one as open_table_one, is_inside_one, extended_one, miss_of_one, target_of_one, of_suffix_one, suffixed_one, perform_one}
 pub use Rattle.machine.proofs.Allowed.{from_page_one, step_one, run_one, footprint_one, meets_one}
 pub use Rattle.pagefile.proofs.Allowed.{read_one as page_one, code_one, memory_one, mmx_registers_one, integer_registers_one}

@@ -1,5 +1,5 @@
 -- What the code knows of an instruction that it has read and gathered at once.
-use Rattle.std.specs.Prelude.{◌≡◌, true, cond, List, [], ℕ, ◌+◌, ◌/◌, ◌%◌, ◌^◌, ◌≤◌, ◌<◌, leb, length, get_or, drop, Result, Ok}
+use Rattle.std.specs.Prelude.{◌≡◌, true, List, ℕ, ◌+◌, ◌/◌, ◌^◌, ◌<◌, leb, length, get_or, drop, Result, Ok}
 use Rattle.reorder.specs.Result.{done}
 use Rattle.codec.specs.Opcodes.{escape}
 use Rattle.words.specs.Buffer.{loaded}
@@ -12,10 +12,7 @@ use Rattle.codec.specs.declared.Found.{Found}
 use Rattle.works.specs.declared.Work.{Work}
 use Rattle.works.specs.Works.{to_operate, work_of}
 use Rattle.works.specs.Siblings.{suffixed_work}
-use Rattle.machine.specs.declared.operands.Spot.{Spot}
-use Rattle.machine.specs.declared.operands.Spot.TheVariants.{Bytes}
-use Rattle.machine.specs.inner.Ways.{is_store}
-use Rattle.machine.specs.inner.Works.{effect_in, Listed, put_work, take_work, Does}
+use Rattle.machine.specs.inner.Works.{effect_in, Listed, Does}
 
 -- a work does what was found, where that has an entry of our table
 pub record Quick (work : Work) (registers integers memory : List ℕ) (reading : Result Found ℕ) : Type 0 where
@@ -29,25 +26,14 @@ pub record Quick (work : Work) (registers integers memory : List ℕ) (reading :
 abbrev pub after_opcode : ℕ → ℕ → List ℕ → ℕ → Result Found ℕ
 after_opcode entry second code at = found entry (reads (form_reader (form_of (entry / 2 ^ 24)) escape second) at (drop at code))
 
--- a work does what is found there, whatever the second byte that has this entry; with any memory; and with any registers
+-- a work does what is found there, whatever the second byte that has this entry
 pub record QuickAfter (work : Work) (registers integers memory : List ℕ) (entry : ℕ) (code : List ℕ) (at : ℕ) : Type 0 where
   pub quick : (second : ℕ) → Quick work registers integers memory (after_opcode entry second code at)
-
-pub record QuickAnywhere (work : Work) (registers integers : List ℕ) (entry : ℕ) (code : List ℕ) (at : ℕ) : Type 0 where
-  pub quick : (memory : List ℕ) → QuickAfter work registers integers memory entry code at
-
-pub record QuickAnyhow (work : Work) (entry : ℕ) (code : List ℕ) (at : ℕ) : Type 0 where
-  pub quick : (registers integers : List ℕ) → QuickAnywhere work registers integers entry code at
 
 -- a work with so many bytes at an address, which all lie in memory
 pub record Within (work made : Work) (address size room : ℕ) : Type 0 where
   pub is : work ≡ made
   pub inside : leb (address + size) room ≡ true
-
--- the work of two operands, one an MMX register at a place, the other at a spot
-abbrev pub work_at : List ℕ → List ℕ → List ℕ → ℕ → ℕ → Spot → ℕ → Work
-work_at registers integers memory entry place spot next =
-    cond (is_store (entry / 2 ^ 24)) (put_work spot (get_or registers place 0) next) (take_work registers integers memory (entry % 256) place spot next)
 
 -- the work of a suffix, which stands at a position of the code, with what the register at a place held and the operand's number
 pub record SuffixAt (work : Work) (old place value : ℕ) (code : List ℕ) (at : ℕ) : Type 0 where
@@ -59,10 +45,3 @@ pub record SuffixAt (work : Work) (old place value : ℕ) (code : List ℕ) (at 
 pub record SuffixInMemory (work : Work) (old place : ℕ) (memory : List ℕ) (address : ℕ) (code : List ℕ) (at : ℕ) : Type 0 where
   pub suffixed : SuffixAt work old place (loaded memory address 8) code at
   pub inside : leb (address + 8) (length memory) ≡ true
-
--- the work of two operands, where the other is in memory at an address, with all its bytes
-pub record AtAddress (work : Work) (registers memory : List ℕ) (entry place address next : ℕ) : Type 0 where
-  pub two : 15 ≤ entry / 2 ^ 24
-  pub plain : entry / 2 ^ 24 ≡ 16 → ⊥
-  pub made : Listed entry → work ≡ work_at registers [] memory entry place (Bytes address (entry / 2 ^ 16 % 256)) next
-  pub inside : Listed entry → leb (address + entry / 2 ^ 16 % 256) (length memory) ≡ true

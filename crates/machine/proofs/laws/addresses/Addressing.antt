@@ -1,7 +1,9 @@
--- The address that the code sums up: each sum wraps at 2^32, and so the whole does once. Rules for the functions of addresses.
-use Rattle.std.specs.Prelude.{◌≡◌, List, ℕ, suc, ◌+◌, ◌*◌, ◌-◌, ◌^◌, ◌%◌, ◌≤◌, ◌<◌, eqb, get_or}
-use Rattle.basis.specs.Names.{Option, none, some}
-use Rattle.basis.proofs.Names.{ap, ap₂, ◌∙◌, and-false, mul-one, add-zero, mul-add, add-mod, mod-add-mod, add-mod-mod, two-pow-succ, arith, rules, eq-eqb, ne_eqb, le-leb, lt-leb}
+-- The address that the code sums up: each sum wraps at 2^32, and so the whole does once.
+use Rattle.std.specs.Prelude.{◌≡◌, List, ℕ, ◌+◌, ◌*◌, ◌-◌, ◌^◌, ◌%◌, ◌≤◌, ◌<◌, eqb, None, Some}
+use Rattle.std.specs.Prelude as std
+use Rattle.std.specs.Option.{SomeIff, unwrap_or}
+use Rattle.basis.specs.Names.{none, some}
+use Rattle.basis.proofs.Names.{sym, ap, ap₂, ◌∙◌, and-false, add-zero, mod-add-mod, add-mod-mod, mul-mod_left, mul_assoc, pow-add, arith, eq-eqb, ne_eqb, le-leb, lt-leb}
 use Rattle.codec.specs.Operands.{has_sib}
 use Rattle.codec.specs.declared.Operand.{Operand}
 use Rattle.manual.specs.Addresses.{signed_byte, displacement_of, base_of, index_of, address_of, register_part, address}
@@ -46,26 +48,17 @@ module _ (register : ℕ) where
   unfolding index_of
   no_index four = simp (eq-eqb register 4 four)
 
--- what a register adds
-module _ (integers : List ℕ) (maybe : Option ℕ) where
-  pub part_named : (register : ℕ) → maybe ≡ some register → get_or integers register 0 ≡ register_part integers maybe
-  part_named register named = rw named
-
-  pub part_none : maybe ≡ none → 0 ≡ register_part integers maybe
-  part_none unnamed = rw unnamed
-
--- the scale: what has been doubled as often as is not left of it
-pub scale_starts : (x scale : ℕ) → x < 2 ^ 32 → x ≡ x * 2 ^ (scale - scale) % 2 ^ 32
-scale_starts x scale h = let nothing : scale - scale ≡ 0 = omega arith in rw nothing (rw mul-one (omega arith))
-
-pub scale_doubles : (x scale remaining d r : ℕ) → d ≡ x * 2 ^ (scale - remaining) % 2 ^ 32 → r ≡ (d + d) % 2 ^ 32 → 0 < remaining → remaining ≤ scale
-    → r ≡ x * 2 ^ (scale - (remaining - 1)) % 2 ^ 32
-scale_doubles x scale remaining d r e f more h =
-    let once_more : scale - (remaining - 1) ≡ suc (scale - remaining) = omega arith in
-    rw (once_more, two-pow-succ (scale - remaining), mul-add, add-mod, ← e) f
-
-pub scale_ends : (x scale remaining d : ℕ) → d ≡ x * 2 ^ (scale - remaining) % 2 ^ 32 → remaining ≤ 0 → d ≡ x * 2 ^ scale % 2 ^ 32
-scale_ends x scale remaining d e ended = e ∙ ap (λ (n : ℕ). x * 2 ^ n % 2 ^ 32) (omega arith)
+-- the scale: shifted by it, which past 32 bits leaves nothing
+pub shifted_by : (x scale shift r : ℕ) (o : std.Option ℕ) → shift ≡ scale → SomeIff o (shift < 32) (x * 2 ^ shift % 2 ^ 32) → r ≡ unwrap_or o 0
+    → r ≡ x * 2 ^ scale % 2 ^ 32
+shifted_by x scale shift r None same past e =
+    let high : 32 ≤ shift = omega (arith, past) in
+    let parts : scale - 32 + 32 ≡ scale = omega arith in
+    e
+    ∙ sym (mul-mod_left (x * 2 ^ (scale - 32)) (2 ^ 32))
+    ∙ ap (λ (n : ℕ). n % 2 ^ 32) (mul_assoc x (2 ^ (scale - 32)) (2 ^ 32) ∙ ap (λ (n : ℕ). x * n) (sym (pow-add 2 (scale - 32) 32)))
+    ∙ ap (λ (n : ℕ). x * 2 ^ n % 2 ^ 32) parts
+shifted_by x scale shift r (Some y) same (fits, is) e = e ∙ is ∙ ap (λ (n : ℕ). x * 2 ^ n % 2 ^ 32) same
 
 -- the sums
 module _ (integers : List ℕ) (w : Operand) (d : ℕ) (displaced : d ≡ displacement_of w.mode w.displacement % 2 ^ 32) where
@@ -86,4 +79,5 @@ module _ (integers : List ℕ) (w : Operand) (d : ℕ) (displaced : d ≡ displa
       ∙ ap₂ (λ (m n : ℕ). (m + n) % 2 ^ 32) (summed ∙ ap (λ (n : ℕ). (start + n) % 2 ^ 32) scaled_by ∙ add-mod-mod start _ _) displaced
       ∙ add-mod-mod _ _ _ ∙ mod-add-mod _ _ _)
 
-pub ruleset addressing = (rules, signed_low, signed_high, extended_none, extended_byte, base_is, base_is_five, no_base, index_is, no_index, part_named, part_none, scale_starts, scale_doubles, scale_ends, sum_plain, sum_sib)
+-- for the base
+pub ruleset basing = (base_is, base_is_five, no_base)

@@ -1,4 +1,4 @@
--- Masks that the code puts together. Rules for masks of registers.
+-- Masks that the code puts together.
 use Rattle.std.specs.Prelude.{◌≡◌, false, ℕ, ◌*◌, ◌^◌, ◌%◌, ◌<◌}
 use Rattle.basis.specs.Names.{Option, none, some, bit_or}
 use Rattle.basis.proofs.Names.{append-nil, arith, rules, eq-eqb, ne_eqb, or_zero_r, pow-lt}
@@ -8,7 +8,6 @@ use Rattle.manual.specs.Addresses.{base_of, index_of, address_of, registers_of}
 use Rattle.machine.specs.declared.Places.{Places}
 use Rattle.machine.specs.Footprints.{mask}
 use Rattle.machine.specs.inner.Reaches.{integer_alone, beside, behind}
-use Rattle.machine.proofs.laws.addresses.Addressing.{base_is, base_is_five, no_base, index_is, no_index}
 use Rattle.machine.proofs.laws.meetings.Masks.{mask_append}
 
 -- a register's bit fits a byte
@@ -47,4 +46,7 @@ made_beside register b p e = simp e
 pub made_integer : (register b : ℕ) → b ≡ 2 ^ register → record { mmx = 0; integers = b; start = 0; length = 0; zero = false } ≡ integer_alone register
 made_integer register b e = simp e
 
-pub ruleset mask_rules = (rules, one_bit, base_is, base_is_five, no_base, index_is, no_index, mask_named, mask_none, address_none, address_plain, address_sib, made_beside, made_integer)
+-- for the mask of an address
+pub ruleset addressing = (address_none, address_plain, address_sib)
+
+pub ruleset mask_rules = (rules, made_beside, made_integer)

@@ -169,3 +169,6 @@ module _ (integers code : List ℕ) (at modrm : ℕ) (memory : modrm < 192) (r :
 
 pub index_scaled : (part index scale r : ℕ) → index ≡ part → r ≡ index * 2 ^ scale % 2 ^ 32 → r ≡ part * 2 ^ scale % 2 ^ 32
 index_scaled part index scale r e h = rw (← e) h
+
+-- past the base
+pub ruleset basing = (base_displaced, base_bare, base_absent)

@@ -13,7 +13,7 @@ use Rattle.codec.proofs.Steps.{first_on, second_found}
 use Rattle.manual.specs.State.{longest_memory}
 use Rattle.works.specs.declared.Work.{Work}
 use Rattle.works.specs.Bars.{open_table}
-use Rattle.machine.specs.inner.Quick.{Quick, after_opcode, QuickAfter, QuickAnywhere}
+use Rattle.machine.specs.inner.Quick.{Quick, after_opcode, QuickAfter}
 use Rattle.machine.specs.inner.Works.{Gathered}
 use Rattle.machine.proofs.laws.gathering.Fetching.{is_listed_lem, gathered_sorted}
 use Rattle.machine.proofs.laws.gathering.Testing.{none_stops}
@@ -34,9 +34,6 @@ module _ (table code : List ℕ) (at entry : ℕ) (room : at + 3 ≤ length code
     pub found_after : IfSome r (λ work. QuickAfter work registers integers m entry code (at + 2)) → IfSome r (λ work. Quick work registers integers m (find_with table code at))
     found_after given =
         IfSome_then r given (λ work q. subst (λ (x : Result Found ℕ). Quick work registers integers m x) past_opcode (q.quick (get_or code (at + 1) 0)))
-
-    pub found_anywhere : IfSome r (λ work. QuickAnywhere work registers integers entry code (at + 2)) → IfSome r (λ work. Quick work registers integers m (find_with table code at))
-    found_anywhere given = found_after (IfSome_then r given (λ work q. q.quick m))
 
 -- ---- the table
 

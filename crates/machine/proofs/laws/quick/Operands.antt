@@ -1,5 +1,5 @@
 -- The works with two operands: an MMX register and memory by the form, and what such a work does. Rules for the functions that make them.
-use Rattle.std.specs.Prelude.{◌≡◌, refl, ◌⊎◌, Bool, true, false, ◌||◌, List, ℕ, ◌+◌, ◌/◌, ◌%◌, ◌^◌, ◌≤◌, ◌<◌, eqb, leb, length, get_or, Option, IfSome}
+use Rattle.std.specs.Prelude.{◌≡◌, refl, ◌⊎◌, Bool, true, false, cond, ◌||◌, List, [], ℕ, ◌+◌, ◌/◌, ◌%◌, ◌^◌, ◌≤◌, ◌<◌, eqb, leb, length, get_or, Option, IfSome}
 use Rattle.std.proofs.lemmas.Option.{IfSome_then}
 use Rattle.basis.proofs.Names.{sym, ap, subst, ◌∙◌, inl, inr, false≢true, or-true, arith, eq-eqb, ne_eqb, eqb-true, eqb-false}
 use Rattle.words.specs.Buffer.{loaded}
@@ -10,17 +10,30 @@ use Rattle.codec.specs.Table.{form_of}
 use Rattle.codec.specs.inner.Fields.{Registers}
 use Rattle.codec.specs.declared.Instruction.{Instruction}
 use Rattle.codec.proofs.Bytes.{among}
-use Rattle.codec.proofs.FormNumbers.{in_range}
 use Rattle.works.specs.declared.Work.{Work}
 use Rattle.machine.specs.declared.ways.Way.TheVariants.{Stores}
-use Rattle.machine.specs.inner.Quick.{Within, SuffixAt, SuffixInMemory, work_at, AtAddress}
+use Rattle.machine.specs.declared.operands.Spot.{Spot}
+use Rattle.machine.specs.declared.operands.Spot.TheVariants.{Bytes}
+use Rattle.machine.specs.inner.Quick.{Within, SuffixAt, SuffixInMemory}
 use Rattle.machine.specs.inner.Spots.{other_of, spot_of}
 use Rattle.machine.specs.inner.Ways.{is_store, way_of}
 use Rattle.works.specs.Works.{to_operate, to_store, work_of}
 use Rattle.works.specs.Siblings.{sibling_work, suffixed_work}
-use Rattle.machine.specs.inner.Works.{effect_in, numbers, is_listed, Listed, Does}
+use Rattle.machine.specs.inner.Works.{effect_in, numbers, is_listed, Listed, put_work, take_work, Does}
 use Rattle.machine.proofs.laws.gathering.Sorting.{does_store, does_load, does_compute}
 use Rattle.machine.proofs.laws.ways.Numbering.{way_streams, way_stores, way_loads, way_computes}
+
+-- the work of two operands, one an MMX register at a place, the other at a spot
+abbrev pub work_at : List ℕ → List ℕ → List ℕ → ℕ → ℕ → Spot → ℕ → Work
+work_at registers integers memory entry place spot next =
+    cond (is_store (entry / 2 ^ 24)) (put_work spot (get_or registers place 0) next) (take_work registers integers memory (entry % 256) place spot next)
+
+-- the work of two operands, where the other is in memory at an address, with all its bytes
+pub record AtAddress (work : Work) (registers memory : List ℕ) (entry place address next : ℕ) : Type 0 where
+  pub two : 15 ≤ entry / 2 ^ 24
+  pub plain : entry / 2 ^ 24 ≡ 16 → ⊥
+  pub made : Listed entry → work ≡ work_at registers [] memory entry place (Bytes address (entry / 2 ^ 16 % 256)) next
+  pub inside : Listed entry → leb (address + entry / 2 ^ 16 % 256) (length memory) ≡ true
 
 -- all bytes lie in memory
 pub answered_within : (work made : Work) (address size room : ℕ) (t : Bool) → t ≡ leb (address + size) room → t ≡ true → work ≡ made
@@ -111,26 +124,15 @@ module _ (registers m : List ℕ) (entry place address next : ℕ) where
     pub loads_low : n ≡ 21 → IfSome r (Loaded 4) → IfSome r Addressed
     loads_low e given = IfSome_then r given (loads_of 4 (omega arith) (λ z. omega arith) (λ l. ap (λ (k : ℕ). memory_size (form_of k)) e) (ap is_store e))
 
-    pub loads_quadword : 0x14000000 ≤ entry → (n ≡ 21 → ⊥) → IfSome r (Loaded 8) → IfSome r Addressed
+    pub loads_quadword : 20 ≤ n → (n ≡ 21 → ⊥) → IfSome r (Loaded 8) → IfSome r Addressed
     loads_quadword h e given =
-        let past : 20 ≤ n = omega arith in
         IfSome_then r given
-        (loads_of 8 (omega arith) (λ z. omega arith) (λ l. quadwords n l.listed past e)
+        (loads_of 8 (omega arith) (λ z. omega arith) (λ l. quadwords n l.listed h e)
         (simp (ne_eqb n 15 (λ z. omega arith), ne_eqb n 17 (λ z. omega arith), ne_eqb n 19 (λ z. omega arith))))
 
-    pub stores_quadword : 15 ≤ n → (n ≡ 16 → ⊥) → entry < 0x14000000 → (n ≡ 17 → ⊥) → (n ≡ 18 → ⊥) → IfSome r (Stored 8) → IfSome r Addressed
-    stores_quadword p plain q a b = by (eqb n 15) refl
-      where
-        of : (k : ℕ) → n ≡ k → memory_size (form_of k) ≡ 8 → is_store k ≡ true → IfSome r (Stored 8) → IfSome r Addressed
-        of k e sized store given = IfSome_then r given (stores_of 8 p plain (λ l. ap (λ (j : ℕ). memory_size (form_of j)) e ∙ sized) (ap is_store e ∙ store))
-
-        last : (n ≡ 15 → ⊥) → n ≤ 19 → n ≡ 19
-        last c most = in_range (λ k. (k ≡ 15 → ⊥) → (k ≡ 16 → ⊥) → (k ≡ 17 → ⊥) → (k ≡ 18 → ⊥) → k ≡ 19) 15 5 n p (omega arith)
-            (λ h. absurd (h refl), (λ g h. absurd (h refl), (λ f g h. absurd (h refl), (λ e f g h. absurd (h refl), (λ e f g h. refl, tt))))) c plain a b
-
-        by : (t : Bool) → eqb n 15 ≡ t → IfSome r (Stored 8) → IfSome r Addressed
-        by true e = of 15 (eqb-true n 15 e) refl refl
-        by false e = of 19 (last (eqb-false n 15 e) (omega arith)) refl refl
+    pub stores_quadword : (n ≡ 15) ⊎ (n ≡ 19) → IfSome r (Stored 8) → IfSome r Addressed
+    stores_quadword (inl e) given = IfSome_then r given (stores_of 8 (omega arith) (λ z. omega arith) (λ l. ap (λ (k : ℕ). memory_size (form_of k)) e) (ap is_store e))
+    stores_quadword (inr e) given = IfSome_then r given (stores_of 8 (omega arith) (λ z. omega arith) (λ l. ap (λ (k : ℕ). memory_size (form_of k)) e) (ap is_store e))
 
     pub stores_doubleword : n ≡ 17 → IfSome r (Stored 4) → IfSome r Addressed
     stores_doubleword e given = IfSome_then r given (stores_of 4 (omega arith) (λ z. omega arith) (λ l. ap (λ (k : ℕ). memory_size (form_of k)) e) (ap is_store e))
