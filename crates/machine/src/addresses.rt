@@ -68,11 +68,16 @@ pub(crate) fn part(integers: &[u32; 8], register: Option<u8>) -> u32
     }
 }
 
-#[tactic(auto, using(crate::proofs::laws::addresses::Addressing::shifted_by))]
+// Doubled once for each unit of the scale.
+#[tactic(auto, using(crate::proofs::laws::addresses::Addressing::doubled_once))]
 pub(crate) fn scaled(index: u32, scale: u8) -> u32
     ensures { result ≡ index * 2 ^ scale % 2 ^ 32 }
 {
-    index.checked_shl(u32::from(scale)).unwrap_or(0)
+    let mut doubled = index;
+    for _turn in 0..scale {
+        doubled = doubled.wrapping_add(doubled);
+    }
+    doubled
 }
 
 #[tactic(auto, using(crate::proofs::laws::addresses::Addressing::sum_plain, crate::proofs::laws::addresses::Addressing::sum_sib))]

@@ -1,9 +1,7 @@
 -- The address that the code sums up: each sum wraps at 2^32, and so the whole does once.
-use Rattle.std.specs.Prelude.{◌≡◌, List, ℕ, ◌+◌, ◌*◌, ◌-◌, ◌^◌, ◌%◌, ◌≤◌, ◌<◌, eqb, None, Some}
-use Rattle.std.specs.Prelude as std
-use Rattle.std.specs.Option.{SomeIff, unwrap_or}
+use Rattle.std.specs.Prelude.{◌≡◌, List, ℕ, ◌+◌, ◌*◌, ◌^◌, ◌%◌, ◌≤◌, ◌<◌, eqb}
 use Rattle.basis.specs.Names.{none, some}
-use Rattle.basis.proofs.Names.{sym, ap, ap₂, ◌∙◌, and-false, add-zero, mod-add-mod, add-mod-mod, mul-mod_left, mul_assoc, pow-add, arith, eq-eqb, ne_eqb, le-leb, lt-leb}
+use Rattle.basis.proofs.Names.{ap, ap₂, ◌∙◌, and-false, add-zero, mod-add-mod, add-mod-mod, mul-add, add-mod, add-one, two-pow-succ, arith, eq-eqb, ne_eqb, le-leb, lt-leb}
 use Rattle.codec.specs.Operands.{has_sib}
 use Rattle.codec.specs.declared.Operand.{Operand}
 use Rattle.manual.specs.Addresses.{signed_byte, displacement_of, base_of, index_of, address_of, register_part, address}
@@ -48,17 +46,9 @@ module _ (register : ℕ) where
   unfolding index_of
   no_index four = simp (eq-eqb register 4 four)
 
--- the scale: shifted by it, which past 32 bits leaves nothing
-pub shifted_by : (x scale shift r : ℕ) (o : std.Option ℕ) → shift ≡ scale → SomeIff o (shift < 32) (x * 2 ^ shift % 2 ^ 32) → r ≡ unwrap_or o 0
-    → r ≡ x * 2 ^ scale % 2 ^ 32
-shifted_by x scale shift r None same past e =
-    let high : 32 ≤ shift = omega (arith, past) in
-    let parts : scale - 32 + 32 ≡ scale = omega arith in
-    e
-    ∙ sym (mul-mod_left (x * 2 ^ (scale - 32)) (2 ^ 32))
-    ∙ ap (λ (n : ℕ). n % 2 ^ 32) (mul_assoc x (2 ^ (scale - 32)) (2 ^ 32) ∙ ap (λ (n : ℕ). x * n) (sym (pow-add 2 (scale - 32) 32)))
-    ∙ ap (λ (n : ℕ). x * 2 ^ n % 2 ^ 32) parts
-shifted_by x scale shift r (Some y) same (fits, is) e = e ∙ is ∙ ap (λ (n : ℕ). x * 2 ^ n % 2 ^ 32) same
+-- the scale: doubled once more
+pub doubled_once : (x turn d r : ℕ) → d ≡ x * 2 ^ turn % 2 ^ 32 → r ≡ (d + d) % 2 ^ 32 → r ≡ x * 2 ^ (turn + 1) % 2 ^ 32
+doubled_once x turn d r e f = rw (add-one, two-pow-succ turn, mul-add, add-mod, ← e) f
 
 -- the sums
 module _ (integers : List ℕ) (w : Operand) (d : ℕ) (displaced : d ≡ displacement_of w.mode w.displacement % 2 ^ 32) where
