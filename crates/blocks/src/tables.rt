@@ -7,7 +7,7 @@ use std::io::Write;
 // Room for the longest code and the longest memory of a case.
 const CODE_ROOM: usize = 5000;
 
-const MEMORY_ROOM: usize = machine::refusals::LONGEST_MEMORY + 1;
+const MEMORY_ROOM: usize = machine::LONGEST_MEMORY + 1;
 
 // The bytes of a short memory, which is the usual one of a run and of a step; and those of the usual memory of a footprint and of a meeting.
 const QUADWORD: usize = 8;

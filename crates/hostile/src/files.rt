@@ -5,7 +5,7 @@ use crate::ROOM;
 use crate::dice::Dice;
 use crate::draft::Draft;
 use codec::LONGEST_CODE;
-use machine::refusals::LONGEST_MEMORY;
+use machine::LONGEST_MEMORY;
 
 // The tags of the five fields, and the bytes of those of a fixed length.
 const CODE: u8 = 1;

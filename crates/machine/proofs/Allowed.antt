@@ -1,6 +1,6 @@
 -- Any two answers that a public contract allows at one input are equal, and so is what they leave in the lent memory: each contract is one
 -- equation, and the paper's answer gives back the code's, with the memory.
-use Rattle.std.specs.Prelude.{◌≡◌, refl, List, ℕ}
+use Rattle.std.specs.Prelude.{◌≡◌, refl, List, ℕ, Result, Ok, Err}
 use Rattle.basis.proofs.Names.{sym, ap, ◌∙◌}
 use contract.Lifetimes.{Lfts}
 use borrow.Fn.Kinds.{Dens, res_t, ended_of}
@@ -9,8 +9,6 @@ use Rattle.reorder.specs.Run.{Answer, finished, spent, stopped}
 use Rattle.manual.specs.State.{State}
 use Rattle.manual.specs.Steps.{Outcome, completed, refused_with}
 use Rattle.machine.specs.declared.Machine.{Machine}
-use Rattle.machine.specs.declared.Taken.{Taken}
-use Rattle.machine.specs.declared.Taken.TheVariants as taken
 use Rattle.machine.specs.declared.Stepped.{Stepped}
 use Rattle.machine.specs.declared.End.{End}
 use Rattle.machine.specs.declared.End.TheVariants as end
@@ -22,9 +20,7 @@ use Rattle.machine.proofs.Machine.step.Reads as step_reads
 use Rattle.machine.proofs.Machine.step.Kinds as step_kinds
 use Rattle.machine.proofs.Machine.run.Reads as run_reads
 use Rattle.machine.proofs.Machine.run.Kinds as run_kinds
-use Rattle.machine.specs.declared.Tracing.{Tracing}
-use Rattle.machine.specs.declared.Tracing.TheVariants as tracing
-use Rattle.machine.specs.Footprints.{paper_of_footprint}
+use Rattle.works.proofs.Allowed.{answer_one}
 use Rattle.machine.proofs.Machine.footprint.Reads as footprint_reads
 use Rattle.machine.proofs.Machine.footprint.Kinds as footprint_kinds
 use Rattle.machine.proofs.meetings.meets.Reads as meets_reads
@@ -43,14 +39,14 @@ abbrev pub machine_in : State → Machine
 machine_in s = record { mmx = s.mmx; integers = s.integers; marks = s.marks }
 
 step_back : Outcome → After Stepped
-step_back (completed at s) = record { answer = record { answer = taken.Completed; machine = machine_in s; at = at }; memory = s.memory }
-step_back (refused_with n at s) = record { answer = record { answer = taken.Refused n; machine = machine_in s; at = at }; memory = s.memory }
+step_back (completed at s) = record { answer = record { answer = Ok tt; machine = machine_in s; at = at }; memory = s.memory }
+step_back (refused_with n at s) = record { answer = record { answer = Err n; machine = machine_in s; at = at }; memory = s.memory }
 
-step_back_lem : (a : Taken) (at : ℕ) (k : Machine) (m : List ℕ)
+step_back_lem : (a : Result (Unit {0}) ℕ) (at : ℕ) (k : Machine) (m : List ℕ)
     → step_back (paper_of_taken a at (state_of k m)) ≡ record { answer = record { answer = a; machine = k; at = at }; memory = m }
 unfolding step_back
-step_back_lem taken.Completed at k m = refl
-step_back_lem (taken.Refused n) at k m = refl
+step_back_lem (Ok u) at k m = refl
+step_back_lem (Err n) at k m = refl
 
 pub step_one : (κs : Lfts 2) (a : Dens κs step_kinds.ps) (r₁ r₂ : (res_t step_kinds.r κs).Denot) (s₁ s₂ : AtExit (ended_of 2 step_kinds.ps step_kinds.r) κs)
     → step_reads.Post κs a r₁ s₁ → step_reads.Post κs a r₂ s₂ → (r₁ ≡ r₂) × (s₁.1.1.1.0.now ≡ s₂.1.1.1.0.now)
@@ -90,16 +86,10 @@ pub run_one : (κs : Lfts 2) (a : Dens κs run_kinds.ps) (r₁ r₂ : (res_t run
     → run_reads.Post κs a r₁ s₁ → run_reads.Post κs a r₂ s₂ → (r₁ ≡ r₂) × (s₁.1.1.0.now ≡ s₂.1.1.0.now)
 run_one κs a r₁ r₂ s₁ s₂ p q = run_given r₁ r₂ s₁.1.1.0.now s₂.1.1.0.now (p ∙ sym q)
 
-traced_one : (x y : Tracing) → paper_of_footprint x ≡ paper_of_footprint y → x ≡ y
-traced_one (tracing.Traced f) (tracing.Traced g) e = cc
-traced_one (tracing.Traced f) (tracing.Refused n) e = cc
-traced_one (tracing.Refused m) (tracing.Traced g) e = cc
-traced_one (tracing.Refused m) (tracing.Refused n) e = cc
-
 pub footprint_one : (κs : Lfts 2) (a : Dens κs footprint_kinds.ps) (r₁ r₂ : (res_t footprint_kinds.r κs).Denot)
     (s₁ s₂ : AtExit (ended_of 2 footprint_kinds.ps footprint_kinds.r) κs)
     → footprint_reads.Post κs a r₁ s₁ → footprint_reads.Post κs a r₂ s₂ → r₁ ≡ r₂
-footprint_one κs a r₁ r₂ s₁ s₂ p q = traced_one r₁ r₂ (p ∙ sym q)
+footprint_one κs a r₁ r₂ s₁ s₂ p q = answer_one r₁ r₂ (p ∙ sym q)
 
 pub meets_one : (κs : Lfts 0) (a : Dens κs meets_kinds.ps) (r₁ r₂ : (res_t meets_kinds.r κs).Denot)
     (s₁ s₂ : AtExit (ended_of 0 meets_kinds.ps meets_kinds.r) κs)

@@ -1,6 +1,7 @@
 -- Calls of the program's functions: what was handed in, what was handed back and what is then in the lent memory. That the contract was met is what
 -- the proof of each function shows of every call; and such calls can be had.
-use Rattle.std.specs.Prelude.{◌≡◌, refl, Bool, List, [], ℕ}
+use Rattle.std.specs.Prelude.{◌≡◌, refl, Bool, List, [], ℕ, Result}
+use Rattle.refusals.specs.declared.Refusal.{Refusal}
 use Rattle.basis.proofs.Names.{sym, ap, ap₂, ◌∙◌}
 use contract.Lifetimes.{Lfts}
 use borrow.Fn.Kinds.{Dens, ended_of}
@@ -9,7 +10,6 @@ use Rattle.std.proofs.Common.{Bor, MutBor}
 use Rattle.manual.specs.Runs.{run_of}
 use Rattle.machine.specs.declared.Machine.{Machine}
 use Rattle.machine.specs.declared.Footprint.{Footprint}
-use Rattle.machine.specs.declared.Tracing.{Tracing}
 use Rattle.machine.specs.declared.Ran.{Ran}
 use Rattle.machine.specs.State.{state_of}
 use Rattle.machine.specs.Runs.{paper_of_run}
@@ -35,7 +35,7 @@ pub record RunCall (machine : Machine) (code memory : List ℕ) (floor budget : 
   pub leaves : exit.1.1.0.now ≡ after
 
 -- machine.footprint(code, at, memory) handed back `answer`
-pub record FootprintCall (machine : Machine) (code : List ℕ) (at : ℕ) (memory : List ℕ) (answer : Tracing) : Type 1 where
+pub record FootprintCall (machine : Machine) (code : List ℕ) (at : ℕ) (memory : List ℕ) (answer : Result Footprint Refusal) : Type 1 where
   pub κs : Lfts 2
   pub given : Dens κs footprint_kinds.ps
   pub exit : AtExit (ended_of 2 footprint_kinds.ps footprint_kinds.r) κs
@@ -64,7 +64,7 @@ run_says machine code memory floor budget answer after c =
     ∙ ap (λ (x : List ℕ). run_of floor x budget (state_of c.given.0 c.given.1.1.0.now)) c.with_code
     ∙ ap₂ (λ (m : Machine) (x : List ℕ). run_of floor code budget (state_of m x)) c.with_machine c.with_memory
 
-pub footprint_says : (machine : Machine) (code : List ℕ) (at : ℕ) (memory : List ℕ) (answer : Tracing) → FootprintCall machine code at memory answer
+pub footprint_says : (machine : Machine) (code : List ℕ) (at : ℕ) (memory : List ℕ) (answer : Result Footprint Refusal) → FootprintCall machine code at memory answer
     → paper_of_footprint answer ≡ masked_at code at (state_of machine memory)
 footprint_says machine code at memory answer c =
     c.met
@@ -100,7 +100,7 @@ run_there machine code memory floor budget answer after e =
       leaves = refl;
     }
 
-pub footprint_there : (machine : Machine) (code : List ℕ) (at : ℕ) (memory : List ℕ) (answer : Tracing)
+pub footprint_there : (machine : Machine) (code : List ℕ) (at : ℕ) (memory : List ℕ) (answer : Result Footprint Refusal)
     → paper_of_footprint answer ≡ masked_at code at (state_of machine memory) → FootprintCall machine code at memory answer
 footprint_there machine code at memory answer e =
     record {

@@ -1,13 +1,11 @@
 -- No byte below a floor is changed in the memory that is lent: by a call of Machine::run, and by a step that meets its contract.
-use Rattle.std.specs.Prelude.{◌≡◌, refl, List, ℕ, take}
+use Rattle.std.specs.Prelude.{◌≡◌, refl, List, ℕ, take, Result, Ok, Err}
 use Rattle.basis.proofs.Names.{sym, ap, ◌∙◌}
 use Rattle.reorder.specs.Run.{Answer, state_reached}
 use Rattle.manual.specs.State.{State}
 use Rattle.manual.specs.Steps.{step_at}
 use Rattle.manual.proofs.Floors.{state_after, step_keeps, run_keeps}
 use Rattle.machine.specs.declared.Machine.{Machine}
-use Rattle.machine.specs.declared.Taken.{Taken}
-use Rattle.machine.specs.declared.Taken.TheVariants as taken
 use Rattle.machine.specs.declared.Stepped.{Stepped}
 use Rattle.machine.specs.declared.Ran.{Ran}
 use Rattle.machine.specs.State.{state_of}
@@ -26,6 +24,6 @@ module _ (machine : Machine) (code memory : List ℕ) (floor : ℕ) (after : Lis
   step_keeps_memory at stepped contract =
       sym (left stepped.answer) ∙ ap (λ o. take floor (state_after o).memory) contract ∙ step_keeps floor code at (state_of machine memory)
     where
-      left : (t : Taken) → take floor (state_after (paper_of_taken t stepped.at (state_of stepped.machine after))).memory ≡ take floor after
-      left taken.Completed = refl
-      left (taken.Refused n) = refl
+      left : (t : Result (Unit {0}) ℕ) → take floor (state_after (paper_of_taken t stepped.at (state_of stepped.machine after))).memory ≡ take floor after
+      left (Ok u) = refl
+      left (Err n) = refl

@@ -1,6 +1,6 @@
 -- Demand 3 of the program itself, of a block without a jump: over calls of Machine::run, Machine::footprint and meets, by what they hand back; and
 -- such calls can be had.
-use Rattle.std.specs.Prelude.{◌≡◌, refl, Bool, true, List, [], map, ℕ, suc, ◌≤◌, ◌<◌}
+use Rattle.std.specs.Prelude.{Ok, ◌≡◌, refl, Bool, true, List, [], map, ℕ, suc, ◌≤◌, ◌<◌}
 use Rattle.basis.specs.Names.{flatten}
 use Rattle.basis.proofs.Names.{sym, ap, ap₂, ◌∙◌, false≢true, arith}
 use Rattle.reorder.specs.Result.{Result, done, refused, map_result}
@@ -18,7 +18,6 @@ use Rattle.manual.specs.Footprints.{footprint_at, footprint_in_run}
 use Rattle.manual.proofs.Demand3.{position_in_run, part, map_alike, footprint-asked, has_footprint, rearranged_parts}
 use Rattle.machine.specs.declared.Machine.{Machine}
 use Rattle.machine.specs.declared.Footprint.{Footprint}
-use Rattle.machine.specs.declared.Tracing.TheVariants.{Traced}
 use Rattle.machine.specs.declared.End.{End}
 use Rattle.machine.specs.declared.End.TheVariants.{Done, Spent, Refused}
 use Rattle.machine.specs.declared.Ran.{Ran}
@@ -72,7 +71,7 @@ pub record Recorded (machine : Machine) (code memory : List ℕ) (floor budget :
   pub memories : ℕ → List ℕ
   pub run_of_lem : (k : ℕ) → k ≤ whole.count → RunCall machine code memory floor k (runs k) (memories k)
   pub footprints : ℕ → Footprint
-  pub footprint_of_lem : (k : ℕ) → k < whole.count → FootprintCall (runs k).machine code (runs k).at (memories k) (Traced (footprints k))
+  pub footprint_of_lem : (k : ℕ) → k < whole.count → FootprintCall (runs k).machine code (runs k).at (memories k) (Ok (footprints k))
   pub meeting : ℕ → ℕ → Bool
   pub meeting_of_lem : (i j : ℕ) → i < j → j < whole.count → MeetsCall (footprints i) (footprints j) (meeting i j)
 
@@ -97,7 +96,7 @@ module _ (machine : Machine) (code memory : List ℕ) (floor budget : ℕ) (whol
       ap (map_result masked)
       (footprint-asked floor code budget whole.at whole.count start (state_of whole.machine after) finishes k b
       ∙ footprint_called machine code memory floor k (known.runs k) (known.memories k) (known.run_of_lem k (omega arith)))
-      ∙ sym (footprint_says (known.runs k).machine code (known.runs k).at (known.memories k) (Traced (known.footprints k)) (known.footprint_of_lem k b))
+      ∙ sym (footprint_says (known.runs k).machine code (known.runs k).at (known.memories k) (Ok (known.footprints k)) (known.footprint_of_lem k b))
 
   same_block : (order : List ℕ) → NewOrder whole.count order → rearranged read code order ≡ moved order
   same_block order new =
@@ -141,7 +140,7 @@ module _ (machine : Machine) (code memory : List ℕ) (floor budget end total : 
   handed_out (refused n) = masked (record { reads = []; writes = []; kind = Ordinary })
 
   handed_footprint : (k : ℕ) → k < total
-      → FootprintCall (handed k).answer.machine code (handed k).answer.at (handed k).memory (Traced (handed_out (footprint_in_run floor code (state_of machine memory) k)))
+      → FootprintCall (handed k).answer.machine code (handed k).answer.at (handed k).memory (Ok (handed_out (footprint_in_run floor code (state_of machine memory) k)))
   unfolding handed_out masked_at
   handed_footprint k b =
       let (f, e) = has_footprint floor code budget end total (state_of machine memory) final h k b in

@@ -1,6 +1,7 @@
 -- A footprint in the form that the program hands out: registers as masks, memory bytes as a range, the zero mark; and the test whether two of them
 -- meet.
 use Rattle.std.specs.Prelude.{Bool, true, false, not, ◌&&◌, ◌||◌, List, [], ◌∷◌, ◌++◌, ℕ, ◌+◌, ◌^◌, eqb, ltb, length, get_or}
+use Rattle.std.specs.Prelude as code
 use Rattle.basis.specs.Names.{bit_and, bit_or}
 use Rattle.reorder.specs.Result.{Result, done, refused, map_result}
 use Rattle.reorder.specs.Footprint as places
@@ -11,8 +12,8 @@ use Rattle.manual.specs.Kinds.{kinds_meet}
 use Rattle.manual.specs.Footprints.{footprint_at}
 use Rattle.machine.specs.declared.Places.{Places}
 use Rattle.machine.specs.declared.Footprint.{Footprint}
-use Rattle.machine.specs.declared.Tracing.{Tracing}
-use Rattle.machine.specs.declared.Tracing.TheVariants.{Traced, Refused}
+use Rattle.works.specs.Answers.{paper_of}
+use Rattle.refusals.specs.declared.Refusal.{Refusal}
 
 -- the number of a place of one sort, in a list of one or none: MMX registers, integer registers, memory bytes
 
@@ -77,9 +78,8 @@ unfoldable pub masked_at : List ℕ → ℕ → State → Result Footprint
 masked_at code at s = map_result masked (footprint_at 0 code at s)
 
 -- the paper's answer for each case of the footprint's
-abbrev pub paper_of_footprint : Tracing → Result Footprint
-paper_of_footprint (Traced f) = done f
-paper_of_footprint (Refused n) = refused n
+abbrev pub paper_of_footprint : code.Result Footprint Refusal → Result Footprint
+paper_of_footprint answer = paper_of answer
 
 -- the m bytes from a on and the n bytes from b on have one in common
 unfoldable pub overlap : ℕ → ℕ → ℕ → ℕ → Bool

@@ -7,30 +7,23 @@ ghost use Rattle.machine.specs.inner.Reaches.{ordinary_footprint, pointed_by, fo
 ghost use Rattle.machine.specs.inner.Works.{effect_in, Listed};
 
 use crate::operands::AT_EDI;
-use crate::reaches::Reach;
-use crate::refusals::{LONGEST_MEMORY, MEMORY_TOO_LONG};
 use crate::ways::Way;
-use crate::{Footprint, Machine, Places, Tracing, gathering, loops, reaches, ways};
+use crate::{Footprint, LONGEST_MEMORY, Machine, Places, gathering, loops, reaches, ways};
 use codec::forms::{FORM, SUFFIXED};
 use codec::prefixes::ESCAPE;
 use codec::{Instruction, Kind, LONGEST_CODE, Operand};
 use refusals::Refusal;
-use works::REFUSE;
 
 // What is read, with the address registers, and what is written.
 fn ordinary(registers: u8, reads: Places, writes: Places) -> Footprint
     ensures { result ≡ ordinary_footprint registers reads writes }
 {
-    let joined = Places {
-        mmx: reads.mmx,
-        integers: registers | reads.integers,
-        start: reads.start,
-        length: reads.length,
-        zero: reads.zero,
-    };
     Footprint {
-        reads: joined,
-        writes: writes,
+        reads: Places {
+            integers: registers | reads.integers,
+            ..reads
+        },
+        writes,
         kind: Kind::Ordinary,
     }
 }
@@ -62,11 +55,10 @@ fn footprint_of_way(way: Way, operand: Operand, registers: u8, places: Places) -
             reaches::of_integer(operand.reg),
         ),
         Way::Stores => ordinary(registers, own, places),
-        Way::Loads => ordinary(registers, places, own),
-        Way::Computes => ordinary(registers, reaches::with_register(operand.reg, places), own),
-        Way::Suffixes => ordinary(registers, reaches::with_register(operand.reg, places), own),
-        Way::Inserts => ordinary(registers, reaches::with_register(operand.reg, places), own),
-        Way::Shuffles => ordinary(registers, places, own),
+        Way::Loads | Way::Shuffles => ordinary(registers, places, own),
+        Way::Computes | Way::Suffixes | Way::Inserts => {
+            ordinary(registers, reaches::with_register(operand.reg, places), own)
+        }
         Way::Masks => {
             let masked = reaches::with_register(operand.rm, places);
             ordinary(
@@ -83,52 +75,53 @@ fn pointed(way: Way, operand: Operand) -> Operand
     ensures { result ≡ pointed_by way operand }
 {
     match way {
-        Way::Empties => operand,
-        Way::Passes => operand,
-        Way::Shifts => operand,
-        Way::Extracts => operand,
-        Way::Stores => operand,
-        Way::Loads => operand,
-        Way::Computes => operand,
-        Way::Suffixes => operand,
-        Way::Inserts => operand,
-        Way::Shuffles => operand,
         Way::Masks => AT_EDI,
+        _ => operand,
     }
 }
 
 // An instruction with a suffix that completes.
-fn completed(machine: Machine, entry: u32, instruction: Instruction, memory: &[u8]) -> Tracing
+#[tactic(auto, using(crate::proofs::laws::footprints::Suffixing::suffix_rules))]
+fn completed(
+    machine: Machine,
+    entry: u32,
+    instruction: Instruction,
+    memory: &[u8],
+) -> Result<Footprint, Refusal>
     requires { Registers instruction.operand × (Listed entry × ((entry / 2 ^ 24 ≡ 16) × Completes (effect_in entry instruction) (state_of machine memory.now))) }
     ensures { paper_of_footprint result ≡ unmarked_footprint (effect_in entry instruction) (state_of machine memory.now) }
 {
     let operand = instruction.operand;
-    match reaches::reach_operand(machine, entry, operand, memory) {
-        Reach::Inside(registers, places) => {
-            let way = ways::suffix_way(instruction.immediate);
-            Tracing::Traced(footprint_of_way(way, operand, registers, places))
-        }
-        Reach::Refused(refusal) => Tracing::Refused(refusal),
-    }
+    let reach = reaches::reach_operand(machine, entry, operand, memory)?;
+    let way = ways::suffix_way(instruction.immediate);
+    Ok(footprint_of_way(way, operand, reach.registers, reach.places))
 }
 
 // An instruction with a suffix: its footprint is refused as its work is.
-fn suffixed(machine: Machine, entry: u32, instruction: Instruction, memory: &[u8]) -> Tracing
+#[tactic(auto, using(crate::proofs::laws::footprints::Suffixing::suffix_rules))]
+fn suffixed(
+    machine: Machine,
+    entry: u32,
+    instruction: Instruction,
+    memory: &[u8],
+) -> Result<Footprint, Refusal>
     requires { Registers instruction.operand × (Listed entry × (entry / 2 ^ 24 ≡ 16)) }
     ensures { paper_of_footprint result ≡ unmarked_footprint (effect_in entry instruction) (state_of machine memory.now) }
 {
     let mmx = machine.mmx;
     let integers = machine.integers;
-    let work = gathering::suffixed(&mmx, &integers, entry, instruction, 0, memory);
-    let what = work.what;
-    if what == REFUSE {
-        return Tracing::Refused(work.number);
-    }
+    gathering::suffixed(&mmx, &integers, entry, instruction, 0, memory)?;
     completed(machine, entry, instruction, memory)
 }
 
 // An instruction that the control marks let pass.
-fn unmarked(machine: Machine, entry: u32, instruction: Instruction, memory: &[u8]) -> Tracing
+#[tactic(auto, using(crate::proofs::laws::footprints::Forms::form_rules))]
+fn unmarked(
+    machine: Machine,
+    entry: u32,
+    instruction: Instruction,
+    memory: &[u8],
+) -> Result<Footprint, Refusal>
     requires { Registers instruction.operand × Listed entry }
     ensures { paper_of_footprint result ≡ unmarked_footprint (effect_in entry instruction) (state_of machine memory.now) }
 {
@@ -139,33 +132,26 @@ fn unmarked(machine: Machine, entry: u32, instruction: Instruction, memory: &[u8
     let way = ways::way_of(entry / FORM);
     if ways::has_other(way) {
         let pointed = pointed(way, operand);
-        return match reaches::reach_operand(machine, entry, pointed, memory) {
-            Reach::Inside(registers, places) => Tracing::Traced(footprint_of_way(
-                way, operand, registers, places,
-            )),
-            Reach::Refused(refusal) => Tracing::Refused(refusal),
-        };
+        let reach = reaches::reach_operand(machine, entry, pointed, memory)?;
+        return Ok(footprint_of_way(way, operand, reach.registers, reach.places));
     }
-    Tracing::Traced(footprint_of_way(way, operand, 0, reaches::NOWHERE))
+    Ok(footprint_of_way(way, operand, 0, reaches::NOWHERE))
 }
 
 impl Machine {
     // What the step at a position reads and writes.
     #[tactic(auto, using(crate::proofs::laws::footprints::Tests::position_rules))]
-    pub fn footprint(self, code: &[u8], at: usize, memory: &[u8]) -> Tracing
+    pub fn footprint(self, code: &[u8], at: usize, memory: &[u8]) -> Result<Footprint, Refusal>
         ensures { paper_of_footprint result ≡ masked_at code.now at (state_of self memory.now) }
     {
         if LONGEST_MEMORY < memory.len() {
-            return Tracing::Refused(MEMORY_TOO_LONG);
+            return Err(Refusal::MemoryTooLong);
         }
         if LONGEST_CODE < code.len() {
-            return Tracing::Refused(Refusal::CodeTooLong.number());
+            return Err(Refusal::CodeTooLong);
         }
         let table = codec::table();
-        let found = match codec::read_from(&table, code, at) {
-            Ok(found) => found,
-            Err(refusal) => return Tracing::Refused(refusal.number()),
-        };
+        let found = codec::read_from(&table, code, at)?;
         let instruction = found.instruction;
         if instruction.first != ESCAPE {
             return loops::traced(
@@ -177,10 +163,9 @@ impl Machine {
             );
         }
         let bar = works::barred(self.marks);
-        let stop = gathering::stopping(bar, found.entry);
-        if stop != 0 {
-            return Tracing::Refused(stop);
+        match gathering::stopping(bar, found.entry) {
+            Some(refusal) => Err(refusal),
+            None => unmarked(self, found.entry, instruction, memory),
         }
-        unmarked(self, found.entry, instruction, memory)
     }
 }

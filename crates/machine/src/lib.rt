@@ -11,7 +11,6 @@ mod picking;
 mod pointers;
 mod quick;
 mod reaches;
-pub mod refusals;
 mod register_masks;
 mod running;
 mod shifts;
@@ -23,6 +22,9 @@ use codec::Kind;
 use manual::Marks;
 pub use meetings::{kinds_meet, meets};
 
+// The longest memory, in bytes.
+pub const LONGEST_MEMORY: usize = 32768;
+
 // The registers and marks. The memory is lent to each call beside them.
 #[derive(Clone, Copy)]
 pub struct Machine {
@@ -33,23 +35,17 @@ pub struct Machine {
     pub marks: Marks,
 }
 
-// What a step came to.
-#[derive(Clone, Copy)]
-pub enum Taken {
-    Completed,
-    Refused(u8),
-}
-
-// What a step hands back: the position is that of the next instruction, or the one it was given.
+// What a step hands back: that it completed, or its refusal, by the number as a run has it; the position is that of the next instruction, or the one
+// it was given.
 #[derive(Clone, Copy)]
 pub struct Stepped {
-    pub answer: Taken,
+    pub answer: Result<(), u8>,
     pub machine: Machine,
     pub at: usize,
 }
 
 // How a run ended.
-#[derive(Clone, Copy)]
+#[derive(Clone, Copy, PartialEq, Eq, Debug)]
 pub enum End {
     Done,
     Spent,
@@ -66,7 +62,7 @@ pub struct Ran {
 }
 
 // Places: registers as masks, bit k for register k, memory bytes as a range (without bytes it starts at 0), and the zero mark.
-#[derive(Clone, Copy)]
+#[derive(Clone, Copy, PartialEq, Eq, Debug)]
 pub struct Places {
     pub mmx: u8,
     pub integers: u8,
@@ -81,11 +77,4 @@ pub struct Footprint {
     pub reads: Places,
     pub writes: Places,
     pub kind: Kind,
-}
-
-// The footprint of a step, or the step's refusal.
-#[derive(Clone, Copy)]
-pub enum Tracing {
-    Traced(Footprint),
-    Refused(u8),
 }

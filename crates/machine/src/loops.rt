@@ -5,34 +5,32 @@ ghost use Rattle.codec.specs.inner.Fields.{Registers};
 ghost use Rattle.manual.specs.Jumps.{jumped, onward_by};
 ghost use Rattle.machine.specs.Footprints.{paper_of_footprint};
 ghost use Rattle.machine.specs.inner.Loops.{Looping, landing, Loops, counting_footprint, loop_footprint};
-ghost use Rattle.works.specs.Jumps.{paper_of_target};
+ghost use Rattle.works.specs.Answers.{paper_of_target, work_in};
 ghost use Rattle.works.specs.Works.{to_count, work_of};
 ghost use Rattle.machine.specs.inner.Works.{effect_in};
 
-use crate::{Footprint, Places, Tracing, addresses, gathering, reaches};
+use crate::{Footprint, Places, addresses, gathering, reaches};
 use codec::fields::VALUES;
 use codec::forms::{ADD, DECREMENT, FORM, SET};
 use codec::{Instruction, Kind};
-use works::{COUNT, PASS, Target, Work, work_of};
+use refusals::Refusal;
+use works::{COUNT, PASS, Work, work_of};
 
 // What minus 1 is in 32 bits.
 const MINUS_ONE: u32 = 0xffffffff;
 
 // The zero mark alone.
 const ZERO_MARK: Places = Places {
-    mmx: 0,
-    integers: 0,
-    start: 0,
-    length: 0,
     zero: true,
+    ..reaches::NOWHERE
 };
 
 // Where a run goes on after a jump, with the position behind it, in a code of so many bytes: the jump is taken where the zero mark is clear.
-fn onward(zero: bool, length: usize, behind: usize, displacement: u32) -> Target
+fn onward(zero: bool, length: usize, behind: usize, displacement: u32) -> Result<usize, Refusal>
     ensures { paper_of_target result ≡ cond (not zero) (jumped length behind displacement) (done behind) }
 {
     if zero {
-        return Target::At(behind);
+        return Ok(behind);
     }
     works::target_of(length, behind, displacement)
 }
@@ -47,13 +45,11 @@ fn counted(integers: &[u32; 8], register: usize, addend: u32, next: usize) -> Wo
 }
 
 // A jump: nothing remains but to go on at its target.
-fn jump(zero: bool, length: usize, next: usize, displacement: u32) -> Work
-    ensures { result ≡ landing (cond (not zero) (jumped length next displacement) (done next)) }
+fn jump(zero: bool, length: usize, next: usize, displacement: u32) -> Result<Work, Refusal>
+    ensures { work_in result ≡ landing (cond (not zero) (jumped length next displacement) (done next)) }
 {
-    match onward(zero, length, next, displacement) {
-        Target::At(target) => work_of(PASS, 0, 0, 0, target),
-        Target::Refused(refusal) => works::refused(refusal),
-    }
+    let target = onward(zero, length, next, displacement)?;
+    Ok(work_of(PASS, 0, 0, 0, target))
 }
 
 // What remains of one, by the zero mark.
@@ -64,30 +60,24 @@ pub(crate) fn looped(
     instruction: Instruction,
     length: usize,
     next: usize,
-) -> Work
+) -> Result<Work, Refusal>
     requires { Registers instruction.operand × Looping entry instruction }
-    ensures { Loops result integers.now (effect_in entry instruction) (onward_by length instruction zero next) }
+    ensures { Loops (work_in result) integers.now (effect_in entry instruction) (onward_by length instruction zero next) }
 {
-    let form = entry / FORM;
     let register = (instruction.first % VALUES) as usize;
-    if form == DECREMENT {
-        return counted(integers, register, MINUS_ONE, next);
+    match entry / FORM {
+        DECREMENT => Ok(counted(integers, register, MINUS_ONE, next)),
+        ADD => {
+            let addend = addresses::signed(instruction.immediate);
+            let register = instruction.operand.rm as usize;
+            Ok(counted(integers, register, addend, next))
+        }
+        SET => {
+            let value = gathering::widened(instruction.immediate);
+            Ok(work_of(works::SET, 0, register, value, next))
+        }
+        _ => jump(zero, length, next, instruction.immediate),
     }
-    if form == ADD {
-        let operand = instruction.operand;
-        let addend = addresses::signed(instruction.immediate);
-        return counted(integers, operand.rm as usize, addend, next);
-    }
-    if form == SET {
-        return work_of(
-            works::SET,
-            0,
-            register,
-            gathering::widened(instruction.immediate),
-            next,
-        );
-    }
-    jump(zero, length, next, instruction.immediate)
 }
 
 // The footprint of ADD and DEC: an integer register, and the zero mark.
@@ -95,12 +85,13 @@ fn counting(register: u8) -> Footprint
     requires { register < 8 }
     ensures { result ≡ counting_footprint register }
 {
-    let mut writes = reaches::of_integer(register);
-    let reads = writes;
-    writes.zero = true;
+    let reads = reaches::of_integer(register);
     Footprint {
-        reads: reads,
-        writes: writes,
+        reads,
+        writes: Places {
+            zero: true,
+            ..reads
+        },
         kind: Kind::Loop,
     }
 }
@@ -112,32 +103,27 @@ pub(crate) fn traced(
     instruction: Instruction,
     length: usize,
     next: usize,
-) -> Tracing
+) -> Result<Footprint, Refusal>
     requires { Registers instruction.operand × Looping entry instruction }
     ensures { paper_of_footprint result ≡ map_result (λ position. loop_footprint (entry / 2 ^ 24) instruction) (onward_by length instruction zero next) }
 {
-    let form = entry / FORM;
     let register = instruction.first % VALUES;
-    if form == SET {
-        return Tracing::Traced(Footprint {
+    let footprint = match entry / FORM {
+        SET => Footprint {
             reads: reaches::NOWHERE,
             writes: reaches::of_integer(register),
             kind: Kind::Loop,
-        });
-    }
-    if form == ADD {
-        let operand = instruction.operand;
-        return Tracing::Traced(counting(operand.rm));
-    }
-    if form == DECREMENT {
-        return Tracing::Traced(counting(register));
-    }
-    match onward(zero, length, next, instruction.immediate) {
-        Target::At(_) => Tracing::Traced(Footprint {
-            reads: ZERO_MARK,
-            writes: reaches::NOWHERE,
-            kind: Kind::Loop,
-        }),
-        Target::Refused(refusal) => Tracing::Refused(refusal),
-    }
+        },
+        ADD => counting(instruction.operand.rm),
+        DECREMENT => counting(register),
+        _ => {
+            onward(zero, length, next, instruction.immediate)?;
+            Footprint {
+                reads: ZERO_MARK,
+                writes: reaches::NOWHERE,
+                kind: Kind::Loop,
+            }
+        }
+    };
+    Ok(footprint)
 }

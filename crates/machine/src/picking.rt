@@ -1,6 +1,7 @@
 // The work of the instructions that pick lanes: PINSRW, PSHUFW, PEXTRW, PMOVMSKB and MASKMOVQ. What they leave is computed when the work is made.
 ghost use Rattle.std.specs.Prelude.{◌≡◌, ◌/◌, ◌^◌, get_or};
 ghost use Rattle.codec.specs.inner.Fields.{Registers};
+ghost use Rattle.works.specs.Answers.{work_in};
 ghost use Rattle.machine.specs.inner.Picks.{picked_of, picked_work, extracted_of, extract_work, mask_work};
 
 use crate::addresses;
@@ -8,8 +9,8 @@ use crate::operands::AT_EDI;
 use codec::Operand;
 use codec::forms::{EXTRACT, FORM, INSERT};
 use lanes::MOVE;
-use works::refusals::OUTSIDE_MEMORY;
-use works::{OPERATE, QUADWORD, STORE, TO_INTEGER, Work, refused, work_of};
+use refusals::Refusal;
+use works::{OPERATE, QUADWORD, STORE, TO_INTEGER, Work, work_of};
 
 // What PINSRW or PSHUFW, by its entry, leaves of the old register, the operand's number and the immediate.
 fn picked_of(entry: u32, old: u64, value: u64, immediate: u32) -> u64
@@ -29,13 +30,11 @@ pub(crate) fn picked(entry: u32, old: u64, immediate: u32, work: Work) -> Work
     if what != OPERATE {
         return work;
     }
-    work_of(
-        OPERATE,
-        MOVE,
-        work.place,
-        picked_of(entry, old, work.value, immediate),
-        work.next,
-    )
+    Work {
+        number: MOVE,
+        value: picked_of(entry, old, work.value, immediate),
+        ..work
+    }
 }
 
 // What PEXTRW or PMOVMSKB, by its entry, leaves of an MMX register.
@@ -62,21 +61,22 @@ pub(crate) fn extracted(entry: u32, value: u64, immediate: u32, register: u8, ne
 }
 
 // The work of MASKMOVQ: all eight bytes at EDI are stored, those that the mask leaves out as they were.
+#[tactic(auto, using(crate::proofs::laws::picking::Making::picking))]
 pub(crate) fn masked(
     mmx: &[u64; 8],
     integers: &[u32; 8],
     operand: Operand,
     next: usize,
     memory: &[u8],
-) -> Work
+) -> Result<Work, Refusal>
     requires { Registers operand }
-    ensures { result ≡ mask_work integers.now memory.now (get_or mmx.now operand.reg 0) (get_or mmx.now operand.rm 0) next }
+    ensures { work_in result ≡ mask_work integers.now memory.now (get_or mmx.now operand.reg 0) (get_or mmx.now operand.rm 0) next }
 {
     let address = addresses::address_of(integers, AT_EDI) as usize;
     if works::is_inside(memory.len(), address, QUADWORD as usize) {
         let old = words::load(memory, address, QUADWORD as usize);
         let blended = lanes::blend(old, mmx[operand.reg as usize], mmx[operand.rm as usize]);
-        return work_of(STORE, QUADWORD, address, blended, next);
+        return Ok(work_of(STORE, QUADWORD, address, blended, next));
     }
-    refused(OUTSIDE_MEMORY)
+    Err(Refusal::OutsideMemory)
 }

@@ -2,6 +2,7 @@
 // instruction.
 ghost use Rattle.std.specs.Prelude.{◌≡◌, ◌≤◌, length};
 ghost use Rattle.codec.specs.Reads.{longest_code};
+ghost use Rattle.works.specs.Bars.{number_in};
 ghost use Rattle.manual.specs.State.{longest_memory};
 ghost use Rattle.manual.specs.Steps.{step_at};
 ghost use Rattle.manual.specs.Runs.{run_of};
@@ -10,10 +11,19 @@ ghost use Rattle.machine.specs.Steps.{paper_of_step};
 ghost use Rattle.machine.specs.Runs.{paper_of_run};
 ghost use Rattle.machine.specs.inner.Runs.{remaining};
 
-use crate::refusals::{FLOOR_TOO_HIGH, LONGEST_MEMORY, MEMORY_TOO_LONG};
-use crate::{End, Machine, Ran, Stepped, Taken, stepping};
+use crate::{End, LONGEST_MEMORY, Machine, Ran, Stepped, stepping};
 use codec::LONGEST_CODE;
 use refusals::Refusal;
+
+// The number of a refusal if there is one, or 0.
+fn number_in(bar: Option<Refusal>) -> u8
+    ensures { result ≡ number_in bar }
+{
+    match bar {
+        Some(refusal) => refusal.number(),
+        None => 0,
+    }
+}
 
 impl Machine {
     // The instructions from a position on, where memory, floor and code are within their limits: steps over lent registers, as many as the budget
@@ -34,23 +44,23 @@ impl Machine {
         let mut integers = self.integers;
         let mut marks = self.marks;
         let bar = works::barred(marks);
-        let quick = works::table(bar);
+        let quick = works::table(number_in(bar));
         let mut at = start;
         let mut remaining = budget;
         while at < code.len() {
             if remaining == 0 {
                 return Ran {
                     end: End::Spent,
-                    at: at,
+                    at,
                     count: budget,
                     machine: Machine {
-                        mmx: mmx,
-                        integers: integers,
-                        marks: marks,
+                        mmx,
+                        integers,
+                        marks,
                     },
                 };
             }
-            let moved = stepping::advance(
+            let moved = match stepping::advance(
                 &table,
                 &quick,
                 &mut mmx,
@@ -62,33 +72,34 @@ impl Machine {
                 at,
                 memory,
                 floor,
-            );
-            let refusal = moved.refusal;
+            ) {
+                Ok(moved) => moved,
+                Err(refusal) => {
+                    return Ran {
+                        end: End::Refused(refusal),
+                        at,
+                        count: budget - remaining,
+                        machine: Machine {
+                            mmx,
+                            integers,
+                            marks,
+                        },
+                    };
+                }
+            };
             at = moved.next;
-            if refusal != 0 {
-                return Ran {
-                    end: End::Refused(refusal),
-                    at: at,
-                    count: budget - remaining,
-                    machine: Machine {
-                        mmx: mmx,
-                        integers: integers,
-                        marks: marks,
-                    },
-                };
-            }
             marks.valid = moved.valid;
             marks.zero = moved.zero;
             remaining -= 1;
         }
         Ran {
             end: End::Done,
-            at: at,
+            at,
             count: budget - remaining,
             machine: Machine {
-                mmx: mmx,
-                integers: integers,
-                marks: marks,
+                mmx,
+                integers,
+                marks,
             },
         }
     }
@@ -100,7 +111,7 @@ impl Machine {
     {
         if LONGEST_MEMORY < memory.len() {
             return Ran {
-                end: End::Refused(MEMORY_TOO_LONG),
+                end: End::Refused(Refusal::MemoryTooLong.number()),
                 at: 0,
                 count: 0,
                 machine: self,
@@ -108,7 +119,7 @@ impl Machine {
         }
         if memory.len() < floor {
             return Ran {
-                end: End::Refused(FLOOR_TOO_HIGH),
+                end: End::Refused(Refusal::FloorTooHigh.number()),
                 at: 0,
                 count: 0,
                 machine: self,
@@ -132,43 +143,41 @@ impl Machine {
     {
         if LONGEST_MEMORY < memory.len() {
             return Stepped {
-                answer: Taken::Refused(MEMORY_TOO_LONG),
+                answer: Err(Refusal::MemoryTooLong.number()),
                 machine: self,
-                at: at,
+                at,
             };
         }
         if memory.len() < floor {
             return Stepped {
-                answer: Taken::Refused(FLOOR_TOO_HIGH),
+                answer: Err(Refusal::FloorTooHigh.number()),
                 machine: self,
-                at: at,
+                at,
             };
         }
         if LONGEST_CODE < code.len() {
             return Stepped {
-                answer: Taken::Refused(Refusal::CodeTooLong.number()),
+                answer: Err(Refusal::CodeTooLong.number()),
                 machine: self,
-                at: at,
+                at,
             };
         }
         if code.len() <= at {
             return Stepped {
-                answer: Taken::Refused(Refusal::CodeEnds.number()),
+                answer: Err(Refusal::CodeEnds.number()),
                 machine: self,
-                at: at,
+                at,
             };
         }
         let ran = self.run_from(code, at, memory, floor, 1);
         let machine = ran.machine;
-        let end = ran.end;
-        let answer = match end {
-            End::Done => Taken::Completed,
-            End::Spent => Taken::Completed,
-            End::Refused(refusal) => Taken::Refused(refusal),
+        let answer = match ran.end {
+            End::Done | End::Spent => Ok(()),
+            End::Refused(refusal) => Err(refusal),
         };
         Stepped {
-            answer: answer,
-            machine: machine,
+            answer,
+            machine,
             at: ran.at,
         }
     }

@@ -10,8 +10,7 @@ ghost use Rattle.printout.specs.Printing.{printing, printed};
 ghost use Rattle.player.specs.Page.{answer_text, run_in, page_text};
 
 use codec::LONGEST_CODE;
-use machine::Machine;
-use machine::refusals::LONGEST_MEMORY;
+use machine::{LONGEST_MEMORY, Machine};
 use refusals::Refusal;
 
 // The instructions that a page may run.

@@ -4,7 +4,7 @@ ghost use Rattle.printout.specs.Lines.{answer};
 ghost use Rattle.printout.specs.inner.Room.{report_length};
 
 use crate::put::decimal_places;
-use machine::refusals::LONGEST_MEMORY;
+use machine::LONGEST_MEMORY;
 use machine::{End, Ran};
 
 // The characters of `done`, `spent` and `refused `, and of a line end.

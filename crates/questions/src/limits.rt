@@ -1,7 +1,7 @@
 // The limits: the longest memory and code, one byte more, and as many instructions as the budget has.
 use crate::cases::{ask_all, ask_in};
 use codec::LONGEST_CODE;
-use machine::refusals::LONGEST_MEMORY;
+use machine::LONGEST_MEMORY;
 use std::io;
 use std::io::Write;
 

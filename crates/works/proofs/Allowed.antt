@@ -1,12 +1,14 @@
 -- Any two answers that a contract allows at one input are equal: both are what the definition says; and so is what they leave in what is lent.
-use Rattle.std.specs.Prelude.{◌≡◌}
+use Rattle.std.specs.Prelude.{◌≡◌, Option, Some, None, Result, Ok, Err}
 use Rattle.basis.proofs.Names.{sym, ap, ◌∙◌}
 use contract.Lifetimes.{Lfts}
 use borrow.Fn.Kinds.{Dens, res_t, ended_of}
 use denote.Triple.Clauses.{AtExit}
-use Rattle.works.specs.declared.jumps.Target.{Target}
-use Rattle.works.specs.declared.jumps.Target.TheVariants.{At, Refused}
-use Rattle.works.specs.Jumps.{paper_of_target}
+use Rattle.refusals.proofs.Distinct.{distinct}
+use Rattle.works.proofs.Numbered.{numbered}
+use Rattle.refusals.specs.declared.Refusal.{Refusal}
+use Rattle.works.specs.Answers.{paper_of}
+use Rattle.works.specs.Bars.{number_in}
 use Rattle.works.specs.Works.{Left}
 use Rattle.works.proofs.work_of.Reads as work_of_reads
 use Rattle.works.proofs.work_of.Kinds as work_of_kinds
@@ -41,10 +43,17 @@ pub refused_one : (κs : Lfts 0) (a : Dens κs refused_kinds.ps) (r₁ r₂ : (r
     → refused_reads.Post κs a r₁ s₁ → refused_reads.Post κs a r₂ s₂ → r₁ ≡ r₂
 refused_one κs a r₁ r₂ s₁ s₂ p q = p ∙ sym q
 
+-- no refusal has number 0
+bar_one : (x y : Option Refusal) → number_in x ≡ number_in y → x ≡ y
+bar_one None None e = cc
+bar_one None (Some s) e = absurd (numbered s (sym e))
+bar_one (Some r) None e = absurd (numbered r e)
+bar_one (Some r) (Some s) e = ap Some (distinct r s e)
+
 pub barred_one : (κs : Lfts 0) (a : Dens κs barred_kinds.ps) (r₁ r₂ : (res_t barred_kinds.r κs).Denot)
     (s₁ s₂ : AtExit (ended_of 0 barred_kinds.ps barred_kinds.r) κs)
     → barred_reads.Post κs a r₁ s₁ → barred_reads.Post κs a r₂ s₂ → r₁ ≡ r₂
-barred_one κs a r₁ r₂ s₁ s₂ p q = p ∙ sym q
+barred_one κs a r₁ r₂ s₁ s₂ p q = bar_one r₁ r₂ (p ∙ sym q)
 
 pub table_one : (κs : Lfts 0) (a : Dens κs table_kinds.ps) (r₁ r₂ : (res_t table_kinds.r κs).Denot)
     (s₁ s₂ : AtExit (ended_of 0 table_kinds.ps table_kinds.r) κs)
@@ -56,29 +65,30 @@ pub is_inside_one : (κs : Lfts 0) (a : Dens κs is_inside_kinds.ps) (r₁ r₂ 
     → is_inside_reads.Post κs a r₁ s₁ → is_inside_reads.Post κs a r₂ s₂ → r₁ ≡ r₂
 is_inside_one κs a r₁ r₂ s₁ s₂ p q = p ∙ sym q
 
-target_one : (x y : Target) → paper_of_target x ≡ paper_of_target y → x ≡ y
-target_one (At a) (At b) e = cc
-target_one (At a) (Refused n) e = cc
-target_one (Refused m) (At b) e = cc
-target_one (Refused m) (Refused n) e = cc
+-- the paper's answer gives back the code's
+pub answer_one : {A : Type 0} (x y : Result A Refusal) → paper_of x ≡ paper_of y → x ≡ y
+answer_one (Ok a) (Ok b) e = cc
+answer_one (Ok a) (Err s) e = cc
+answer_one (Err r) (Ok b) e = cc
+answer_one (Err r) (Err s) e = ap Err (distinct r s (cc))
 
 pub target_of_one : (κs : Lfts 0) (a : Dens κs target_of_kinds.ps) (r₁ r₂ : (res_t target_of_kinds.r κs).Denot)
     (s₁ s₂ : AtExit (ended_of 0 target_of_kinds.ps target_of_kinds.r) κs)
     → target_of_reads.Post κs a r₁ s₁ → target_of_reads.Post κs a r₂ s₂ → r₁ ≡ r₂
-target_of_one κs a r₁ r₂ s₁ s₂ p q = target_one r₁ r₂ (p ∙ sym q)
+target_of_one κs a r₁ r₂ s₁ s₂ p q = answer_one r₁ r₂ (p ∙ sym q)
 
 pub miss_of_one : (κs : Lfts 0) (a : Dens κs miss_of_kinds.ps) (r₁ r₂ : (res_t miss_of_kinds.r κs).Denot)
     (s₁ s₂ : AtExit (ended_of 0 miss_of_kinds.ps miss_of_kinds.r) κs)
     → miss_of_reads.Post κs a r₁ s₁ → miss_of_reads.Post κs a r₂ s₂ → r₁ ≡ r₂
-miss_of_one κs a r₁ r₂ s₁ s₂ p q = p ∙ sym q
+miss_of_one κs a r₁ r₂ s₁ s₂ p q = distinct r₁ r₂ (p ∙ sym q)
 
 pub perform_one : (κs : Lfts 3) (a : Dens κs perform_kinds.ps) (r₁ r₂ : (res_t perform_kinds.r κs).Denot)
     (s₁ s₂ : AtExit (ended_of 3 perform_kinds.ps perform_kinds.r) κs)
     → perform_reads.Post κs a r₁ s₁ → perform_reads.Post κs a r₂ s₂
-    → (r₁ ≡ r₂) × ((s₁.1.0.now ≡ s₂.1.0.now) × ((s₁.1.1.0.now ≡ s₂.1.1.0.now) × (s₁.1.1.1.1.1.1.0.now ≡ s₂.1.1.1.1.1.1.0.now)))
+    → (r₁ ≡ r₂) × ((s₁.1.0.now ≡ s₂.1.0.now) × ((s₁.1.1.0.now ≡ s₂.1.1.0.now) × (s₁.1.1.1.1.1.0.now ≡ s₂.1.1.1.1.1.0.now)))
 perform_one κs a r₁ r₂ s₁ s₂ p q =
     let same = p ∙ sym q in
-    (ap (λ (x : Left). x.moved) same, (ap (λ (x : Left). x.mmx) same, (ap (λ (x : Left). x.integers) same, ap (λ (x : Left). x.memory) same)))
+    (ap (λ (x : Left). x.answer) same, (ap (λ (x : Left). x.mmx) same, (ap (λ (x : Left). x.integers) same, ap (λ (x : Left). x.memory) same)))
 
 pub of_suffix_one : (κs : Lfts 0) (a : Dens κs of_suffix_kinds.ps) (r₁ r₂ : (res_t of_suffix_kinds.r κs).Denot)
     (s₁ s₂ : AtExit (ended_of 0 of_suffix_kinds.ps of_suffix_kinds.r) κs)
@@ -88,7 +98,7 @@ of_suffix_one κs a r₁ r₂ s₁ s₂ p q = p ∙ sym q
 pub suffixed_one : (κs : Lfts 0) (a : Dens κs suffixed_kinds.ps) (r₁ r₂ : (res_t suffixed_kinds.r κs).Denot)
     (s₁ s₂ : AtExit (ended_of 0 suffixed_kinds.ps suffixed_kinds.r) κs)
     → suffixed_reads.Post κs a r₁ s₁ → suffixed_reads.Post κs a r₂ s₂ → r₁ ≡ r₂
-suffixed_one κs a r₁ r₂ s₁ s₂ p q = p ∙ sym q
+suffixed_one κs a r₁ r₂ s₁ s₂ p q = answer_one r₁ r₂ (p ∙ sym q)
 
 pub extended_one : (κs : Lfts 0) (a : Dens κs extended_kinds.ps) (r₁ r₂ : (res_t extended_kinds.r κs).Denot)
     (s₁ s₂ : AtExit (ended_of 0 extended_kinds.ps extended_kinds.r) κs)

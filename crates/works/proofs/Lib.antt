@@ -1,8 +1,4 @@
--- The laws of the tests, of jumps, of misses, of what does a work and of suffixes, and the theorems that each contract allows one answer.
-pub mod Testing
-pub mod Jumping
-pub mod Missing
-pub mod Ending
-pub mod Extending
+-- The laws of suffixes; no refusal has number 0; and the theorems that each contract allows one answer.
+pub mod Numbered
 pub mod Answering
 pub mod Allowed

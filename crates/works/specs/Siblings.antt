@@ -2,6 +2,7 @@
 use Rattle.std.specs.Prelude.{cond, ℕ, eqb, Option, Some, None}
 use Rattle.lanes.specs.Operations.{described, MOVE, PAVGB}
 use Rattle.singles.specs.Siblings.{Sibling, PF2IW, PI2FW, PSWAPD, PAVGUSB, PFCMPGT, PFMAX, leave}
+use Rattle.reorder.specs.Result.{Result, done, refused}
 use Rattle.codec.specs.Opcodes.{suffixed_of}
 use Rattle.manual.specs.Refusals.{half_unsupported}
 use Rattle.works.specs.declared.Work.{Work}
@@ -37,3 +38,13 @@ sibling_work x old source place next = answered_work (operation_left x) (value_l
 abbrev pub suffixed_work : ℕ → ℕ → Work → Work
 suffixed_work suffix old work =
     cond (eqb work.what to_operate) (sibling_work (suffixed_of suffix).sibling old work.value work.place work.next) work
+
+-- the same as the paper's answer: a work, or 22
+abbrev pub answered : ℕ → Option ℕ → ℕ → ℕ → Result Work
+answered number (Some value) place next = done (work_of to_operate number place value next)
+answered number None place next = refused half_unsupported
+
+abbrev pub suffixed_answer : ℕ → ℕ → Work → Result Work
+suffixed_answer suffix old work =
+    let x = (suffixed_of suffix).sibling in
+    cond (eqb work.what to_operate) (answered (operation_left x) (value_left x old work.value) work.place work.next) (done work)

@@ -1,5 +1,5 @@
 -- What remains to be done of an instruction, as plain numbers, and what doing it leaves.
-use Rattle.std.specs.Prelude.{Bool, true, false, cond, List, ℕ, ◌%◌, ◌^◌, eqb, leb, get_or, set}
+use Rattle.std.specs.Prelude.{Result, Ok, Err, Bool, true, false, cond, List, ℕ, ◌%◌, ◌^◌, eqb, leb, get_or, set}
 use Rattle.lanes.specs.Operations.{operation_of, operate}
 use Rattle.words.specs.Buffer.{stored}
 use Rattle.manual.specs.Refusals.{below_floor}
@@ -39,32 +39,32 @@ refused_work refusal = work_of to_refuse refusal 0 0 0
 
 -- how a step ended, and what is then in the registers and in the memory
 pub record Left : Type 0 where
-  pub moved : Moved
+  pub answer : Result Moved ℕ
   pub mmx : List ℕ
   pub integers : List ℕ
   pub memory : List ℕ
 
-abbrev pub left : Moved → List ℕ → List ℕ → List ℕ → Left
-left moved registers integers memory = record { moved = moved; mmx = registers; integers = integers; memory = memory }
+abbrev pub left : Result Moved ℕ → List ℕ → List ℕ → List ℕ → Left
+left answer registers integers memory = record { answer = answer; mmx = registers; integers = integers; memory = memory }
 
--- a refusal or 0, where the run goes on, the tag mark and the zero mark
-abbrev pub moved_to : ℕ → ℕ → Bool → Bool → Moved
-moved_to refusal next valid zero = record { refusal = refusal; next = next; valid = valid; zero = zero }
+-- where the run goes on, the tag mark and the zero mark
+abbrev pub moved_to : ℕ → Bool → Bool → Result Moved ℕ
+moved_to next valid zero = Ok (record { next = next; valid = valid; zero = zero })
 
--- what a work leaves over a floor, at a position, with these two marks: an operation on an MMX register, a store, a move to an integer register, the
--- tag mark set empty, nothing, an integer register set, the same with the zero mark, or a refusal
-unfoldable pub left_by : Work → ℕ → ℕ → Bool → Bool → List ℕ → List ℕ → List ℕ → Left
-left_by work floor at valid zero registers integers memory =
+-- what a work leaves over a floor, with these two marks: an operation on an MMX register, a store, a move to an integer register, the tag mark set
+-- empty, nothing, an integer register set, the same with the zero mark, or a refusal
+unfoldable pub left_by : Work → ℕ → Bool → Bool → List ℕ → List ℕ → List ℕ → Left
+left_by work floor valid zero registers integers memory =
     let register = work.place % 8 in
     let low = work.value % 2 ^ 32 in
     cond (eqb work.what to_operate)
-    (left (moved_to 0 work.next true zero) (set registers register (operate (operation_of work.number) (get_or registers register 0) work.value)) integers memory)
+    (left (moved_to work.next true zero) (set registers register (operate (operation_of work.number) (get_or registers register 0) work.value)) integers memory)
     (cond (eqb work.what to_store)
-    (cond (leb floor work.place) (left (moved_to 0 work.next true zero) registers integers (stored memory work.place work.number work.value))
-    (left (moved_to below_floor at true zero) registers integers memory))
-    (cond (eqb work.what to_integer) (left (moved_to 0 work.next true zero) registers (set integers register low) memory)
-    (cond (eqb work.what to_empty) (left (moved_to 0 work.next false zero) registers integers memory)
-    (cond (eqb work.what to_pass) (left (moved_to 0 work.next valid zero) registers integers memory)
-    (cond (eqb work.what to_set) (left (moved_to 0 work.next valid zero) registers (set integers register low) memory)
-    (cond (eqb work.what to_count) (left (moved_to 0 work.next valid (eqb low 0)) registers (set integers register low) memory)
-    (left (moved_to work.number at true zero) registers integers memory)))))))
+    (cond (leb floor work.place) (left (moved_to work.next true zero) registers integers (stored memory work.place work.number work.value))
+    (left (Err below_floor) registers integers memory))
+    (cond (eqb work.what to_integer) (left (moved_to work.next true zero) registers (set integers register low) memory)
+    (cond (eqb work.what to_empty) (left (moved_to work.next false zero) registers integers memory)
+    (cond (eqb work.what to_pass) (left (moved_to work.next valid zero) registers integers memory)
+    (cond (eqb work.what to_set) (left (moved_to work.next valid zero) registers (set integers register low) memory)
+    (cond (eqb work.what to_count) (left (moved_to work.next valid (eqb low 0)) registers (set integers register low) memory)
+    (left (Err work.number) registers integers memory)))))))

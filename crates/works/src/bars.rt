@@ -1,27 +1,28 @@
-// The control marks, by the one number that they refuse by, and the table that goes with it.
+// The control marks, by the one refusal that they give, and the table that goes with it.
 ghost use Rattle.std.specs.Prelude.{◌≡◌};
-ghost use Rattle.works.specs.Bars.{barred_by, open_table};
+ghost use Rattle.works.specs.Bars.{number_in, barred_by, open_table};
 
-use crate::refusals::{INVALID_OPCODE, IS_PENDING, NOT_AVAILABLE};
 use manual::Marks;
+use refusals::Refusal;
 
-// The refusal of the control marks, EM before TS before pending, or 0.
-pub fn barred(marks: Marks) -> u8
-    ensures { result ≡ barred_by marks }
+// The refusal of the control marks, EM before TS before pending, if they refuse.
+#[tactic(auto, unfolding(crate::specs::Bars::barred_by))]
+pub fn barred(marks: Marks) -> Option<Refusal>
+    ensures { number_in result ≡ barred_by marks }
 {
     if marks.em {
-        return INVALID_OPCODE;
+        Some(Refusal::InvalidOpcode)
+    } else if marks.ts {
+        Some(Refusal::NotAvailable)
+    } else if marks.pending {
+        Some(Refusal::IsPending)
+    } else {
+        None
     }
-    if marks.ts {
-        return NOT_AVAILABLE;
-    }
-    if marks.pending {
-        return IS_PENDING;
-    }
-    0
 }
 
-// Our table, or under control marks that refuse one without entries, so that no instruction has to ask for the marks.
+// Our table, or under control marks that refuse (their refusal's number, or 0) one without entries, so that no instruction has to ask for the marks.
+#[tactic(auto, unfolding(crate::specs::Bars::open_table))]
 pub fn table(bar: u8) -> [u32; 256]
     ensures { result ≡ open_table bar }
 {

@@ -1,53 +1,42 @@
 // Where a jump leads.
 ghost use Rattle.std.specs.Prelude.{◌≡◌, cond, ◌+◌, leb};
 ghost use Rattle.manual.specs.Jumps.{jumped};
-ghost use Rattle.works.specs.Jumps.{paper_of_target};
+ghost use Rattle.works.specs.Answers.{paper_of_target};
 
-use crate::refusals::JUMPS_OUTSIDE;
+use refusals::Refusal;
 
 // The least byte that stands for a negative displacement, and how many values a displacement has.
 const SIGN: u32 = 128;
 
 const DISPLACEMENTS: usize = 256;
 
-// Where a run goes on: at a position, or the refusal of a jump.
-#[derive(Clone, Copy)]
-pub enum Target {
-    At(usize),
-    Refused(u8),
-}
-
 // 256 more than a signed byte.
 fn raised(byte: u32) -> usize
     ensures { result ≡ cond (leb 128 byte) byte (byte + 256) }
 {
     if byte < SIGN {
-        return byte as usize + DISPLACEMENTS;
+        byte as usize + DISPLACEMENTS
+    } else {
+        byte as usize
     }
-    byte as usize
 }
 
 // Where a jump by a signed byte leads, with the position behind it, in a code of so many bytes.
-pub fn target_of(length: usize, behind: usize, displacement: u32) -> Target
+#[tactic(auto, unfolding(manual::specs::Jumps::jumped))]
+pub fn target_of(length: usize, behind: usize, displacement: u32) -> Result<usize, Refusal>
     ensures { paper_of_target result ≡ jumped length behind displacement }
 {
     let ahead = raised(displacement);
     if ahead < DISPLACEMENTS {
         let back = DISPLACEMENTS - ahead;
-        if behind < back {
-            return Target::Refused(JUMPS_OUTSIDE);
+        if behind < back || length < behind - back {
+            return Err(Refusal::JumpsOutside);
         }
-        if length < behind - back {
-            return Target::Refused(JUMPS_OUTSIDE);
-        }
-        return Target::At(behind - back);
+        return Ok(behind - back);
     }
     let forward = ahead - DISPLACEMENTS;
-    if length < forward {
-        return Target::Refused(JUMPS_OUTSIDE);
+    if length < forward || length - forward < behind {
+        return Err(Refusal::JumpsOutside);
     }
-    if length - forward < behind {
-        return Target::Refused(JUMPS_OUTSIDE);
-    }
-    Target::At(behind + forward)
+    Ok(behind + forward)
 }

@@ -7,7 +7,6 @@ mod inside;
 mod jumps;
 mod misses;
 mod performing;
-pub mod refusals;
 mod siblings;
 mod signs;
 
@@ -16,7 +15,7 @@ ghost use Rattle.works.specs.Works.{work_of, refused_work};
 
 pub use bars::{barred, table};
 pub use inside::is_inside;
-pub use jumps::{Target, target_of};
+pub use jumps::target_of;
 pub use misses::miss_of;
 pub use performing::{Moved, perform};
 pub use siblings::{of_suffix, suffixed};
@@ -32,7 +31,7 @@ pub(crate) const DOUBLEWORD_RANGE: u64 = 0x100000000;
 
 // What remains of an instruction: what to do, with a number (the operation, the bytes to store, or the refusal), a place (the register, or the
 // address) and a value, and the position where the run goes on.
-#[derive(Clone, Copy)]
+#[derive(Clone, Copy, PartialEq, Eq, Debug)]
 pub struct Work {
     pub what: u8,
     pub number: u8,
@@ -69,11 +68,11 @@ pub fn work_of(what: u8, number: u8, place: usize, value: u64, next: usize) -> W
     ensures { result ≡ work_of what number place value next }
 {
     Work {
-        what: what,
-        number: number,
-        place: place,
-        value: value,
-        next: next,
+        what,
+        number,
+        place,
+        value,
+        next,
     }
 }
 

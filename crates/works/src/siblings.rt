@@ -1,12 +1,13 @@
 // What remains of one of 3DNow's instructions, by its suffix: an operation on its register, or it is refused.
 ghost use Rattle.std.specs.Prelude.{◌≡◌};
 ghost use Rattle.codec.specs.Opcodes.{suffixed_of};
-ghost use Rattle.works.specs.Siblings.{value_left, operation_left, sibling_work, suffixed_work};
+ghost use Rattle.works.specs.Answers.{paper_of};
+ghost use Rattle.works.specs.Siblings.{value_left, operation_left, sibling_work, suffixed_answer};
 
-use crate::refusals::HALF_UNSUPPORTED;
 use crate::{OPERATE, Work, refused, work_of};
 use codec::suffixes::{PAVGUSB, PF2IW, PFCMPGT, PI2FW, PSWAPD};
 use lanes::{MOVE, PAVGB};
+use refusals::Refusal;
 
 // What a suffix leaves of what its register held and of the operand's number; PAVGUSB's is the number itself, for PAVGB.
 #[tactic(auto, using(crate::proofs::Answering::answering))]
@@ -38,17 +39,24 @@ pub fn of_suffix(suffix: u32, old: u64, source: u64, place: usize, next: usize) 
 {
     match answer_of(suffix, old, source) {
         Some(value) => work_of(OPERATE, operation_of(suffix), place, value, next),
-        None => refused(HALF_UNSUPPORTED),
+        None => refused(Refusal::HalfUnsupported.number()),
     }
 }
 
-// The same, from a work that has the operand's number, unless that is refused.
+// The same, from a work that has the operand's number; another stays as it is.
 #[tactic(auto, using(crate::proofs::Answering::answering))]
-pub fn suffixed(suffix: u32, old: u64, work: Work) -> Work
-    ensures { result ≡ suffixed_work suffix old work }
+pub fn suffixed(suffix: u32, old: u64, work: Work) -> Result<Work, Refusal>
+    ensures { paper_of result ≡ suffixed_answer suffix old work }
 {
     if work.what != OPERATE {
-        return work;
+        return Ok(work);
     }
-    of_suffix(suffix, old, work.value, work.place, work.next)
+    match answer_of(suffix, old, work.value) {
+        Some(value) => Ok(Work {
+            number: operation_of(suffix),
+            value,
+            ..work
+        }),
+        None => Err(Refusal::HalfUnsupported),
+    }
 }

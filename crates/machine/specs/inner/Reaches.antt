@@ -1,7 +1,7 @@
 -- The footprint as the program makes it, in masks and ranges: first where an operand is, then what each way reads and writes.
 use Rattle.std.specs.Prelude.{◌≡◌, false, cond, List, [], ℕ, ◌^◌, eqb}
 use Rattle.basis.specs.Names.{bit_or}
-use Rattle.reorder.specs.Result.{Result, done, refused, map_result}
+use Rattle.reorder.specs.Result.{Result, done, map_result}
 use Rattle.reorder.specs.Footprint.{footprint_in}
 use Rattle.codec.specs.declared.Kind.TheVariants.{Ordinary, Emms, Silent}
 use Rattle.codec.specs.declared.Operand.{Operand}
@@ -13,8 +13,9 @@ use Rattle.manual.specs.Effects.{Effect, placed, via}
 use Rattle.manual.specs.inner.Unmarked.{directly}
 use Rattle.machine.specs.declared.Places.{Places}
 use Rattle.machine.specs.declared.Footprint.{Footprint}
+use Rattle.machine.specs.declared.operands.Spot.{Spot}
+use Rattle.machine.specs.declared.operands.Spot.TheVariants.{Mmx, Integer, Bytes}
 use Rattle.machine.specs.declared.reaches.Reach.{Reach}
-use Rattle.machine.specs.declared.reaches.Reach.TheVariants.{Inside, Refused}
 use Rattle.machine.specs.declared.ways.Way.{Way}
 use Rattle.machine.specs.declared.ways.Way.TheVariants.{Empties, Passes, Shifts, Extracts, Stores, Loads, Computes, Suffixes, Inserts, Shuffles, Masks}
 use Rattle.machine.specs.Footprints.{mask, set_of, masked}
@@ -36,10 +37,15 @@ abbrev pub through : ℕ → Places → Places
 through registers p =
     record { mmx = p.mmx; integers = bit_or registers p.integers; start = p.start; length = p.length; zero = p.zero }
 
+-- the places of an operand, where the code has found it
+abbrev pub places_at : Spot → Places
+places_at (Mmx k) = beside k nowhere
+places_at (Integer k) = integer_alone k
+places_at (Bytes a size) = record { mmx = 0; integers = 0; start = a; length = size; zero = false }
+
 -- an operand's address registers and places, or its refusal
-abbrev pub reach_of : Location → Result (List Place) → Reach
-reach_of x (done places) = Inside (mask (registers_behind x)) (set_of places)
-reach_of x (refused n) = Refused n
+abbrev pub reach_of : Location → Result (List Place) → Result Reach
+reach_of x places = map_result (λ ps. record { registers = mask (registers_behind x); places = set_of ps }) places
 
 -- the mask of the address registers of the operand of r/m: none at mod 11
 abbrev pub behind : Operand → ℕ

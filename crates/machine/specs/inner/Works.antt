@@ -1,10 +1,11 @@
 -- The parts of the code's step in the words of the definitions: lent registers with marks are a machine, what remains to be done leaves a
 -- state, and how a step ended is an outcome.
-use Rattle.std.specs.Prelude.{◌≢◌, ◌≡◌, Bool, true, cond, List, [], ◌∷◌, ℕ, ◌/◌, ◌%◌, ◌^◌, ◌<◌, ◌≤◌, eqb, leb, length, get_or}
+use Rattle.std.specs.Prelude.{◌≡◌, Bool, Ok, Err, true, cond, List, [], ◌∷◌, ℕ, ◌/◌, ◌%◌, ◌^◌, ◌<◌, ◌≤◌, eqb, leb, length, get_or}
+use Rattle.std.specs.Prelude as code
 use Rattle.basis.specs.Names.{Option, none, some}
 use Rattle.lanes.specs.Operations.{Operation, operation_of, operate, described, MOVE, PINSRW, PSHUFW, PEXTRW, PMOVMSKB, MASKMOVQ}
 use Rattle.words.specs.Buffer.{loaded, stored}
-use Rattle.reorder.specs.Result.{Result}
+use Rattle.reorder.specs.Result.{Result, done, refused}
 use Rattle.codec.specs.Forms.{Form, forms, is_among, memory_size}
 use Rattle.codec.specs.Opcodes.{find}
 use Rattle.codec.specs.Table.{form_of}
@@ -26,7 +27,7 @@ use Rattle.works.specs.Bars.{barred_by}
 use Rattle.works.specs.Works.{to_operate, to_store, to_integer, to_empty, to_pass, to_set, to_count, work_of, refused_work, Left, left}
 use Rattle.machine.specs.declared.Machine.{Machine}
 use Rattle.machine.specs.declared.operands.Spot.{Spot}
-use Rattle.machine.specs.declared.operands.Spot.TheVariants.{Mmx, Integer, Bytes, Refused}
+use Rattle.machine.specs.declared.operands.Spot.TheVariants.{Mmx, Integer, Bytes}
 use Rattle.machine.specs.State.{state_of}
 use Rattle.machine.specs.inner.Ways.{is_unstopped}
 
@@ -76,18 +77,22 @@ pub record Listed (entry : ℕ) : Type 0 where
   pub owns : (k : ℕ) → owned (entry / 2 ^ 24) ≡ some k → entry % 256 ≡ k
 
 -- a value is put where an operand is
-abbrev pub put_work : Spot → ℕ → ℕ → Work
-put_work (Mmx k) value next = work_of to_operate (described MOVE).number k value next
-put_work (Integer k) value next = work_of to_integer 0 k value next
-put_work (Bytes a size) value next = work_of to_store size a value next
-put_work (Refused n) value next = refused_work n
+abbrev pub put_work : Result Spot → ℕ → ℕ → Work
+put_work (done (Mmx k)) value next = work_of to_operate (described MOVE).number k value next
+put_work (done (Integer k)) value next = work_of to_integer 0 k value next
+put_work (done (Bytes a size)) value next = work_of to_store size a value next
+put_work (refused n) value next = refused_work n
 
--- an operation on a register, with the number that an operand has
-abbrev pub take_work : List ℕ → List ℕ → List ℕ → ℕ → ℕ → Spot → ℕ → Work
-take_work registers integers memory number place (Mmx k) next = work_of to_operate number place (get_or registers k 0) next
-take_work registers integers memory number place (Integer k) next = work_of to_operate number place (get_or integers k 0) next
-take_work registers integers memory number place (Bytes a size) next = work_of to_operate number place (loaded memory a size) next
-take_work registers integers memory number place (Refused n) next = refused_work n
+-- the number that an operand has
+abbrev pub value_in : List ℕ → List ℕ → List ℕ → Spot → ℕ
+value_in registers integers memory (Mmx k) = get_or registers k 0
+value_in registers integers memory (Integer k) = get_or integers k 0
+value_in registers integers memory (Bytes a size) = loaded memory a size
+
+-- an operation on a register, with that number
+abbrev pub take_work : List ℕ → List ℕ → List ℕ → ℕ → ℕ → Result Spot → ℕ → Work
+take_work registers integers memory number place (done x) next = work_of to_operate number place (value_in registers integers memory x) next
+take_work registers integers memory number place (refused n) next = refused_work n
 
 -- what a work comes to over a floor, at a position, in a state: an operation on an MMX register, a store, a move to an integer register, the tag mark
 -- set empty, nothing, an integer register set, the same with the zero mark, or a refusal
@@ -105,13 +110,12 @@ performed floor work at s =
     (cond (eqb work.what to_count) (completed work.next (put (put s (integer work.place) (work.value % 2 ^ 32)) zero_mark (cond (eqb (work.value % 2 ^ 32) 0) 1 0)))
     (refused_with work.number at s)))))))
 
--- the registers that it names are there, and a refusal has a number
+-- the registers that it names are there
 pub record Sound (work : Work) : Type 0 where
   pub operates : work.what ≡ to_operate → work.place < 8
   pub moves : work.what ≡ to_integer → work.place < 8
   pub sets : work.what ≡ to_set → work.place < 8
   pub counts : work.what ≡ to_count → work.place < 8
-  pub refuses : (work.what ≢ to_operate) → (work.what ≢ to_store) → (work.what ≢ to_integer) → (work.what ≢ to_empty) → (work.what ≢ to_pass) → (work.what ≢ to_set) → (work.what ≢ to_count) → work.number ≢ 0
 
 -- with these registers and this memory a work does what an effect does, whatever the floor, the marks and the position, and goes on as `further` says
 pub record Does (work : Work) (registers integers memory : List ℕ) (e : Effect) (further : Result ℕ) : Type 0 where
@@ -124,15 +128,17 @@ pub record Gathered (work : Work) (registers integers : List ℕ) (bar : ℕ) (z
   pub sound : Sound work
   pub steps : (floor : ℕ) → floor ≤ length memory → (marks : Marks) → bar ≡ barred_by marks → zero ≡ marks.zero → let s = state_of (machine_of registers integers marks) memory in performed floor work at s ≡ step_at floor code at s
 
--- what a step has left, as an outcome with these marks
-abbrev pub outcome_of : Marks → Left → Outcome
-outcome_of marks x =
-    cond (eqb x.moved.refusal 0)
-    (completed x.moved.next (state_of (machine_of x.mmx x.integers (renewed marks x.moved.valid x.moved.zero)) x.memory))
-    (refused_with x.moved.refusal x.moved.next (state_of (machine_of x.mmx x.integers marks) x.memory))
+-- what a step at a position has left, as an outcome with these marks
+abbrev outcome_by : Marks → ℕ → code.Result Moved ℕ → List ℕ → List ℕ → List ℕ → Outcome
+outcome_by marks at (Ok moved) registers integers memory =
+    completed moved.next (state_of (machine_of registers integers (renewed marks moved.valid moved.zero)) memory)
+outcome_by marks at (Err n) registers integers memory = refused_with n at (state_of (machine_of registers integers marks) memory)
+
+abbrev pub outcome_of : Marks → ℕ → Left → Outcome
+outcome_of marks at x = outcome_by marks at x.answer x.mmx x.integers x.memory
 
 -- a step that ended so, with what is then in the lent registers and memory, is the step over a floor at a position of the code, for all marks whose
 -- refusal is `bar`, whose tag mark is `valid` and whose zero mark is `zero`
-pub record Advanced (moved : Moved) (registers integers : List ℕ) (bar : ℕ) (valid zero : Bool) (code : List ℕ) (at : ℕ) (memory : List ℕ) (floor : ℕ) (registers' integers' memory' : List ℕ) : Type 0 where
+pub record Advanced (answer : code.Result Moved ℕ) (registers integers : List ℕ) (bar : ℕ) (valid zero : Bool) (code : List ℕ) (at : ℕ) (memory : List ℕ) (floor : ℕ) (registers' integers' memory' : List ℕ) : Type 0 where
   pub ends : (marks : Marks) → bar ≡ barred_by marks → valid ≡ marks.valid → zero ≡ marks.zero
-      → outcome_of marks (left moved registers' integers' memory') ≡ step_at floor code at (state_of (machine_of registers integers marks) memory)
+      → outcome_of marks at (left answer registers' integers' memory') ≡ step_at floor code at (state_of (machine_of registers integers marks) memory)

@@ -16,7 +16,6 @@ use Rattle.manual.proofs.Direct.{one}
 use Rattle.machine.specs.declared.Places.{Places}
 use Rattle.machine.specs.declared.Footprint.{Footprint}
 use Rattle.machine.specs.declared.reaches.Reach.{Reach}
-use Rattle.machine.specs.declared.reaches.Reach.TheVariants.{Inside, Refused}
 use Rattle.machine.specs.declared.ways.Way.{Way}
 use Rattle.machine.specs.declared.ways.Way.TheVariants.{Empties, Passes, Shifts, Extracts, Stores, Loads, Computes, Suffixes, Inserts, Shuffles, Masks}
 use Rattle.machine.specs.Footprints.{mask, set_of, masked}
@@ -29,9 +28,8 @@ set-through [] ps = simp or_zero_l
 set-through (k ∷ ks) ps = ap (through (2 ^ k)) (set-through ks ps) ∙ simp or_assoc
 
 -- a footprint by where the operand of r/m is
-abbrev pub traced_as : (ℕ → Places → Footprint) → Reach → Result Footprint
-traced_as made (Inside registers p) = done (made registers p)
-traced_as made (Refused n) = refused n
+abbrev pub traced_as : (ℕ → Places → Footprint) → Result Reach → Result Footprint
+traced_as made reach = map_result (λ r. made r.registers r.places) reach
 
 module _ (s : State) (w : Operand) (x : Location) where
   -- from these places, with this plan

@@ -2,7 +2,7 @@
 use Rattle.std.specs.Prelude.{◌≡◌, refl, Bool, true, false, cond, ℕ, ◌/◌, ◌^◌, length}
 use Rattle.basis.proofs.Names.{sym, ap, subst, ◌∙◌, arith, rules, or_zero_r}
 use Rattle.lanes.specs.Operations.{Operation, operate, operate_three}
-use Rattle.reorder.specs.Result.{done, refused}
+use Rattle.reorder.specs.Result.{Result, done, refused}
 use Rattle.codec.specs.Forms.{rm/mem, Form, memory_size}
 use Rattle.codec.specs.Table.{form_of}
 use Rattle.codec.specs.inner.Entries.{operation_in}
@@ -14,10 +14,8 @@ use Rattle.manual.specs.State.{State}
 use Rattle.manual.specs.Addresses.{displacement_of, base_of, address_of, address}
 use Rattle.manual.specs.Locations.{Location, rm_of, at_edi, lies_inside, places_of}
 use Rattle.manual.specs.Instructions.{kept_by, effect_by}
-use Rattle.machine.specs.declared.Places.{Places}
 use Rattle.machine.specs.declared.Footprint.{Footprint}
 use Rattle.machine.specs.declared.reaches.Reach.{Reach}
-use Rattle.machine.specs.declared.reaches.Reach.TheVariants.{Inside, Refused}
 use Rattle.machine.specs.declared.ways.Way.{Way}
 use Rattle.machine.specs.declared.ways.Way.TheVariants.{Empties, Passes, Shifts, Extracts, Stores, Loads, Computes, Suffixes, Inserts, Shuffles, Masks}
 use Rattle.machine.specs.inner.Reaches.{nowhere, reach_of, edi_operand, pointed_by, footprint_of_way, unmarked_footprint}
@@ -42,7 +40,7 @@ module _ (s : State) (entry : ℕ) (i : Instruction) where
   copied v = operate named v v
 
   footprints : (form ≡ 16 → ⊥) → (y : Way) (f : Form) → HasWay form y f → unmarked_footprint (effect_by f named i) s
-      ≡ traced_as (footprint_of_way y i.operand) (cond (has_other y) (reach_of (other y f) (places_of s (other y f))) (Inside 0 nowhere))
+      ≡ traced_as (footprint_of_way y i.operand) (cond (has_other y) (reach_of (other y f) (places_of s (other y f))) (done (record { registers = 0; places = nowhere })))
   unfolding unmarked_footprint rm_of address_of has_sib base_of displacement_of
   footprints plain y f empties = refl
   footprints plain y f passes_fence = refl
@@ -66,13 +64,16 @@ module _ (s : State) (entry : ℕ) (i : Instruction) where
     pub traced_few : (f : Footprint) → t ≡ false → f ≡ footprint_of_way y i.operand 0 nowhere → done f ≡ unmarked_footprint (effect_in entry i) s
     traced_few f few e = simp (footprints plain y (form_of form) (goes entry l y y way refl), ← test, few, e)
 
-    module _ (two : t ≡ true) (p : Operand) (pointed : p ≡ pointed_by y i.operand) (r : Reach)
+    module _ (two : t ≡ true) (p : Operand) (pointed : p ≡ pointed_by y i.operand) (r : Result Reach)
         (reached : r ≡ reach_of (other_of form p) (places_of s (other_of form p))) where
-      pub traced_inside : (f : Footprint) (m : ℕ) (q : Places) → r ≡ Inside m q → f ≡ footprint_of_way y i.operand m q → done f ≡ unmarked_footprint (effect_in entry i) s
-      traced_inside f m q inside e = simp (footprints plain y (form_of form) (goes entry l y y way refl), ← test, two, ← pointed, ← reached, inside, e)
+      traced : traced_as (footprint_of_way y i.operand) r ≡ unmarked_footprint (effect_in entry i) s
+      traced = simp (footprints plain y (form_of form) (goes entry l y y way refl), ← test, two, ← pointed, ← reached)
 
-      pub traced_outside : (n : ℕ) → r ≡ Refused n → refused n ≡ unmarked_footprint (effect_in entry i) s
-      traced_outside n e = simp (footprints plain y (form_of form) (goes entry l y y way refl), ← test, two, ← pointed, ← reached, e)
+      pub traced_inside : (f : Footprint) (x : Reach) → r ≡ done x → f ≡ footprint_of_way y i.operand x.registers x.places → done f ≡ unmarked_footprint (effect_in entry i) s
+      traced_inside f x inside e = ap done e ∙ ap (traced_as (footprint_of_way y i.operand)) (sym inside) ∙ traced
+
+      pub traced_outside : (n : ℕ) → r ≡ refused n → refused n ≡ unmarked_footprint (effect_in entry i) s
+      traced_outside n e = ap (traced_as (footprint_of_way y i.operand)) (sym e) ∙ traced
 
 -- the operand that may be in memory
 module _ (y : Way) (w : Operand) where

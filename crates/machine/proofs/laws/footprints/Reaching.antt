@@ -1,6 +1,7 @@
 -- The operand of r/m as masks and a range: the bytes of an operand are one range, and no registers. Rules for where the code finds it.
 use Rattle.std.specs.Prelude.{◌≡◌, refl, Bool, true, false, cond, [], ℕ, zero, suc, ◌+◌, ◌/◌, ◌^◌, ◌<◌, eqb, length}
-use Rattle.basis.proofs.Names.{◌∙◌, arith, rules, or_zero_r}
+use Rattle.basis.proofs.Names.{sym, ap, ◌∙◌, arith, or_zero_r}
+use Rattle.reorder.specs.Result.{Result, done, refused, map_result}
 use Rattle.codec.specs.Forms.{File, mmx_file, integer_file, memory_size}
 use Rattle.codec.specs.Table.{form_of}
 use Rattle.codec.specs.declared.Operand.{Operand}
@@ -9,18 +10,14 @@ use Rattle.manual.specs.Addresses.{address_of, address, address_registers}
 use Rattle.manual.specs.Locations.{Location, memory, register_in, rm_of, bytes_from, lies_inside, places_of}
 use Rattle.machine.specs.declared.Places.{Places}
 use Rattle.machine.specs.declared.operands.Spot.{Spot}
-use Rattle.machine.specs.declared.operands.Spot.TheVariants.{Mmx, Integer, Bytes}
-use Rattle.machine.specs.declared.operands.Spot.TheVariants as spots
 use Rattle.machine.specs.declared.reaches.Reach.{Reach}
-use Rattle.machine.specs.declared.reaches.Reach.TheVariants.{Inside, Refused}
 use Rattle.machine.specs.Footprints.{mmx_number, integer_number, numbers_of, has_zero_mark, mask, set_of}
-use Rattle.machine.specs.inner.Reaches.{nowhere, integer_alone, beside, reach_of, behind}
+use Rattle.machine.specs.inner.Reaches.{places_at, reach_of, behind}
 use Rattle.machine.specs.inner.Spots.{file_in, other_of, spot_of}
 use Rattle.machine.specs.inner.Ways.{way_of, has_other}
 use Rattle.machine.specs.inner.Works.{Listed}
 use Rattle.machine.proofs.laws.meetings.Ranges.{count_bytes}
 use Rattle.machine.proofs.laws.ways.Numbering.{other}
-use Rattle.machine.proofs.laws.operands.Locating.{spot_named, register_mmx, register_integer}
 
 no_mmx : (size a : ℕ) → numbers_of mmx_number (bytes_from a size) ≡ []
 no_mmx zero a = refl
@@ -49,15 +46,12 @@ set-bytes (suc size) a h =
     }
 
 -- where the code finds an operand, with the mask of its address registers
-abbrev reach_at : ℕ → Spot → Reach
-reach_at registers (Mmx k) = Inside registers (beside k nowhere)
-reach_at registers (Integer k) = Inside registers (integer_alone k)
-reach_at registers (Bytes a size) = Inside registers (range a size)
-reach_at registers (spots.Refused n) = Refused n
+abbrev reach_at : ℕ → Result Spot → Result Reach
+reach_at registers spot = map_result (λ x. record { registers = registers; places = places_at x }) spot
 
 -- the operand of r/m, whatever it is
 module _ (s : State) (w : Operand) where
-  abbrev spot : Location → Spot
+  abbrev spot : Location → Result Spot
   spot x = spot_of s.integers (length s.memory) x
 
   abbrev start : ℕ
@@ -81,11 +75,15 @@ module _ (s : State) (w : Operand) where
     abbrev there : Location
     there = other_of (entry / 2 ^ 24) w
 
-    -- as the code finds it, by where it is
-    module _ (x y : Spot) (m : ℕ) (found : x ≡ spot there) (masked : m ≡ behind w) (e : x ≡ y) where
-      pub reach_there : (r : Reach) → r ≡ reach_at m y → r ≡ reach_of there (places_of s there)
-      reach_there r h =
+    -- as the code finds it, or refuses it
+    module _ (x : Result Spot) (m : ℕ) (found : x ≡ spot there) (masked : m ≡ behind w) where
+      reach_there : reach_at m x ≡ reach_of there (places_of s there)
+      reach_there =
           let form = form_of (entry / 2 ^ 24) in
-          h ∙ rw (masked, ← e, found) (reached (file_in form.operands) (memory_size form) (other entry l two).any)
+          rw (masked, found) (reached (file_in form.operands) (memory_size form) (other entry l two).any)
 
-pub ruleset reach_rules = (rules, spot_named, register_mmx, register_integer, reach_there)
+      pub reach_inside : (y : Spot) (p : Places) → x ≡ done y → p ≡ places_at y → done (record { registers = m; places = p }) ≡ reach_of there (places_of s there)
+      reach_inside y p e h = ap (λ (q : Places). done (record { registers = m; places = q })) h ∙ ap (reach_at m) (sym e) ∙ reach_there
+
+      pub reach_outside : (n : ℕ) → x ≡ refused n → refused n ≡ reach_of there (places_of s there)
+      reach_outside n e = ap (reach_at m) (sym e) ∙ reach_there

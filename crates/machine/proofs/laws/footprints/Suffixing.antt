@@ -30,12 +30,9 @@ use Rattle.works.specs.Works.{to_operate, to_refuse}
 use Rattle.works.specs.Siblings.{value_left, operation_left, answered_work, sibling_work, suffixed_work}
 use Rattle.machine.specs.declared.Footprint.{Footprint}
 use Rattle.machine.specs.declared.Machine.{Machine}
-use Rattle.machine.specs.declared.Places.{Places}
 use Rattle.machine.specs.declared.operands.Spot.{Spot}
 use Rattle.machine.specs.declared.operands.Spot.TheVariants.{Mmx, Integer, Bytes}
-use Rattle.machine.specs.declared.operands.Spot.TheVariants as spots
 use Rattle.machine.specs.declared.reaches.Reach.{Reach}
-use Rattle.machine.specs.declared.reaches.Reach.TheVariants.{Inside, Refused}
 use Rattle.machine.specs.declared.ways.Way.{Way}
 use Rattle.machine.specs.declared.ways.Way.TheVariants.{Suffixes, Loads, Computes}
 use Rattle.machine.specs.State.{state_of}
@@ -130,12 +127,12 @@ answer_ends number None place next = inl refl
 sibling_ends : (x : Sibling) (old source place next : ℕ) → Ended (sibling_work x old source place next)
 sibling_ends x old source place next = answer_ends (operation_left x) (value_left x old source) place next
 
-suffix_ends : (suffix old : ℕ) (registers integers m : List ℕ) (number place : ℕ) (spot : Spot) (next : ℕ)
+suffix_ends : (suffix old : ℕ) (registers integers m : List ℕ) (number place : ℕ) (spot : Result Spot) (next : ℕ)
     → Ended (suffixed_work suffix old (take_work registers integers m number place spot next))
-suffix_ends suffix old registers integers m number place (Mmx k) next = sibling_ends (suffixed_of suffix).sibling old (get_or registers k 0) place next
-suffix_ends suffix old registers integers m number place (Integer k) next = sibling_ends (suffixed_of suffix).sibling old (get_or integers k 0) place next
-suffix_ends suffix old registers integers m number place (Bytes a size) next = sibling_ends (suffixed_of suffix).sibling old (loaded m a size) place next
-suffix_ends suffix old registers integers m number place (spots.Refused n) next = inl refl
+suffix_ends suffix old registers integers m number place (done (Mmx k)) next = sibling_ends (suffixed_of suffix).sibling old (get_or registers k 0) place next
+suffix_ends suffix old registers integers m number place (done (Integer k)) next = sibling_ends (suffixed_of suffix).sibling old (get_or integers k 0) place next
+suffix_ends suffix old registers integers m number place (done (Bytes a size)) next = sibling_ends (suffixed_of suffix).sibling old (loaded m a size) place next
+suffix_ends suffix old registers integers m number place (refused n) next = inl refl
 
 -- what the code makes of an instruction
 module _ (machine : Machine) (m : List ℕ) (entry : ℕ) (i : Instruction) (r : Registers i.operand) (l : Listed entry) (is : entry / 2 ^ 24 ≡ 16) where
@@ -179,7 +176,7 @@ module _ (machine : Machine) (m : List ℕ) (entry : ℕ) (i : Instruction) (r :
         on (inr f) = by (directly 0 e here) refl f stepped
 
   -- it completes
-  module _ (c : Completes e here) (o : Reach) (reached : o ≡ reach_of (other_of (entry / 2 ^ 24) i.operand) (places_of here (other_of (entry / 2 ^ 24) i.operand))) where
+  module _ (c : Completes e here) (o : Result Reach) (reached : o ≡ reach_of (other_of (entry / 2 ^ 24) i.operand) (places_of here (other_of (entry / 2 ^ 24) i.operand))) where
     suffix_traced : unmarked_footprint e here ≡ traced_as (footprint_of_way (suffix_way i.immediate) i.operand) o
     suffix_traced =
         let same = suffix_effect [] [] [] entry i 0 l way in
@@ -189,13 +186,13 @@ module _ (machine : Machine) (m : List ℕ) (entry : ℕ) (i : Instruction) (r :
         ∙ ap (λ (x : Location). traced_as (footprint_of_way (suffix_way i.immediate) i.operand) (reach_of x (places_of here x))) (sym there)
         ∙ ap (traced_as (footprint_of_way (suffix_way i.immediate) i.operand)) (sym reached)
 
-    pub suffix_inside : (f : Footprint) (registers : ℕ) (places : Places) (y : Way) → o ≡ Inside registers places → y ≡ suffix_way i.immediate
-        → f ≡ footprint_of_way y i.operand registers places → done f ≡ unmarked_footprint e here
-    suffix_inside f registers places y inside w h =
-        ap done (h ∙ ap (λ (z : Way). footprint_of_way z i.operand registers places) w)
+    pub suffix_inside : (f : Footprint) (x : Reach) (y : Way) → o ≡ done x → y ≡ suffix_way i.immediate
+        → f ≡ footprint_of_way y i.operand x.registers x.places → done f ≡ unmarked_footprint e here
+    suffix_inside f x y inside w h =
+        ap done (h ∙ ap (λ (z : Way). footprint_of_way z i.operand x.registers x.places) w)
         ∙ sym (suffix_traced ∙ ap (traced_as (footprint_of_way (suffix_way i.immediate) i.operand)) inside)
 
-    pub suffix_outside : (n : ℕ) → o ≡ Refused n → refused n ≡ unmarked_footprint e here
+    pub suffix_outside : (n : ℕ) → o ≡ refused n → refused n ≡ unmarked_footprint e here
     suffix_outside n outside = sym (suffix_traced ∙ ap (traced_as (footprint_of_way (suffix_way i.immediate) i.operand)) outside)
 
 pub ruleset suffix_rules = (rules, two_operands_suffix, suffix_refused, suffix_completes, suffix_inside, suffix_outside)

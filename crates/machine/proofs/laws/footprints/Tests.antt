@@ -32,9 +32,8 @@ use Rattle.manual.proofs.Turns.{within_limits}
 use Rattle.manual.proofs.Floors.{placed_zero}
 use Rattle.machine.specs.declared.Footprint.{Footprint}
 use Rattle.machine.specs.declared.Machine.{Machine}
-use Rattle.machine.specs.declared.Tracing.{Tracing}
 use Rattle.machine.specs.State.{state_of}
-use Rattle.machine.specs.Footprints.{masked, masked_at, paper_of_footprint}
+use Rattle.machine.specs.Footprints.{masked, masked_at}
 use Rattle.machine.specs.inner.Reaches.{unmarked_footprint}
 use Rattle.works.specs.Bars.{barred_by}
 use Rattle.machine.specs.inner.Works.{stopping_by, effect_in}
@@ -114,7 +113,7 @@ module _ (code : List ℕ) (at : ℕ) (machine : Machine) (memory : List ℕ) wh
         pub traced_barred : (stop ≡ 0 → ⊥) → refused stop ≡ masked_at code at here
         traced_barred h = ap refused stops_it_lem ∙ sym (traced_behind ∙ barred_by_lem _ _ (λ z. h (stops_it_lem ∙ z)))
 
-        pub traced_unbarred : (r : Tracing) → stop ≡ 0 → paper_of_footprint r ≡ answered → paper_of_footprint r ≡ masked_at code at here
+        pub traced_unbarred : (r : Result Footprint) → stop ≡ 0 → r ≡ answered → r ≡ masked_at code at here
         traced_unbarred r h p = p ∙ sym (traced_behind ∙ unbarred_by _ _ (sym stops_it_lem ∙ h))
 
 pub ruleset position_rules = (rules, names_registers, is_listed_lem, is_looping, traced_looped, traced_long, traced_code_long, traced_unread, traced_barred, traced_unbarred)

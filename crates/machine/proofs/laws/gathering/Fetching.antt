@@ -173,7 +173,7 @@ module _ (table code : List ℕ) (at : ℕ) (x : Found) (ours : table ≡ opcode
       gathered_barred h w =
           subst (λ (y : Work). Gathered y registers integers bar zero code at m) (sym w)
           (record {
-            sound = sound_refusal stop h;
+            sound = sound_refusal stop;
             steps = λ floor low marks b z.
                 ap (λ (k : ℕ). refused_with k at (state marks)) (stops_it_lem marks b)
                 ∙ sym (step_behind floor (state marks) code_fits memory_fits low escaped ∙ ap (concluded at (done x.next) (state marks)) (barred_by_lem _ _ (λ z. h (stops_it_lem marks b ∙ z))));
@@ -204,10 +204,15 @@ module _ (table code : List ℕ) (at n : ℕ) (ours : table ≡ opcode_table) (e
           let f : ◌≡◌ {A = Result Found ℕ} (Err n) (Err k) = found_ours code at (Err n) table ours e (refused k) r in
           let is : n ≡ k = cc in
           record {
-            sound = sound_refusal n (λ z. omega (arith, g.0));
+            sound = sound_refusal n;
             steps = λ floor low marks b z.
                 let s = state_of (machine_of registers integers marks) m in
                 ap (λ (j : ℕ). refused_with j at s) is ∙ sym (step_reads code at floor s code_fits memory_fits low (refused k) r);
           }
+
+-- a work that is another
+pub gathered_same : (work made : Work) (registers integers : List ℕ) (bar : ℕ) (zero : Bool) (code : List ℕ) (at : ℕ) (m : List ℕ) → work ≡ made
+    → Gathered made registers integers bar zero code at m → Gathered work registers integers bar zero code at m
+gathered_same work made registers integers bar zero code at m e g = subst (λ (y : Work). Gathered y registers integers bar zero code at m) (sym e) g
 
 pub ruleset fetching = (rules, names_registers, is_listed_lem, is_looping, gathered_unread, gathered_looped, gathered_barred, gathered_sorted)

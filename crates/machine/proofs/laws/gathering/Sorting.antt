@@ -31,13 +31,13 @@ use Rattle.machine.specs.declared.operands.Spot.{Spot}
 use Rattle.machine.specs.declared.ways.Way.{Way}
 use Rattle.machine.specs.declared.ways.Way.TheVariants.{Empties, Passes, Shifts, Extracts, Stores, Loads, Computes, Inserts, Shuffles, Masks}
 use Rattle.machine.specs.State.{state_of}
-use Rattle.machine.specs.inner.Spots.{file_in, other_of, spot_of, Named}
+use Rattle.machine.specs.inner.Spots.{file_in, other_of, spot_of, NamedIn}
 use Rattle.machine.specs.inner.Ways.{way_of, has_other}
 use Rattle.machine.specs.inner.Picks.{picked_of, picked_work, extracted_of, extract_work, mask_work}
 use Rattle.works.specs.Works.{to_operate, to_empty, to_pass, work_of}
-use Rattle.machine.specs.inner.Works.{machine_of, effect_in, owned, Listed, put_work, take_work, performed, Sound, Does}
+use Rattle.machine.specs.inner.Works.{machine_of, effect_in, owned, Listed, put_work, value_in, take_work, performed, Sound, Does}
 use Rattle.machine.proofs.laws.gathering.Soundness.{sound_operation, sound_empties, sound_passes, sound_integer, sound_put, sound_take, sound_picked, sound_mask}
-use Rattle.machine.proofs.laws.operands.Locating.{by_place, spot_named, register_mmx, register_integer}
+use Rattle.machine.proofs.laws.operands.Locating.{by_place, spot_named}
 use Rattle.machine.proofs.laws.ways.Numbering.{Other, Moves, HasWay, empties, passes_fence, passes_prefetch, shifts_WD, shifts_Q, extracts_word, extracts_bits, inserts, shuffles, masks, streams, stores, loads, computes, goes, other, two_operands}
 
 -- what a form's effect leaves, by its way
@@ -134,7 +134,7 @@ module _ (registers integers m : List ℕ) (next : ℕ) where
 
   -- for the operand of r/m, whatever it is
   module _ (size : ℕ) (w : Operand) (few : size ≤ 8) where
-    abbrev spot : Location → Spot
+    abbrev spot : Location → Result Spot
     spot x = spot_of integers (length m) x
 
     abbrev room : Bool
@@ -285,10 +285,10 @@ module _ (registers integers m : List ℕ) (entry : ℕ) (i : Instruction) (next
         past f (masks h x) = omega arith
 
     -- an operand that may be in memory
-    abbrev here : Spot
+    abbrev here : Result Spot
     here = spot_of integers (length m) (other_of form_in w)
 
-    here_named : Named here
+    here_named : NamedIn here
     here_named = spot_named integers (length m) entry w here refl r
 
     abbrev file : File
@@ -313,7 +313,7 @@ module _ (registers integers m : List ℕ) (entry : ℕ) (i : Instruction) (next
           (λ floor s. after floor s ∙ ap (λ (o : Operation). computed_as floor s named i form_in o form) (plain its.past))
           (takes registers integers m next size w its.most file (entry % 256) w.reg))
 
-    pub does_store : (x : Spot) → y ≡ Stores → x ≡ here → work ≡ put_work x (get_or registers w.reg 0) next → Does work registers integers m (effect_in entry i) (done next)
+    pub does_store : (x : Result Spot) → y ≡ Stores → x ≡ here → work ≡ put_work x (get_or registers w.reg 0) next → Does work registers integers m (effect_in entry i) (done next)
     does_store x e found made =
         let v = get_or registers w.reg 0 in
         rw (made, found)
@@ -351,20 +351,18 @@ module _ (registers integers m : List ℕ) (entry : ℕ) (i : Instruction) (next
         pick Shuffles e refl (λ floor s. shuffled_by floor s named i form_in form (goes entry l y Shuffles way e) (only (its Shuffles e refl).past))
 
 -- what the code makes where the operand is
-module _ (x y : Spot) (next : ℕ) (work : Work) (e : x ≡ y) where
-  pub made_put : (value : ℕ) → work ≡ put_work y value next → work ≡ put_work x value next
-  made_put value h = h ∙ ap (λ (z : Spot). put_work z value next) (sym e)
+module _ (x y : Result Spot) (next : ℕ) (work : Work) (e : x ≡ y) where
+  pub made_put : (value : ℕ) → work ≡ put_work x value next → work ≡ put_work y value next
+  made_put value h = h ∙ ap (λ (z : Result Spot). put_work z value next) e
 
-  module _ (there : Spot) (found : x ≡ there) (registers integers m : List ℕ) (number place : ℕ) where
-    pub made_take : work ≡ take_work registers integers m number place y next → work ≡ take_work registers integers m number place there next
-    made_take h = h ∙ ap (λ (z : Spot). take_work registers integers m number place z next) (sym e ∙ found)
+  pub made_take : (registers integers m : List ℕ) (number place : ℕ) → work ≡ take_work registers integers m number place x next
+      → work ≡ take_work registers integers m number place y next
+  made_take registers integers m number place h = h ∙ ap (λ (z : Result Spot). take_work registers integers m number place z next) e
 
-    pub made_taken : (v u : ℕ) → work ≡ work_of to_operate number place v next → work_of to_operate number place u next ≡ take_work registers integers m number place y next
-        → v ≡ u → work ≡ take_work registers integers m number place there next
-    made_taken v u h g same = made_take (h ∙ ap (λ (z : ℕ). work_of to_operate number place z next) same ∙ g)
+  pub made_taken : (registers integers m : List ℕ) (number place v : ℕ) (s : Spot) → x ≡ done s → v ≡ value_in registers integers m s
+      → work ≡ work_of to_operate number place v next → work ≡ take_work registers integers m number place y next
+  made_taken registers integers m number place v s i h w =
+      made_take registers integers m number place
+      (w ∙ ap (λ (u : ℕ). work_of to_operate number place u next) h ∙ ap (λ (z : Result Spot). take_work registers integers m number place z next) (sym i))
 
 pub ruleset ways = (rules, two_operands, does_empties, does_pass, does_shift, does_extract, does_store, does_load, does_compute, does_insert, does_shuffle, does_mask)
-
-pub ruleset putting = (rules, made_put)
-
-pub ruleset taking = (rules, spot_named, register_mmx, register_integer, made_take, made_taken)

@@ -1,10 +1,12 @@
 -- The work that the code makes of an instruction with a suffix does what its effect does.
-use Rattle.std.specs.Prelude.{◌≡◌, refl, Bool, true, false, List, map, ℕ, ◌/◌, ◌%◌, ◌^◌, eqb, length, get_or, Option, Some, None}
-use Rattle.basis.proofs.Names.{sym, ap, subst, ◌∙◌, rules}
+use Rattle.std.specs.Prelude.{◌≡◌, refl, Bool, true, false, cond, IfOk, Ok, Err, List, map, ℕ, ◌/◌, ◌%◌, ◌^◌, eqb, length, get_or, Option, Some, None}
+use Rattle.std.specs.Prelude as code
+use Rattle.basis.proofs.Names.{sym, ap, subst, ◌∙◌, false≢true}
+use Rattle.refusals.specs.declared.Refusal.{Refusal}
 use Rattle.lanes.specs.Operations.{operate, described, MOVE}
 use Rattle.singles.specs.Siblings.{Sibling, PF2IW, PI2FW, PSWAPD, PAVGUSB, PFCMPGT, PFMAX, leave}
 use Rattle.words.proofs.Laws.{loaded_bytewise}
-use Rattle.reorder.specs.Result.{Result, done, and_then, map_result}
+use Rattle.reorder.specs.Result.{Result, done, refused, and_then, map_result}
 use Rattle.codec.specs.Forms.{mmx_file, Form, mmreg1·mmreg2/mem64+suffix, memory_size}
 use Rattle.codec.specs.Contents.{Suffixed, maximum, siblings}
 use Rattle.codec.specs.Opcodes.{suffixed_of}
@@ -25,7 +27,9 @@ use Rattle.manual.specs.Steps.{concluded}
 use Rattle.manual.proofs.Shapes.{both_or, move_or}
 use Rattle.manual.proofs.Direct.{value_at, put_at, move_or_direct, both_or_direct}
 use Rattle.works.specs.declared.Work.{Work}
-use Rattle.works.specs.Siblings.{answered_work, sibling_work, suffixed_work}
+use Rattle.works.specs.Answers.{paper_of, work_in}
+use Rattle.works.specs.Works.{to_operate, work_of, refused_work}
+use Rattle.works.specs.Siblings.{value_left, operation_left, answered_work, sibling_work, suffixed_work, answered, suffixed_answer}
 use Rattle.machine.specs.declared.ways.Way.{Way}
 use Rattle.machine.specs.declared.ways.Way.TheVariants.{Suffixes}
 use Rattle.machine.specs.State.{state_of}
@@ -154,10 +158,44 @@ module _ (registers integers m : List ℕ) (entry : ℕ) (i : Instruction) (next
         (λ floor s. suffixed_as floor s i x))
         (sym (suffix_operand l is)) (suffix_makes registers integers m next w i.immediate (entry % 256) w.reg)))
 
--- from the work that has the operand's number
-pub suffixed_from : (suffix old : ℕ) (work made r : Work) → work ≡ made → r ≡ suffixed_work suffix old work → r ≡ suffixed_work suffix old made
-suffixed_from suffix old work made r e h = h ∙ ap (suffixed_work suffix old) e
+-- an answer as one work
+abbrev work_by : Result Work → Work
+work_by (done work) = work
+work_by (refused n) = refused_work n
 
-pub ruleset suffixing = (rules, suffixed_from)
+as_one : (r : code.Result Work Refusal) → work_in r ≡ work_by (paper_of r)
+as_one (Ok work) = refl
+as_one (Err refusal) = refl
+
+answered_is : (number : ℕ) (answer : Option ℕ) (place next : ℕ) → work_by (answered number answer place next) ≡ answered_work number answer place next
+answered_is number (Some value) place next = refl
+answered_is number None place next = refl
+
+suffixed_is : (suffix old : ℕ) (work : Work) → work_by (suffixed_answer suffix old work) ≡ suffixed_work suffix old work
+suffixed_is suffix old work = by (eqb work.what to_operate)
+  where
+    y : Sibling
+    y = (suffixed_of suffix).sibling
+
+    by : (t : Bool) → work_by (cond t (answered (operation_left y) (value_left y old work.value) work.place work.next) (done work))
+        ≡ cond t (sibling_work y old work.value work.place work.next) work
+    by true = answered_is (operation_left y) (value_left y old work.value) work.place work.next
+    by false = refl
+
+-- from the work that has the operand's number
+module _ (suffix old : ℕ) (work : Work) (r : code.Result Work Refusal) (h : paper_of r ≡ suffixed_answer suffix old work) where
+  pub suffixed_from : (made : Work) → work ≡ made → work_in r ≡ suffixed_work suffix old made
+  suffixed_from made e = as_one r ∙ ap work_by h ∙ suffixed_is suffix old work ∙ ap (suffixed_work suffix old) e
+
+  pub suffixed_operates : work.what ≡ to_operate → IfOk r (λ left. left.what ≡ to_operate)
+  suffixed_operates e = by r (value_left y old work.value) (h ∙ simp e)
+    where
+      y : Sibling
+      y = (suffixed_of suffix).sibling
+
+      by : (q : code.Result Work Refusal) (answer : Option ℕ) → paper_of q ≡ answered (operation_left y) answer work.place work.next → IfOk q (λ left. left.what ≡ to_operate)
+      by (Ok left) (Some value) g = let is : left ≡ work_of to_operate (operation_left y) work.place value work.next = cc in ap (λ (w : Work). w.what) is
+      by (Ok left) None g = absurd (false≢true (cc))
+      by (Err refusal) answer g = tt
 
 pub ruleset sorting = (ways, does_suffix)

@@ -18,10 +18,7 @@ use Rattle.manual.specs.Instructions.{effect_by}
 use Rattle.machine.specs.declared.Places.{Places}
 use Rattle.machine.specs.declared.Footprint.{Footprint}
 use Rattle.works.specs.declared.Work.{Work}
-use Rattle.works.specs.declared.jumps.Target.{Target}
-use Rattle.works.specs.declared.jumps.Target.TheVariants.{At, Refused}
-use Rattle.works.specs.Jumps.{paper_of_target}
-use Rattle.works.specs.Works.{to_pass, to_set, to_count, work_of, refused_work}
+use Rattle.works.specs.Works.{to_pass, to_set, to_count, work_of}
 use Rattle.machine.specs.inner.Works.{effect_in, performed}
 use Rattle.machine.specs.inner.Reaches.{nowhere, integer_alone, unmarked_footprint}
 use Rattle.machine.specs.Footprints.{masked}
@@ -47,15 +44,7 @@ pub counted_is : (register sum value next v : ℕ) (work : Work) → work ≡ wo
     → work ≡ work_of to_count 0 register value next
 counted_is register sum value next v work w e f = simp (← f, ← e) w
 
--- what a jump leaves, by where it leads
-module _ (o : Result ℕ) (t : Target) (leading : paper_of_target t ≡ o) (work : Work) where
-  pub landing_at : (position : ℕ) → t ≡ At position → work ≡ work_of to_pass 0 0 0 position → work ≡ landing o
-  landing_at position h w = w ∙ ap landing (ap paper_of_target (sym h) ∙ leading)
-
-  pub landing-refused : (n : ℕ) → t ≡ Refused n → work ≡ refused_work n → work ≡ landing o
-  landing-refused n h w = w ∙ ap landing (ap paper_of_target (sym h) ∙ leading)
-
-pub ruleset landings = (rules, counted_is, landing_at, landing-refused)
+pub ruleset landings = (rules, counted_is)
 
 -- one of loops, with the position behind it
 module _ (zero : Bool) (entry : ℕ) (i : Instruction) (length next : ℕ) (l : Looping entry i) where
@@ -120,7 +109,7 @@ module _ (zero : Bool) (entry : ℕ) (i : Instruction) (length next : ℕ) (l : 
         by false true f g = going (ahead next i.immediate - 256) last f g
         by false false f g =
             simp (f, g)
-            (record { does = λ registers memory. record { sound = sound_refusal jumps_outside (λ z. omega arith); does = λ floor marks at. simp last } })
+            (record { does = λ registers memory. record { sound = sound_refusal jumps_outside; does = λ floor marks at. simp last } })
 
 -- footprints
 
@@ -147,20 +136,19 @@ module _ (zero : Bool) (entry : ℕ) (i : Instruction) (length next : ℕ) (l : 
   pub traced_down : (f : Footprint) → entry / 2 ^ 24 ≡ 12 → f ≡ counting_footprint (i.first % 8) → done f ≡ answered
   traced_down f e h = behind f (λ z. omega arith) (simp (e, h))
 
-  module _ (no_set : entry / 2 ^ 24 ≡ 10 → ⊥) (no_add : entry / 2 ^ 24 ≡ 11 → ⊥) (no_down : entry / 2 ^ 24 ≡ 12 → ⊥)
-      (t : Target) (target : paper_of_target t ≡ leads zero length next i.immediate) where
+  module _ (no_set : entry / 2 ^ 24 ≡ 10 → ⊥) (no_add : entry / 2 ^ 24 ≡ 11 → ⊥) (no_down : entry / 2 ^ 24 ≡ 12 → ⊥) where
     last : entry / 2 ^ 24 ≡ 13
     last = omega (arith, l.least, l.most, no_set, no_add, no_down)
 
-    landed : map_result (λ position. loop_footprint (entry / 2 ^ 24) i) (paper_of_target t) ≡ answered
-    landed = ap (map_result (λ position. loop_footprint (entry / 2 ^ 24) i)) (target ∙ sym (onward_leads zero entry i length next l last))
+    landed : (t : Result ℕ) → t ≡ leads zero length next i.immediate → map_result (λ position. loop_footprint (entry / 2 ^ 24) i) t ≡ answered
+    landed t target = ap (map_result (λ position. loop_footprint (entry / 2 ^ 24) i)) (target ∙ sym (onward_leads zero entry i length next l last))
 
-    pub traced_jump : (position : ℕ) → t ≡ At position
+    pub traced_jump : (position : ℕ) → done position ≡ leads zero length next i.immediate
         → done (record { reads = record { mmx = 0; integers = 0; start = 0; length = 0; zero = true }; writes = nowhere; kind = Loop }) ≡ answered
-    traced_jump position e = simp last (simp (e, last) at landed)
+    traced_jump position e = simp last (simp last at (landed (done position) e))
 
-    pub traced_outside : (n : ℕ) → t ≡ Refused n → refused n ≡ answered
-    traced_outside n e = simp e at landed
+    pub traced_outside : (n : ℕ) → refused n ≡ leads zero length next i.immediate → refused n ≡ answered
+    traced_outside n e = landed (refused n) e
 
 pub ruleset tracing = (rules, made_counting)
 

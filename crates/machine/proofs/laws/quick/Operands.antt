@@ -3,7 +3,7 @@ use Rattle.std.specs.Prelude.{◌≡◌, refl, ◌⊎◌, Bool, true, false, con
 use Rattle.std.proofs.lemmas.Option.{IfSome_then}
 use Rattle.basis.proofs.Names.{sym, ap, subst, ◌∙◌, inl, inr, false≢true, or-true, arith, eq-eqb, ne_eqb, eqb-true, eqb-false}
 use Rattle.words.specs.Buffer.{loaded}
-use Rattle.reorder.specs.Result.{done}
+use Rattle.reorder.specs.Result.{Result, done}
 use Rattle.codec.specs.Forms.{mmreg1·mmreg2/mem64+suffix, is_among, memory_size}
 use Rattle.codec.specs.Opcodes.{suffixed_of}
 use Rattle.codec.specs.Table.{form_of}
@@ -24,7 +24,7 @@ use Rattle.machine.proofs.laws.gathering.Sorting.{does_store, does_load, does_co
 use Rattle.machine.proofs.laws.ways.Numbering.{way_streams, way_stores, way_loads, way_computes}
 
 -- the work of two operands, one an MMX register at a place, the other at a spot
-abbrev pub work_at : List ℕ → List ℕ → List ℕ → ℕ → ℕ → Spot → ℕ → Work
+abbrev pub work_at : List ℕ → List ℕ → List ℕ → ℕ → ℕ → Result Spot → ℕ → Work
 work_at registers integers memory entry place spot next =
     cond (is_store (entry / 2 ^ 24)) (put_work spot (get_or registers place 0) next) (take_work registers integers memory (entry % 256) place spot next)
 
@@ -32,7 +32,7 @@ work_at registers integers memory entry place spot next =
 pub record AtAddress (work : Work) (registers memory : List ℕ) (entry place address next : ℕ) : Type 0 where
   pub two : 15 ≤ entry / 2 ^ 24
   pub plain : entry / 2 ^ 24 ≡ 16 → ⊥
-  pub made : Listed entry → work ≡ work_at registers [] memory entry place (Bytes address (entry / 2 ^ 16 % 256)) next
+  pub made : Listed entry → work ≡ work_at registers [] memory entry place (done (Bytes address (entry / 2 ^ 16 % 256))) next
   pub inside : Listed entry → leb (address + entry / 2 ^ 16 % 256) (length memory) ≡ true
 
 -- all bytes lie in memory

@@ -15,6 +15,7 @@ use Rattle.codec.specs.declared.Found.{Found}
 use Rattle.codec.specs.declared.Operand.{Operand}
 use Rattle.codec.proofs.Given.{no_registers, registers_of_lem}
 use Rattle.works.specs.declared.Work.{Work}
+use Rattle.reorder.specs.Result as outcome
 use Rattle.machine.specs.declared.operands.Spot.{Spot}
 use Rattle.machine.specs.declared.operands.Spot.TheVariants.{Mmx, Integer}
 use Rattle.machine.specs.declared.pointers.Pointer.{Pointer}
@@ -54,13 +55,13 @@ module _ (registers integers m : List ℕ) (entry modrm : ℕ) (code : List ℕ)
     mode_is : upper modrm ≡ 3
     mode_is = omega arith
 
-    abbrev Here : Spot
+    abbrev Here : outcome.Result Spot
     Here = spot_of integers (length m) (other_of form w)
 
-    mmx_there : Listed entry → 15 ≤ form → is_integer form ≡ false → Mmx (lower modrm) ≡ Here
+    mmx_there : Listed entry → 15 ≤ form → is_integer form ≡ false → outcome.done (Mmx (lower modrm)) ≡ Here
     mmx_there l two h = spot_mmx integers (length m) entry w l (two_from form two) mode_is (is_integer form) refl h
 
-    integer_there : Listed entry → 15 ≤ form → is_integer form ≡ true → Integer (lower modrm) ≡ Here
+    integer_there : Listed entry → 15 ≤ form → is_integer form ≡ true → outcome.done (Integer (lower modrm)) ≡ Here
     integer_there l two h = spot_integer integers (length m) entry w l (two_from form two) mode_is (is_integer form) refl h
 
     module _ (work : Work) where
@@ -82,36 +83,36 @@ module _ (registers integers m : List ℕ) (entry modrm : ℕ) (code : List ℕ)
               rw (← named) at (after_registers entry second code at here (rw (← named) register) (rw (← named) byte) (omega arith) (λ z. omega arith))
 
       -- the work of a register that is there
-      take_there : (x : Spot) → x ≡ Here → is_store form ≡ false → work ≡ take_work registers integers m (entry % 256) (middle modrm) x (at + 1)
+      take_there : (x : outcome.Result Spot) → x ≡ Here → is_store form ≡ false → work ≡ take_work registers integers m (entry % 256) (middle modrm) x (at + 1)
           → work ≡ work_at registers integers m entry (middle modrm) Here (at + 1)
-      take_there x e f made = simp f (made ∙ ap (λ (y : Spot). take_work registers integers m (entry % 256) (middle modrm) y (at + 1)) e)
+      take_there x e f made = simp f (made ∙ ap (λ (y : outcome.Result Spot). take_work registers integers m (entry % 256) (middle modrm) y (at + 1)) e)
 
-      put_there : (x : Spot) → x ≡ Here → is_store form ≡ true → work ≡ put_work x (get_or registers (middle modrm) 0) (at + 1)
+      put_there : (x : outcome.Result Spot) → x ≡ Here → is_store form ≡ true → work ≡ put_work x (get_or registers (middle modrm) 0) (at + 1)
           → work ≡ work_at registers integers m entry (middle modrm) Here (at + 1)
-      put_there x e f made = simp f (made ∙ ap (λ (y : Spot). put_work y (get_or registers (middle modrm) 0) (at + 1)) e)
+      put_there x e f made = simp f (made ∙ ap (λ (y : outcome.Result Spot). put_work y (get_or registers (middle modrm) 0) (at + 1)) e)
 
       pub takes_mmx : 20 ≤ form → work ≡ work_of to_operate (entry % 256) (middle modrm) (get_or registers (lower modrm) 0) (at + 1) → Answered work
       takes_mmx h made =
           of_registers_lem (omega arith)
           (λ l.
-          take_there (Mmx (lower modrm))
+          take_there (outcome.done (Mmx (lower modrm)))
           (mmx_there l (omega arith) (simp (ne_eqb form 4 (λ z. omega arith), ne_eqb form 17 (λ z. omega arith), ne_eqb form 18 (λ z. omega arith))))
           (simp (ne_eqb form 15 (λ z. omega arith), ne_eqb form 17 (λ z. omega arith), ne_eqb form 19 (λ z. omega arith))) made)
 
       pub takes_integer : form ≡ 18 → work ≡ work_of to_operate (entry % 256) (middle modrm) (get_or integers (lower modrm) 0) (at + 1) → Answered work
       takes_integer h made =
           of_registers_lem (omega arith)
-          (λ l. take_there (Integer (lower modrm)) (integer_there l (omega arith) (ap is_integer h)) (ap is_store h) made)
+          (λ l. take_there (outcome.done (Integer (lower modrm))) (integer_there l (omega arith) (ap is_integer h)) (ap is_store h) made)
 
       pub puts_mmx : form ≡ 19 → work ≡ work_of to_operate (described MOVE).number (lower modrm) (get_or registers (middle modrm) 0) (at + 1) → Answered work
       puts_mmx h made =
           of_registers_lem (omega arith)
-          (λ l. put_there (Mmx (lower modrm)) (mmx_there l (omega arith) (ap is_integer h)) (ap is_store h) made)
+          (λ l. put_there (outcome.done (Mmx (lower modrm))) (mmx_there l (omega arith) (ap is_integer h)) (ap is_store h) made)
 
       pub puts_integer : form ≡ 17 → work ≡ work_of to_integer 0 (lower modrm) (get_or registers (middle modrm) 0) (at + 1) → Answered work
       puts_integer h made =
           of_registers_lem (omega arith)
-          (λ l. put_there (Integer (lower modrm)) (integer_there l (omega arith) (ap is_integer h)) (ap is_store h) made)
+          (λ l. put_there (outcome.done (Integer (lower modrm))) (integer_there l (omega arith) (ap is_integer h)) (ap is_store h) made)
 
     -- a suffix behind the registers
     module _ (is : form ≡ 16) where
@@ -127,7 +128,7 @@ module _ (registers integers m : List ℕ) (entry modrm : ℕ) (code : List ℕ)
             does = λ l.
                 does_suffix registers integers m entry (instruction_of escape second w suffix) (at + 1 + 1) (registers_of_lem modrm 0 0) l Suffixes (way_suffixes form is) work refl
                 (q.is
-                ∙ ap (λ (x : Spot). suffixed_work suffix (get_or registers (middle modrm) 0) (take_work registers integers m (entry % 256) (middle modrm) x (at + 1 + 1)))
+                ∙ ap (λ (x : outcome.Result Spot). suffixed_work suffix (get_or registers (middle modrm) 0) (take_work registers integers m (entry % 256) (middle modrm) x (at + 1 + 1)))
                 (mmx_there l (omega arith) (ap is_integer is)));
           })
         where
@@ -202,7 +203,7 @@ module _ (registers integers m : List ℕ) (entry modrm : ℕ) (code : List ℕ)
           does = λ l.
               does_two registers integers m entry (instruction_of escape second w 0) p.next (registers_of_lem modrm t.sib t.displacement) l a.two a.plain work
               (a.made l
-              ∙ ap (λ (x : Spot). work_at registers integers m entry (middle modrm) x p.next)
+              ∙ ap (λ (x : outcome.Result Spot). work_at registers integers m entry (middle modrm) x p.next)
               (spot_inside integers (length m) entry w l (two_from form a.two) (λ z. omega arith) p.address t.address true (sym (a.inside l)) refl));
         }))
 
@@ -228,7 +229,7 @@ module _ (registers integers m : List ℕ) (entry modrm : ℕ) (code : List ℕ)
               (let size : entry / 2 ^ 16 % 256 ≡ 8 = l.sized ∙ ap (λ (k : ℕ). memory_size (form_of k)) is in
               q.suffixed.is
               ∙ ap (λ (k : ℕ). suffixed_work v (get_or registers (middle modrm) 0) (work_of to_operate 0 (middle modrm) (loaded m p.address k) (p.next + 1))) (sym size)
-              ∙ ap (λ (x : Spot). suffixed_work v (get_or registers (middle modrm) 0) (take_work registers integers m (entry % 256) (middle modrm) x (p.next + 1)))
+              ∙ ap (λ (x : outcome.Result Spot). suffixed_work v (get_or registers (middle modrm) 0) (take_work registers integers m (entry % 256) (middle modrm) x (p.next + 1)))
               (spot_inside integers (length m) entry w l (two_from form (omega arith)) (λ z. omega arith) p.address t.address true
               (sym (ap (λ (k : ℕ). leb (p.address + k) (length m)) size ∙ q.inside)) refl));
         }))

@@ -1,5 +1,5 @@
 -- The step of a machine by value answers as a run of one instruction ended. Rules for `step`.
-use Rattle.std.specs.Prelude.{◌≡◌, refl, Bool, true, false, cond, List, ℕ, ◌≤◌, ◌<◌, eqb, length}
+use Rattle.std.specs.Prelude.{Result, Ok, Err, ◌≡◌, refl, Bool, true, false, cond, List, ℕ, ◌≤◌, ◌<◌, eqb, length}
 use Rattle.basis.proofs.Names.{ap, ◌∙◌, arith, rules, ne_eqb, le-ltb, lt-ltb, drop_of_length-le}
 use Rattle.reorder.specs.Run.{Answer, finished, spent, stopped, run_from}
 use Rattle.codec.specs.Refusals.{code_too_long, code_ends}
@@ -12,8 +12,6 @@ use Rattle.manual.specs.Steps.{Outcome, completed, refused_with, instruction_at,
 use Rattle.manual.specs.Reasons.{Fits}
 use Rattle.manual.specs.Runs.{read}
 use Rattle.manual.proofs.Turns.{within_limits, onward, turn}
-use Rattle.machine.specs.declared.Taken.{Taken}
-use Rattle.machine.specs.declared.Taken.TheVariants.{Completed, Refused}
 use Rattle.machine.specs.declared.End.{End}
 use Rattle.machine.specs.declared.End.TheVariants.{Done, Spent}
 use Rattle.machine.specs.declared.End.TheVariants as end
@@ -32,15 +30,15 @@ taken (stopped n at count s) = refused_with n at s
 
 module _ (floor : ℕ) (code : List ℕ) (at : ℕ) (k : Machine) (m : List ℕ) where
   -- what is handed back is the step at the position
-  abbrev Answers : Taken → Machine → ℕ → List ℕ → Type 0
+  abbrev Answers : Result (Unit {0}) ℕ → Machine → ℕ → List ℕ → Type 0
   Answers answer k' next m' = paper_of_step (record { answer = answer; machine = k'; at = next }) m' ≡ step_at floor code at (state_of k m)
 
   -- the tests of the limits, and of the code's end
-  pub step_memory : longest_memory < length m → Answers (Refused memory_too_long) k at m
+  pub step_memory : longest_memory < length m → Answers (Err memory_too_long) k at m
   unfolding step_at instruction_at
   step_memory h = simp (lt-ltb longest_memory (length m) h)
 
-  pub step_floor : length m ≤ longest_memory → length m < floor → Answers (Refused floor_too_high) k at m
+  pub step_floor : length m ≤ longest_memory → length m < floor → Answers (Err floor_too_high) k at m
   unfolding step_at instruction_at
   step_floor h g = simp (le-ltb longest_memory (length m) h, lt-ltb (length m) floor g)
 
@@ -48,12 +46,12 @@ module _ (floor : ℕ) (code : List ℕ) (at : ℕ) (k : Machine) (m : List ℕ)
     abbrev fits : Fits floor (state_of k m)
     fits = within_limits floor (state_of k m) memory_fits floor_fits
 
-    pub step_code : longest_code < length code → Answers (Refused code_too_long) k at m
+    pub step_code : longest_code < length code → Answers (Err code_too_long) k at m
     unfolding step_at instruction_at read_at
     step_code h = simp (fits.memory_fits, fits.floor_fits, lt-ltb longest_code (length code) h)
 
     module _ (code_fits : length code ≤ longest_code) where
-      pub step_ends : length code ≤ at → Answers (Refused code_ends) k at m
+      pub step_ends : length code ≤ at → Answers (Err code_ends) k at m
       unfolding step_at instruction_at read_at instruction_reader
       step_ends h = simp (fits.memory_fits, fits.floor_fits, le-ltb longest_code (length code) code_fits, drop_of_length-le code h)
 
@@ -78,13 +76,13 @@ module _ (floor : ℕ) (code : List ℕ) (at : ℕ) (k : Machine) (m : List ℕ)
         by_end : (e : End) → r.end ≡ e → taken (paper_of_end e r.at r.count (state_of r.machine m')) ≡ step_at floor code at (state_of k m)
         by_end e h = ap taken (simp h at run) ∙ once here
 
-        pub step_done : r.end ≡ Done → Answers Completed r.machine r.at m'
+        pub step_done : r.end ≡ Done → Answers (Ok tt) r.machine r.at m'
         step_done h = by_end Done h
 
-        pub step_spent : r.end ≡ Spent → Answers Completed r.machine r.at m'
+        pub step_spent : r.end ≡ Spent → Answers (Ok tt) r.machine r.at m'
         step_spent h = by_end Spent h
 
-        pub step_refused : (n : ℕ) → r.end ≡ end.Refused n → Answers (Refused n) r.machine r.at m'
+        pub step_refused : (n : ℕ) → r.end ≡ end.Refused n → Answers (Err n) r.machine r.at m'
         step_refused n h = by_end (end.Refused n) h
 
 pub ruleset answering = (rules, step_memory, step_floor, step_code, step_ends, step_done, step_spent, step_refused)

@@ -1,5 +1,5 @@
 -- The run as the code's loop takes it: what is left of the run after each turn is the whole run, since a turn is a step at its position.
-use Rattle.std.specs.Prelude.{◌≡◌, Bool, true, false, List, ℕ, zero, suc, ◌-◌, ◌≤◌, ◌<◌, eqb, length}
+use Rattle.std.specs.Prelude.{Result, Ok, Err, ◌≡◌, Bool, true, false, List, ℕ, zero, suc, ◌-◌, ◌≤◌, ◌<◌, eqb, length}
 use Rattle.basis.proofs.Names.{sym, ap, subst, ◌∙◌, sub_self, arith, rules, eq-eqb, ne_eqb, le-ltb, lt-ltb}
 use Rattle.reorder.specs.Run.{Answer, finished, spent, run_from}
 use Rattle.codec.specs.Reads.{longest_code}
@@ -20,7 +20,8 @@ use Rattle.works.specs.declared.performing.Moved.{Moved}
 use Rattle.machine.specs.State.{state_of}
 use Rattle.machine.specs.Runs.{paper_of_run}
 use Rattle.works.specs.Bars.{barred_by}
-use Rattle.machine.specs.inner.Works.{machine_of, renewed, Advanced}
+use Rattle.works.specs.Works.{left}
+use Rattle.machine.specs.inner.Works.{machine_of, renewed, outcome_of, Advanced}
 use Rattle.machine.specs.inner.Runs.{remaining}
 
 -- the tests of the limits, and then the run from position 0 on
@@ -79,13 +80,10 @@ module _ (floor : ℕ) (code : List ℕ) (at rest budget : ℕ) (R : Answer Stat
   module _ (registers integers m : List ℕ) (marks : Marks) (run : remaining floor rest code at count (state_of (machine_of registers integers marks) m) ≡ R)
       (here : at < length code) (within : rest ≤ budget) (unspent : rest ≡ 0 → ⊥) (code_fits : length code ≤ longest_code)
       (m₀ : List ℕ) (kept : length m ≡ length m₀) (memory_fits : length m₀ ≤ longest_memory) (floor_fits : floor ≤ length m₀)
-      (moved : Moved) (registers' integers' m' : List ℕ) (bar : ℕ) (barred : bar ≡ barred_by marks)
-      (valid zero : Bool) (tag : valid ≡ marks.valid) (mark : zero ≡ marks.zero) (advanced : Advanced moved registers integers bar valid zero code at m floor registers' integers' m') where
+      (answer : Result Moved ℕ) (registers' integers' m' : List ℕ) (bar : ℕ) (barred : bar ≡ barred_by marks)
+      (valid zero : Bool) (tag : valid ≡ marks.valid) (mark : zero ≡ marks.zero) (advanced : Advanced answer registers integers bar valid zero code at m floor registers' integers' m') where
     abbrev s : State
     s = state_of (machine_of registers integers marks) m
-
-    abbrev t : State
-    t = state_of (machine_of registers' integers' (renewed marks moved.valid moved.zero)) m'
 
     -- how the run goes on after it
     abbrev after : ℕ → ℕ → State → Answer State
@@ -103,24 +101,29 @@ module _ (floor : ℕ) (code : List ℕ) (at rest budget : ℕ) (R : Answer Stat
         one : suc (rest - 1) ≡ rest
         one = omega (arith, unspent)
 
-    completes : moved.refusal ≡ 0 → completed moved.next t ≡ step_at floor code at s
-    completes e = simp (eq-eqb moved.refusal 0 e) at (advanced.ends marks barred tag mark)
+    -- it completed
+    module _ (moved : Moved) (e : answer ≡ Ok moved) where
+      abbrev t : State
+      t = state_of (machine_of registers' integers' (renewed marks moved.valid moved.zero)) m'
 
-    pub run_within : moved.refusal ≡ 0 → moved.next ≤ length code
-    run_within e = step_within floor code (le-ltb longest_code (length code) code_fits) at moved.next s t within_both (sym (completes e))
+      completes : completed moved.next t ≡ step_at floor code at s
+      completes = ap (λ (a : Result Moved ℕ). outcome_of marks at (left a registers' integers' m')) (sym e) ∙ advanced.ends marks barred tag mark
 
-    pub run_on : moved.refusal ≡ 0 → remaining floor (rest - 1) code moved.next (budget - (rest - 1)) t ≡ R
-    unfolding remaining
-    run_on e = ap (λ (n : ℕ). after moved.next n t) one_more ∙ ap (onward after count) (completes e) ∙ turned
-      where
-        one_more : budget - (rest - 1) ≡ suc count
-        one_more = omega (arith, unspent)
+      pub run_within : moved.next ≤ length code
+      run_within = step_within floor code (le-ltb longest_code (length code) code_fits) at moved.next s t within_both (sym completes)
 
-    pub run_refused : (moved.refusal ≡ 0 → ⊥)
-        → paper_of_run (record { end = Refused moved.refusal; at = moved.next; count = count; machine = machine_of registers' integers' marks }) m' ≡ R
-    run_refused e =
-        let refuses : refused_with moved.refusal moved.next (state_of (machine_of registers' integers' marks) m') ≡ step_at floor code at s =
-        simp (ne_eqb moved.refusal 0 e) at (advanced.ends marks barred tag mark) in
+      pub run_on : remaining floor (rest - 1) code moved.next (budget - (rest - 1)) t ≡ R
+      unfolding remaining
+      run_on = ap (λ (n : ℕ). after moved.next n t) one_more ∙ ap (onward after count) completes ∙ turned
+        where
+          one_more : budget - (rest - 1) ≡ suc count
+          one_more = omega (arith, unspent)
+
+    pub run_refused : (n : ℕ) → answer ≡ Err n
+        → paper_of_run (record { end = Refused n; at = at; count = count; machine = machine_of registers' integers' marks }) m' ≡ R
+    run_refused n e =
+        let refuses : refused_with n at (state_of (machine_of registers' integers' marks) m') ≡ step_at floor code at s =
+        ap (λ (a : Result Moved ℕ). outcome_of marks at (left a registers' integers' m')) (sym e) ∙ advanced.ends marks barred tag mark in
         ap (onward after count) refuses ∙ turned
 
 -- the tag mark and the zero mark bar nothing
