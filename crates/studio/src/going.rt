@@ -5,7 +5,8 @@ ghost use Rattle.machine.specs.Runs.{paper_of_run};
 ghost use Rattle.machine.specs.State.{state_of};
 ghost use Rattle.studio.specs.inner.Parts.{Partly, continued};
 
-use machine::{End, Ran, Tracing};
+use machine::{End, Footprint, Ran};
+use refusals::Refusal;
 
 // Every byte of the memory may be written.
 pub(crate) const FLOOR: usize = 0;
@@ -29,7 +30,7 @@ pub(crate) fn go_on(ran: Ran, code: &[u8], memory: &mut [u8], more: u32) -> Ran
 }
 
 // The footprint of the step that a run has come to.
-pub(crate) fn trace(ran: Ran, code: &[u8], memory: &[u8]) -> Tracing
+pub(crate) fn trace(ran: Ran, code: &[u8], memory: &[u8]) -> Result<Footprint, Refusal>
     ensures { paper_of_footprint result ≡ masked_at code.now ran.at (state_of ran.machine memory.now) }
 {
     ran.machine.footprint(code, ran.at, memory)

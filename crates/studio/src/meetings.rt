@@ -6,7 +6,8 @@ ghost use Rattle.studio.specs.Meetings.{all_places, paper_of_place, paper_of_mee
 ghost use Rattle.studio.specs.inner.Meetings.{registers, in_mask, is_shared, lowest_meeting, first_of, meeting_in, meeting_by};
 
 use crate::{Manner, Meeting, Place};
-use machine::{Footprint, Places, Tracing};
+use machine::{Footprint, Places};
+use refusals::Refusal;
 
 // The least register in a mask.
 fn lowest_register(mask: u8) -> Option<u8>
@@ -69,11 +70,15 @@ fn meeting(first: Footprint, second: Footprint, bytes: usize) -> Option<Meeting>
 }
 
 // The meeting of two steps, by their footprints: one that is refused meets none.
-pub(crate) fn met(first: Tracing, second: Tracing, bytes: usize) -> Option<Meeting>
+pub(crate) fn met(
+    first: Result<Footprint, Refusal>,
+    second: Result<Footprint, Refusal>,
+    bytes: usize,
+) -> Option<Meeting>
     ensures { paper_of_meeting result ≡ meeting_by bytes first second }
 {
     match (first, second) {
-        (Tracing::Traced(one), Tracing::Traced(other)) => meeting(one, other, bytes),
+        (Ok(one), Ok(other)) => meeting(one, other, bytes),
         _ => None,
     }
 }

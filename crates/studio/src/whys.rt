@@ -7,7 +7,7 @@ ghost use Rattle.studio.specs.inner.Parts.{Watches};
 
 use crate::going::FLOOR;
 use crate::{Asked, Unanswered, going, jumps, meetings};
-use machine::{End, Machine, Ran, Tracing};
+use machine::{End, Footprint, Machine, Ran};
 use refusals::Refusal;
 
 // The instructions that the run may complete.
@@ -17,8 +17,8 @@ const BUDGET: u32 = 4096;
 #[derive(Clone, Copy)]
 struct Watched {
     ran: Ran,
-    first: Tracing,
-    second: Tracing,
+    first: Result<Footprint, Refusal>,
+    second: Result<Footprint, Refusal>,
 }
 
 // The run in three parts: to the earlier instruction, on to the later one, and on to the end.

@@ -1,12 +1,11 @@
 -- Where two instructions meet, by footprints as masks and ranges: the places that two sets share, and which of two meetings is named first.
-use Rattle.std.specs.Prelude.{Bool, true, false, cond, ◌&&◌, List, find, Option, Some, None, ℕ, ◌+◌, ◌/◌, ◌%◌, ◌^◌, eqb, leb, ltb}
+use Rattle.std.specs.Prelude.{Result, Ok, Err, Bool, true, false, cond, ◌&&◌, List, find, Option, Some, None, ℕ, ◌+◌, ◌/◌, ◌%◌, ◌^◌, eqb, leb, ltb}
 use Rattle.std.specs.List.{range_with_len}
 use Rattle.manual.specs.Places.{Place, mmx, integer, byte, zero_mark}
 use Rattle.manual.specs.Kinds.{kinds_meet}
 use Rattle.machine.specs.declared.Places.{Places}
 use Rattle.machine.specs.declared.Footprint.{Footprint}
-use Rattle.machine.specs.declared.Tracing.{Tracing}
-use Rattle.machine.specs.declared.Tracing.TheVariants.{Traced, Refused}
+use Rattle.refusals.specs.declared.Refusal.{Refusal}
 use Rattle.studio.specs.declared.Manner.{Manner}
 use Rattle.studio.specs.declared.Manner.TheVariants.{BothWrite, WriteRead, ReadWrite}
 use Rattle.studio.specs.Meetings.{Meeting, apart, emms, met_at, lowest, all_places}
@@ -83,7 +82,7 @@ meeting_in n f g =
     (lowest (within f.writes) (within f.reads) (within g.writes) (within g.reads) (all_places n))
 
 -- a refused step meets none
-abbrev pub meeting_by : ℕ → Tracing → Tracing → Meeting
-meeting_by n (Traced f) (Traced g) = meeting_in n f g
-meeting_by n (Traced f) (Refused m) = apart
-meeting_by n (Refused m) g = apart
+abbrev pub meeting_by : ℕ → Result Footprint Refusal → Result Footprint Refusal → Meeting
+meeting_by n (Ok f) (Ok g) = meeting_in n f g
+meeting_by n (Ok f) (Err m) = apart
+meeting_by n (Err m) g = apart

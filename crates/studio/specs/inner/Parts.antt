@@ -8,7 +8,9 @@ use Rattle.manual.specs.Instructions.{execute}
 use Rattle.manual.specs.Jumps.{next}
 use Rattle.manual.specs.Runs.{read, run_of, has_no_jump}
 use Rattle.manual.specs.Footprints.{footprint_in_run}
-use Rattle.machine.specs.declared.Tracing.{Tracing}
+use Rattle.machine.specs.declared.Footprint.{Footprint}
+use Rattle.refusals.specs.declared.Refusal.{Refusal}
+use Rattle.std.specs.Prelude as code
 use Rattle.machine.specs.Runs.{paper_of_run}
 use Rattle.machine.specs.Footprints.{masked, paper_of_footprint}
 use Rattle.studio.specs.declared.whys.Watched.{Watched}
@@ -27,7 +29,7 @@ pub record Partly (code : List ℕ) (more : ℕ) (answer : Answer State) : Type 
   pub comes : answer ≡ run_of 0 code given start
 
 -- what was traced is the footprint of instruction k
-abbrev pub Traces : List ℕ → State → ℕ → Tracing → Type 0
+abbrev pub Traces : List ℕ → State → ℕ → code.Result Footprint Refusal → Type 0
 Traces code s k traced = paper_of_footprint traced ≡ map_result masked (footprint_in_run 0 code s k)
 
 -- a question's run, with the footprints of two of its instructions

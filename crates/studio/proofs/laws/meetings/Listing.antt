@@ -1,5 +1,5 @@
 -- Footprints as masks and ranges say of each place what the lists of places say, so what is found by the ones is found by the others.
-use Rattle.std.specs.Prelude.{◌≡◌, refl, ◌⊎◌, true, cond, List, [], ◌∷◌, ℕ, ◌↔◌}
+use Rattle.std.specs.Prelude.{Ok, Err, ◌≡◌, refl, ◌⊎◌, true, cond, List, [], ◌∷◌, ℕ, ◌↔◌}
 use Rattle.basis.specs.Names.{Memᴰ as In}
 use Rattle.basis.proofs.Names.{ap, ap₂, subst, ◌∙◌, inl, inr, false≢true, Memᴰ-head as here, Memᴰ-tail as later, Memᴰ-not_nil as not-nil}
 use Rattle.reorder.specs.Result.{Result, done, refused, map_result}
@@ -7,8 +7,9 @@ use Rattle.reorder.specs.Footprint as places
 use Rattle.codec.specs.declared.Kind.{Kind}
 use Rattle.manual.specs.Places.{Place, mmx, integer, byte, zero_mark}
 use Rattle.manual.specs.Kinds.{kinds_meet}
-use Rattle.machine.specs.declared.Tracing.{Tracing}
-use Rattle.machine.specs.declared.Tracing.TheVariants.{Traced, Refused}
+use Rattle.refusals.specs.declared.Refusal.{Refusal}
+use Rattle.std.specs.Prelude as code
+use Rattle.machine.specs.declared.Footprint.{Footprint}
 use Rattle.machine.specs.Footprints.{bytes_of, set_of, masked, paper_of_footprint}
 use Rattle.machine.proofs.laws.meetings.Masks.{bit}
 use Rattle.machine.proofs.laws.meetings.Ranges.{Range, OneRange, RangedFootprint}
@@ -87,16 +88,16 @@ module _ (f g : places.Footprint Place Kind) (one : OneRange f) (other : OneRang
   both-listed n = ap (cond (kinds_meet f.kind g.kind) emms) (lowest_listed (all_places n))
 
 -- what the code finds is the definition's, over the lists of places
-pub meeting_listed : (n : ℕ) (x y : Result (places.Footprint Place Kind)) (a b : Tracing) → RangedFootprint x → RangedFootprint y
+pub meeting_listed : (n : ℕ) (x y : Result (places.Footprint Place Kind)) (a b : code.Result Footprint Refusal) → RangedFootprint x → RangedFootprint y
     → paper_of_footprint a ≡ map_result masked x → paper_of_footprint b ≡ map_result masked y → meeting_by n a b ≡ meeting_of n x y
-meeting_listed n (done f) (done g) (Traced u) (Traced v) one other e h =
+meeting_listed n (done f) (done g) (Ok u) (Ok v) one other e h =
     let same_u : u ≡ masked f = cc in
     let same_v : v ≡ masked g = cc in
     ap₂ (meeting_in n) same_u same_v ∙ both-listed f g one other n
-meeting_listed n (done f) (done g) (Traced u) (Refused m) one other e h = absurd (false≢true (cc))
-meeting_listed n (done f) (done g) (Refused m) b one other e h = absurd (false≢true (cc))
-meeting_listed n (done f) (refused k) (Traced u) (Traced v) one other e h = absurd (false≢true (cc))
-meeting_listed n (done f) (refused k) (Traced u) (Refused m) one other e h = refl
-meeting_listed n (done f) (refused k) (Refused m) b one other e h = refl
-meeting_listed n (refused k) y (Traced u) b one other e h = absurd (false≢true (cc))
-meeting_listed n (refused k) y (Refused m) b one other e h = refl
+meeting_listed n (done f) (done g) (Ok u) (Err m) one other e h = absurd (false≢true (cc))
+meeting_listed n (done f) (done g) (Err m) b one other e h = absurd (false≢true (cc))
+meeting_listed n (done f) (refused k) (Ok u) (Ok v) one other e h = absurd (false≢true (cc))
+meeting_listed n (done f) (refused k) (Ok u) (Err m) one other e h = refl
+meeting_listed n (done f) (refused k) (Err m) b one other e h = refl
+meeting_listed n (refused k) y (Ok u) b one other e h = absurd (false≢true (cc))
+meeting_listed n (refused k) y (Err m) b one other e h = refl
