@@ -1,4 +1,4 @@
--- A run that goes on: where it has ended it stays; where it was spent, the rest of the code is run alone, and its position and count are added.
+-- A run that goes on: where it was spent, the rest of the code is run alone, and its position and count are added.
 use Rattle.std.specs.Prelude.{◌≡◌, refl, List, ℕ, ◌+◌, ◌-◌, ◌≤◌, length, take, drop}
 use Rattle.basis.proofs.Names.{sym, ap, subst, ◌∙◌, arith, rules, length-drop, take_all}
 use Rattle.reorder.proofs.Parting.{counted_from}
@@ -29,13 +29,6 @@ counted_on : (e : End) (position count at total : ℕ) (s : State) → paper_of_
 counted_on Done position count at total s = refl
 counted_on Spent position count at total s = refl
 counted_on (Refused n) position count at total s = refl
-
-module _ (code : List ℕ) (more : ℕ) (ran : Ran) (memory : List ℕ) where
-  pub stays_done : ran.end ≡ Done → paper_of_run ran memory ≡ continued code more (paper_of_run ran memory)
-  stays_done e = simp e
-
-  pub stays_refused : (n : ℕ) → ran.end ≡ Refused n → paper_of_run ran memory ≡ continued code more (paper_of_run ran memory)
-  stays_refused n e = simp e
 
 module _ (code : List ℕ) (more : ℕ) (ran : Ran) (memory : List ℕ) (partly : Partly code more (paper_of_run ran memory)) where
   -- so far
@@ -69,4 +62,4 @@ module _ (code : List ℕ) (more : ℕ) (ran : Ran) (memory : List ℕ) (partly 
         ∙ simp e
         (sym (rest_runs 0 code partly.start partly.given ran.at ran.count (state_of ran.machine memory) partly.straight (simp e at (sym partly.comes)) more))
 
-pub ruleset continuing = (rules, stays_done, stays_refused, starts_within, goes_further)
+pub ruleset continuing = (rules, starts_within, goes_further)
