@@ -42,11 +42,7 @@ pub(crate) fn usual_given() -> Given {
 }
 
 fn digit_of(byte: u8) -> u8 {
-    match byte {
-        b'0'..=b'9' => byte - b'0',
-        b'a'..=b'f' => byte - b'a' + 10,
-        _ => 0,
-    }
+    char::from(byte).to_digit(HEXADECIMAL).unwrap_or(0) as u8
 }
 
 // A number that a line gives; what is none is 0.
