@@ -9,7 +9,8 @@ pub find-map : {A B : Type 0} (f : A → B) (test : A → Bool) (whole : B → B
 find-map f test whole same [] = refl
 find-map f test whole same (x ∷ xs) = simp (same x) (by (test x) (find-map f test whole same xs))
   where
-    by : (t : Bool) → find whole (map f xs) ≡ option_map f (find test xs) → cond t (Some (f x)) (find whole (map f xs)) ≡ option_map f (cond t (Some x) (find test xs))
+    by : (t : Bool) → find whole (map f xs) ≡ option_map f (find test xs)
+        → cond t (Some (f x)) (find whole (map f xs)) ≡ option_map f (cond t (Some x) (find test xs))
     by true e = refl
     by false e = e
 
@@ -19,7 +20,8 @@ module _ (test : Place → Bool) where
   first_byte a zero k low high none here = absurd (omega arith)
   first_byte a (suc more) k low high none here = by (dec_lt a k) (first_byte (a + 1) more k)
     where
-      by : Dec (a < k) → (a + 1 ≤ k → k < a + 1 + more → ((j : ℕ) → j < k → test (byte j) ≡ false) → test (byte k) ≡ true → find test (bytes_from (a + 1) more) ≡ Some (byte k))
+      by : Dec (a < k)
+          → (a + 1 ≤ k → k < a + 1 + more → ((j : ℕ) → j < k → test (byte j) ≡ false) → test (byte k) ≡ true → find test (bytes_from (a + 1) more) ≡ Some (byte k))
           → find test (bytes_from a (suc more)) ≡ Some (byte k)
       by (yes h) rest = simp (none a h) (rest (omega arith) (omega arith) none here)
       by (no h) rest = let same : k ≡ a = omega arith in simp (← same, here)

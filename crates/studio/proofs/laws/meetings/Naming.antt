@@ -19,7 +19,8 @@ use Rattle.studio.proofs.Places.{Ascending, ascending_places}
 
 -- what is handed back
 pub meeting_handed : (n : ℕ) (x : Manner) (one other : Places) (o : Option declared.Place) (r : Option handed.Meeting)
-    → option_map paper_of_place o ≡ find (is_shared one other) (all_places n) → r ≡ option_map (λ p. At p x) o → paper_of_meeting r ≡ lowest_meeting n x one other
+    → option_map paper_of_place o ≡ find (is_shared one other) (all_places n) → r ≡ option_map (λ p. At p x) o
+    → paper_of_meeting r ≡ lowest_meeting n x one other
 unfolding lowest_meeting
 meeting_handed n x one other o r e h = ap paper_of_meeting h ∙ by o ∙ ap (meeting_there x) e
   where
@@ -69,7 +70,8 @@ module _ (p : Place) where
   comes x (met_at q y) a = let (low, high) = lower_passes p q a in simp low
 
   -- at the place itself the first manner is named
-  stays_there : (x y : Manner) → ltb (rank y) (rank x) ≡ false → (t : Bool) (m : Meeting) → Above p m → first_of (met_at p x) (cond t (met_at p y) m) ≡ met_at p x
+  stays_there : (x y : Manner) → ltb (rank y) (rank x) ≡ false → (t : Bool) (m : Meeting) → Above p m
+      → first_of (met_at p x) (cond t (met_at p y) m) ≡ met_at p x
   stays_there x y e true m a = simp (not_itself p, e)
   stays_there x y e false m a = stays x m a
 

@@ -31,5 +31,6 @@ not_itself (integer k) = le-ltb k k (omega arith)
 not_itself (byte a) = le-ltb a a (omega arith)
 not_itself zero_mark = refl
 
-pub lesser_first : (a b : handed.Meeting) → paper_of_meeting (Some (ord_min order.cmp-value.it a b)) ≡ first_of (paper_of_meeting (Some a)) (paper_of_meeting (Some b))
+pub lesser_first : (a b : handed.Meeting)
+    → paper_of_meeting (Some (ord_min order.cmp-value.it a b)) ≡ first_of (paper_of_meeting (Some a)) (paper_of_meeting (Some b))
 lesser_first a b = search (rules, tests)

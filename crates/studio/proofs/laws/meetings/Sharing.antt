@@ -31,11 +31,17 @@ module _ (one other : Places) (n : ℕ) where
       (integer_is : option_map paper_of_place i ≡ find (is_shared one other) (eight integer))
       (byte_is : option_map paper_of_place b ≡ find (is_shared one other) (bytes_from 0 n))
       (mark_is : option_map paper_of_place z ≡ find (is_shared one other) (zero_mark ∷ [])) where
+    in_registers : option_map paper_of_place (option_or m i) ≡ find (is_shared one other) (eight mmx ++ eight integer)
+    in_registers = or_map m i ∙ ap₂ option_or mmx_is integer_is ∙ sym (find-append (is_shared one other) (eight mmx) (eight integer))
+
+    before_mark : option_map paper_of_place (option_or (option_or m i) b) ≡ find (is_shared one other) (eight mmx ++ eight integer ++ bytes_from 0 n)
+    before_mark =
+        or_map (option_or m i) b ∙ ap₂ option_or in_registers byte_is
+        ∙ sym (find-append (is_shared one other) (eight mmx ++ eight integer) (bytes_from 0 n))
+
     pub one_after_the_other : option_map paper_of_place (option_or (option_or (option_or m i) b) z) ≡ find (is_shared one other) (all_places n)
     one_after_the_other =
-        or_map (option_or (option_or m i) b) z
-        ∙ ap₂ option_or (or_map (option_or m i) b ∙ ap₂ option_or (or_map m i ∙ ap₂ option_or mmx_is integer_is ∙ sym (find-append (is_shared one other) (eight mmx) (eight integer))) byte_is
-        ∙ sym (find-append (is_shared one other) (eight mmx ++ eight integer) (bytes_from 0 n))) mark_is
+        or_map (option_or (option_or m i) b) z ∙ ap₂ option_or before_mark mark_is
         ∙ sym (find-append (is_shared one other) (eight mmx ++ eight integer ++ bytes_from 0 n) (zero_mark ∷ []))
 
   pub of_mmx : (r : Option ℕ) → r ≡ find (in_mask (bit_and one.mmx other.mmx)) registers
