@@ -1,5 +1,6 @@
 // What is printed: answers, what is left, places, footprints.
-use machine::{End, Footprint, Machine, Places, Ran, Stepped, Taken, Tracing};
+use machine::{End, Footprint, Machine, Places, Ran, Stepped};
+use refusals::Refusal;
 use std::io;
 use std::io::Write;
 
@@ -23,8 +24,8 @@ pub(crate) fn show_run(out: &mut impl Write, ran: Ran) -> io::Result<()> {
 // What a step came to, and the position that it hands back.
 pub(crate) fn show_step(out: &mut impl Write, stepped: Stepped) -> io::Result<()> {
     match stepped.answer {
-        Taken::Completed => write!(out, "completed")?,
-        Taken::Refused(refusal) => show_refusal(out, refusal)?,
+        Ok(()) => write!(out, "completed")?,
+        Err(refusal) => show_refusal(out, refusal)?,
     }
     write!(out, " at {}", stepped.at)
 }
@@ -78,25 +79,27 @@ fn show_footprint(out: &mut impl Write, footprint: Footprint) -> io::Result<()> 
     show_places(out, footprint.writes)
 }
 
-pub(crate) fn show_tracing(out: &mut impl Write, tracing: Tracing) -> io::Result<()> {
+pub(crate) fn show_tracing(out: &mut impl Write, tracing: Result<Footprint, Refusal>) -> io::Result<()> {
     match tracing {
-        Tracing::Traced(footprint) => show_footprint(out, footprint),
-        Tracing::Refused(refusal) => show_refusal(out, refusal),
+        Ok(footprint) => show_footprint(out, footprint),
+        Err(refusal) => show_refusal(out, refusal.number()),
     }
 }
 
 // Whether two footprints meet, or the refusal of the first that there is not.
-pub(crate) fn show_meeting(out: &mut impl Write, one: Tracing, other: Tracing) -> io::Result<()> {
+pub(crate) fn show_meeting(
+    out: &mut impl Write,
+    one: Result<Footprint, Refusal>,
+    other: Result<Footprint, Refusal>,
+) -> io::Result<()> {
     match (one, other) {
-        (Tracing::Traced(first), Tracing::Traced(second)) => {
+        (Ok(first), Ok(second)) => {
             if machine::meets(first, second) {
                 write!(out, "meet")
             } else {
                 write!(out, "do not meet")
             }
         }
-        (Tracing::Refused(refusal), _) | (_, Tracing::Refused(refusal)) => {
-            show_refusal(out, refusal)
-        }
+        (Err(refusal), _) | (_, Err(refusal)) => show_refusal(out, refusal.number()),
     }
 }
