@@ -175,6 +175,8 @@ module _ (first second : ℕ) where
   pub form_one : (n : ℕ) → (first ≡ escape → ⊥) → n ≡ (form_of_first first).number → form_of n ≡ form_for first second
   form_one n e h = ap form_of h ∙ first_form_is first ∙ simp (ne_eqb first escape e)
 
+pub ruleset form_of_both = (rules, form_is, form_two, form_one)
+
 -- the entry of a first byte has its form's number
 pub entry_numbered : (first : ℕ) → entry_of_first first / 2 ^ 24 ≡ (form_of_first first).number
 entry_numbered first = omega arith

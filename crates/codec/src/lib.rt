@@ -64,6 +64,7 @@ pub struct Found {
 }
 
 // The table of opcodes, for whoever starts reading: it is made here, and lent from then on.
+#[tactic(auto, unfolding(crate::specs::Table::opcode_table, crate::specs::Opcodes::form_at, crate::specs::Opcodes::operation_at))]
 pub fn table() -> [u32; 256]
     ensures { result ≡ opcode_table }
 {

@@ -45,6 +45,7 @@ pub(crate) fn first_form(first: u8) -> u32
 }
 
 // The form of both opcode bytes, of the second by our table.
+#[tactic(auto, using(crate::proofs::Entries::form_of_both), unfolding(crate::specs::Table::opcode_table, crate::specs::Opcodes::form_at, crate::specs::Opcodes::operation_at))]
 pub(crate) fn form_for(first: u8, second: u8) -> u32
     ensures { form_of result ≡ form_for first second }
 {

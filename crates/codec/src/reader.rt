@@ -76,8 +76,8 @@ fn number_after(code: &[u8], at: usize, opcode: Opcode, operand: Operand) -> Res
         instruction: Instruction {
             first: opcode.first,
             second: opcode.second,
-            operand: operand,
-            immediate: immediate,
+            operand,
+            immediate,
         },
         next: at + k,
     })
@@ -117,7 +117,7 @@ fn operand_of(modrm: u8, sib: u8, displacement: u32) -> Operand
         scale: sib / fields::UPPER,
         index: sib / fields::MIDDLE % fields::VALUES,
         base: sib % fields::VALUES,
-        displacement: displacement,
+        displacement,
     }
 }
 
@@ -217,10 +217,10 @@ pub(crate) fn first_at(code: &[u8], at: usize, first: u8) -> Result<Found, Refus
         return Err(prefixes::first_refusal(first));
     }
     let opcode = Opcode {
-        first: first,
+        first,
         second: 0,
         entry: form * FORM,
-        form: form,
+        form,
     };
     if fields::has_operand(form) {
         register_at(code, at, opcode)
@@ -241,9 +241,9 @@ pub(crate) fn second_at(table: &[u32; 256], code: &[u8], at: usize) -> Result<Fo
     let form = entry / FORM;
     let opcode = Opcode {
         first: ESCAPE,
-        second: second,
-        entry: entry,
-        form: form,
+        second,
+        entry,
+        form,
     };
     if form == ABSENT {
         return Err(Refusal::NotListed);

@@ -28,18 +28,18 @@ fn print_written(
 // An instruction with neither an SIB byte nor a displacement.
 fn instruction_of(first: u8, second: u8, mode: u8, reg: u8, rm: u8, immediate: u32) -> Instruction {
     Instruction {
-        first: first,
-        second: second,
+        first,
+        second,
         operand: Operand {
-            mode: mode,
-            reg: reg,
-            rm: rm,
+            mode,
+            reg,
+            rm,
             scale: 0,
             index: 0,
             base: 0,
             displacement: 0,
         },
-        immediate: immediate,
+        immediate,
     }
 }
 
