@@ -1,7 +1,9 @@
 -- What the writer's stores leave, part by part: rules for the functions that put bytes.
-use Rattle.std.specs.Prelude.{ℕ, suc, ◌+◌, ◌/◌, ◌%◌, ◌≤◌, ◌<◌, ◌≡◌, Bool, true, false, cond, List, [], ◌∷◌, ◌++◌, eqb, length, set, drop}
+use Rattle.std.specs.Prelude.{ℕ, suc, ◌+◌, ◌/◌, ◌%◌, ◌^◌, ◌-◌, ◌≤◌, ◌<◌, ◌≡◌, Bool, true, false, cond, List, [], ◌∷◌, ◌++◌, eqb, length, set, drop}
+use Rattle.std.specs.Int.{w32, to_le_bytes}
 use Rattle.basis.specs.Names.{sets}
-use Rattle.basis.proofs.Names.{sym, ap, ap₂, ◌∙◌, towards_suc, arith, rules, le-leb, lt-leb, eq-eqb, ne_eqb, length-append, length-set, sets-eq}
+use borrow.Rule.Slice.PartMut.{put_mid}
+use Rattle.basis.proofs.Names.{sym, ap, ap₂, ◌∙◌, towards_suc, arith, rules, le-leb, lt-leb, eq-eqb, ne_eqb, length-append, length-set, sets-eq, drop-drop, append_assoc}
 use Rattle.words.specs.Number.{bytes}
 use Rattle.codec.specs.Refusals.{no_bytes, buffer_ends}
 use Rattle.codec.specs.Answers.{wrote, refused_with}
@@ -30,10 +32,21 @@ sets_start l vs h =
 pub number-put_1 : (l : List ℕ) (at k v : ℕ) → k ≡ 1 → set l at (v % 256) ≡ sets l at (bytes k v)
 number-put_1 l at k v e = simp e
 
-pub number-put_4 : (l : List ℕ) (at k v : ℕ) → Sized k → (k ≡ 0 → ⊥) → (k ≡ 1 → ⊥)
-    → set (set (set (set l at (v % 256)) (at + 1) (v / 256 % 256)) (at + 2) (v / 256 / 256 % 256)) (at + 3) (v / 256 / 256 / 256 % 256)
-    ≡ sets l at (bytes k v)
-number-put_4 l at k v z n m = simp (z.four n m, towards_suc)
+same_bytes : (v : ℕ) → to_le_bytes w32 v ≡ bytes 4 v
+same_bytes v =
+    let b1 : v / 256 ^ 1 % 256 ≡ v / 256 % 256 = omega arith in
+    let b2 : v / 256 ^ 2 % 256 ≡ v / 256 / 256 % 256 = omega arith in
+    let b3 : v / 256 ^ 3 % 256 ≡ v / 256 / 256 / 256 % 256 = omega arith in
+    λ i. v % 256 ∷ b1 i ∷ b2 i ∷ b3 i ∷ []
+
+pub number-put_4 : (l part : List ℕ) (at k v : ℕ) → Sized k → (k ≡ 0 → ⊥) → (k ≡ 1 → ⊥) → at + k ≤ length l → part ≡ to_le_bytes w32 v
+    → put_mid at (at + 4 - at) l part ≡ sets l at (bytes k v)
+number-put_4 l part at k v z n m h e =
+    let four : k ≡ 4 = z.four n m in
+    let few : at + 4 - at ≡ 4 = omega arith in
+    let room : at + 4 ≤ length l = omega arith in
+    let is : part ≡ bytes 4 v = e ∙ same_bytes v in
+    rw (few, is, four, sets-eq (bytes 4 v) l at room, drop-drop 4 at l, append_assoc)
 
 -- the SIB byte
 module _ (w : Operand) (t : Bool) (g : t ≡ has_sib w.mode w.rm) where

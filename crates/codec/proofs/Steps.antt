@@ -1,5 +1,6 @@
 -- The reader at a position of a code: what each part gives, from what the code has found there. Rules for the reader's functions.
-use Rattle.std.specs.Prelude.{ℕ, ◌+◌, ◌-◌, ◌*◌, ◌/◌, ◌^◌, ◌≤◌, ◌<◌, ◌≡◌, refl, Bool, true, false, cond, List, eqb, length, get_or, take, drop, Result, Err}
+use Rattle.std.specs.Prelude.{ℕ, ◌+◌, ◌-◌, ◌*◌, ◌/◌, ◌^◌, ◌≤◌, ◌<◌, ◌≡◌, refl, Bool, true, false, cond, List, [], ◌∷◌, eqb, length, get_or, take, drop, Result, Err}
+use Rattle.std.specs.Int.{w32, from_le_bytes}
 use Rattle.basis.proofs.Names.{sym, ap, ap₂, ◌∙◌, false≢true, arith, add-zero, mul-zero, rules, eq-eqb, ne_eqb, eqb-true, drop_of_length-le}
 use Rattle.words.specs.Number.{number}
 use Rattle.words.proofs.Laws.{and_both}
@@ -282,14 +283,14 @@ module _ (code : List ℕ) (at : ℕ) where
         immediate_on e h = h ∙ ap (found entry) (sym (immediate_here ∙ reads_yes _ _ _ (at + k) (drop (at + k) code) (sym g ∙ e)))
 
   -- a number of one byte and of four
-  pub number_1 : (k r : ℕ) → k ≡ 1 → r ≡ get_or code at 0 + 256 * (0 + 256 * (0 + 256 * 0)) → at + k ≤ length code
+  pub number_1 : (k r : ℕ) → k ≡ 1 → r ≡ get_or code at 0 → at + k ≤ length code
       → r ≡ number (take k (drop at code))
   number_1 k r e h p =
       let q : at < length code = omega arith in
-      h ∙ sym (simp (e, drop_here code at q))
+      h ∙ sym (simp (e, drop_here code at q, mul-zero, add-zero))
 
   pub number_4 : (k r : ℕ) → Sized k → (k ≡ 0 → ⊥) → (k ≡ 1 → ⊥) → at + k ≤ length code
-      → r ≡ get_or code at 0 + 256 * (get_or code (at + 1) 0 + 256 * (get_or code (at + 2) 0 + 256 * get_or code (at + 3) 0))
+      → r ≡ from_le_bytes w32 (get_or code at 0 ∷ get_or code (at + 1) 0 ∷ get_or code (at + 2) 0 ∷ get_or code (at + 3) 0 ∷ [])
       → r ≡ number (take k (drop at code))
   number_4 k r z n m p h =
       let q : at + 4 ≤ length code = omega (arith, z.four n m) in
@@ -299,7 +300,8 @@ module _ (code : List ℕ) (at : ℕ) where
       let p3 : at + 3 < length code = omega arith in
       let e2 : at + 1 + 1 ≡ at + 2 = omega arith in
       let e3 : at + 2 + 1 ≡ at + 3 = omega arith in
-      h
+      let sum : r ≡ get_or code at 0 + 256 * (get_or code (at + 1) 0 + 256 * (get_or code (at + 2) 0 + 256 * get_or code (at + 3) 0)) = omega (arith, h) in
+      sum
       ∙ sym
       (simp (z.four n m, drop_here code at p0, drop_here code (at + 1) p1, e2, drop_here code (at + 2) p2, e3, drop_here code (at + 3) p3, mul-zero, add-zero))
 

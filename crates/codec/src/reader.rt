@@ -45,20 +45,11 @@ fn number_at(code: &[u8], at: usize, k: usize) -> u32
     requires { (at + k ≤ length code.now) × Sized k }
     ensures { result ≡ number (take k (drop at code.now)) }
 {
-    if k == fields::NO_BYTE {
-        return 0;
+    match k {
+        fields::NO_BYTE => 0,
+        fields::ONE_BYTE => u32::from(code[at]),
+        _ => u32::from_le_bytes([code[at], code[at + 1], code[at + 2], code[at + 3]]),
     }
-    if k == fields::ONE_BYTE {
-        return joined(code[at], 0, 0, 0);
-    }
-    joined(code[at], code[at + 1], code[at + 2], code[at + 3])
-}
-
-// A number from its four bytes, the lowest first.
-fn joined(a: u8, b: u8, c: u8, d: u8) -> u32
-    ensures { result ≡ a + 256 * (b + 256 * (c + 256 * d)) }
-{
-    a as u32 + fields::BYTE * (b as u32 + fields::BYTE * (c as u32 + fields::BYTE * (d as u32)))
 }
 
 // The immediate, if the form has one, and the whole record, where the immediate is no suffix.

@@ -162,19 +162,11 @@ fn put_number(buffer: &mut [u8], at: usize, k: usize, value: u32)
     requires { (at + k ≤ length buffer.old) × Sized k }
     ensures { buffer.new ≡ sets buffer.old at (bytes k value) }
 {
-    if k == fields::NO_BYTE {
-        return;
+    match k {
+        fields::NO_BYTE => {}
+        fields::ONE_BYTE => buffer[at] = (value % fields::BYTE) as u8,
+        _ => buffer[at..at + 4].copy_from_slice(&value.to_le_bytes()),
     }
-    buffer[at] = (value % fields::BYTE) as u8;
-    if k == fields::ONE_BYTE {
-        return;
-    }
-    let second = value / fields::BYTE;
-    let third = second / fields::BYTE;
-    let fourth = third / fields::BYTE;
-    buffer[at + 1] = (second % fields::BYTE) as u8;
-    buffer[at + 2] = (third % fields::BYTE) as u8;
-    buffer[at + 3] = (fourth % fields::BYTE) as u8;
 }
 
 // The SIB byte, if the operand has one. The position after it.
