@@ -4,9 +4,8 @@ use Rattle.basis.proofs.Names.{sym, ap, ◌∙◌, and-true, arith, rules, lt-lt
 use Rattle.codec.specs.Forms.{Form, has_operand, allows, immediate_size, accepts}
 use Rattle.codec.specs.Opcodes.{form_for, escape}
 use Rattle.codec.specs.Table.{form_of}
-use Rattle.codec.specs.Operands.{has_sib, displacement_size}
 use Rattle.codec.specs.inner.Fields.{Sized}
-use Rattle.codec.specs.Fits.{fits, sib_fits, operand_fits, operand_is_zero, parts_fit, opcode_fits, has_bytes}
+use Rattle.codec.specs.Fits.{fits, operand_fits, operand_is_zero, parts_fit, opcode_fits, has_bytes}
 use Rattle.codec.specs.declared.Operand.{Operand}
 use Rattle.codec.specs.declared.Instruction.{Instruction}
 use Rattle.codec.proofs.Tests.{tests}
@@ -29,22 +28,6 @@ module _ (k v : ℕ) where
 
   pub field_4 : Sized k → (k ≡ 0 → ⊥) → (k ≡ 1 → ⊥) → v < 2 ^ 32 → true ≡ fits k v
   field_4 z n m h = simp (z.four n m) (sym (lt-ltb v (2 ^ 32) h))
-
--- an operand
-module _ (w : Operand) (p : w.mode < 4) (q : w.reg < 8) (r : w.rm < 8) (t x : Bool) (e : t ≡ has_sib w.mode w.rm)
-    (g : x ≡ sib_fits t w.scale w.index w.base) where
-  sib_is : sib_fits (has_sib w.mode w.rm) w.scale w.index w.base ≡ x
-  sib_is = sym (g ∙ ap (λ (u : Bool). sib_fits u w.scale w.index w.base) e)
-
-  pub operand_no : x ≡ false → false ≡ operand_fits w
-  unfolding operand_fits
-  operand_no h = simp (lt-ltb _ _ p, lt-ltb _ _ q, lt-ltb _ _ r, sib_is, h)
-
-  pub operand_yes : (y : Bool) (k : ℕ) → x ≡ true → k ≡ displacement_size w.mode w.rm w.base
-      → y ≡ fits k w.displacement → y ≡ operand_fits w
-  unfolding operand_fits
-  operand_yes y k h d f =
-      simp (lt-ltb _ _ p, lt-ltb _ _ q, lt-ltb _ _ r, sib_is, h, ← d) (f ∙ sym (and-true (fits k w.displacement)))
 
 -- an immediate
 module _ (n v k : ℕ) (sized : k ≡ immediate_size (form_of n)) (t : Bool) (g : t ≡ fits k v) where
@@ -109,4 +92,4 @@ module _ (i : Instruction) (t : Bool) (g : t ≡ opcode_fits i.first i.second) w
   unfolding has_bytes
   has_parts n r e h f = simp (← g, h, and-true) (f ∙ ap (λ (x : Form). parts_fit x i.operand i.immediate) e)
 
-pub ruleset checks = (rules, tests, field_0, field_1, field_4, operand_no, operand_yes, immediate_no, immediate_yes, parts_absent, zero_no, zero_yes, parts_stop, parts_no, parts_yes, opcode_two, opcode_one, has_no, has_parts)
+pub ruleset checks = (rules, tests, field_0, field_1, field_4, immediate_no, immediate_yes, parts_absent, zero_no, zero_yes, parts_stop, parts_no, parts_yes, opcode_two, opcode_one, has_no, has_parts)

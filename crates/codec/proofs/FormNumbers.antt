@@ -93,16 +93,6 @@ module _ (n mode reg rm : ℕ) where
   pub allowed_past : 15 < n → true ≡ allows (form_of n) mode reg rm
   allowed_past h = sym (free_allows (form_of n) mode reg rm (number_passes is_free 16 n h refl refl))
 
-  -- shifts by an immediate
-  module _ (p : 2 ≤ n) (q : n ≤ 3) where
-    pub allowed_memory : (mode ≡ 3 → ⊥) → false ≡ allows (form_of n) mode reg rm
-    unfolding allows
-    allowed_memory h = in_range (λ k. false ≡ allows (form_of k) mode reg rm) 2 2 n p (omega arith) (simp (ne_eqb mode 3 h), (simp (ne_eqb mode 3 h), tt))
-
-    pub allowed_digit : (t : Bool) → mode ≡ 3 → t ≡ is_among reg (form_of n).digits → t ≡ allows (form_of n) mode reg rm
-    unfolding allows
-    allowed_digit t m e = e ∙ in_range (λ k. is_among reg (form_of k).digits ≡ allows (form_of k) mode reg rm) 2 2 n p (omega arith) (simp m, (simp m, tt))
-
 -- the digits of a shift, whose number is 2 or 3
 module _ (n reg : ℕ) (p : 2 ≤ n) (q : n ≤ 3) where
   abbrev Digit : Bool → Type 0

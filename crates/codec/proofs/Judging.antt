@@ -9,7 +9,7 @@ use Rattle.codec.specs.Operands.{upper, lower, has_sib}
 use Rattle.codec.specs.Reader.{Reader, whole, refuse, byte, field, reads}
 use Rattle.codec.specs.Reads.{immediate_reader, displacement_reader, sib_reader, modrm_reader}
 use Rattle.codec.specs.Finding.{found}
-use Rattle.codec.specs.inner.Entries.{read_as, judged_found, found_after}
+use Rattle.codec.specs.inner.Entries.{read_as, found_after}
 use Rattle.codec.specs.declared.Instruction.{Instruction}
 use Rattle.codec.specs.declared.Found.{Found}
 use Rattle.codec.specs.declared.reader.Opcode.{Opcode}
@@ -25,6 +25,10 @@ judge (whole i) = cond (is_listed i) (whole i) (refuse not_listed)
 judge (refuse n) = refuse n
 judge (byte next) = byte (λ b. judge (next b))
 judge (field k next) = field k (λ v. judge (next v))
+
+abbrev judged_found : Result Found ℕ → Result Found ℕ
+judged_found (Ok x) = cond (accepts mmreg1·mmreg2/mem64+suffix x.instruction.immediate) (Ok x) (Err not_listed)
+judged_found (Err refusal) = Err refusal
 
 abbrev judgement : Decoded → Decoded
 judgement (good i n) = cond (is_listed i) (good i n) (refused not_listed)

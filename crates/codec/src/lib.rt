@@ -35,6 +35,17 @@ pub struct Operand {
     pub displacement: u32,
 }
 
+// An operand that is not there.
+pub(crate) const NO_OPERAND: Operand = Operand {
+    mode: 0,
+    reg: 0,
+    rm: 0,
+    scale: 0,
+    index: 0,
+    base: 0,
+    displacement: 0,
+};
+
 // The opcode bytes, of which the second is 0 where there is one alone, the operand and the immediate; where the opcode has a digit (71 to 73, 18, AE,
 // 83), it is in reg, and where it has a suffix (0F), that is the immediate.
 #[derive(Clone, Copy, PartialEq, Eq, Debug)]

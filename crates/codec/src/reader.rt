@@ -14,22 +14,11 @@ ghost use Rattle.codec.specs.inner.Entries.{found_after, read_as};
 
 use crate::forms::{ABSENT, FORM, SHUFFLE, SUFFIXED};
 use crate::prefixes::ESCAPE;
-use crate::{Found, Instruction, Operand, fields, opcodes, prefixes};
+use crate::{Found, Instruction, NO_OPERAND, Operand, fields, opcodes, prefixes};
 use refusals::Refusal;
 
 // A ModRM byte from here on has mod 11.
 const REGISTERS: u8 = 0xc0;
-
-// An operand that is not there.
-const NO_OPERAND: Operand = Operand {
-    mode: 0,
-    reg: 0,
-    rm: 0,
-    scale: 0,
-    index: 0,
-    base: 0,
-    displacement: 0,
-};
 
 // The opcode bytes, with their entry and its form.
 #[derive(Clone, Copy)]

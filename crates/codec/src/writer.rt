@@ -15,7 +15,7 @@ ghost use Rattle.codec.specs.inner.Fields.{operand_size};
 
 use crate::forms::ABSENT;
 use crate::prefixes::ESCAPE;
-use crate::{Instruction, Operand, fields};
+use crate::{Instruction, NO_OPERAND, Operand, fields};
 
 // How many values mod and scale have.
 const UPPER_VALUES: u8 = 4;
@@ -73,13 +73,7 @@ fn operand_fits(operand: Operand) -> bool
 fn operand_is_zero(operand: Operand) -> bool
     ensures { result ≡ operand_is_zero operand }
 {
-    operand.mode == 0
-        && operand.reg == 0
-        && operand.rm == 0
-        && operand.scale == 0
-        && operand.index == 0
-        && operand.base == 0
-        && operand.displacement == 0
+    operand == NO_OPERAND
 }
 
 // Whether the immediate is one that the form may have.

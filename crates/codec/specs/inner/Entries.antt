@@ -1,8 +1,7 @@
 -- What the code has of an entry: the operation that it names, and what is found after an opcode.
-use Rattle.std.specs.Prelude.{ℕ, ◌/◌, ◌%◌, ◌^◌, List, Bool, true, false, ◌&&◌, cond, eqb, drop, Result, Ok, Err}
+use Rattle.std.specs.Prelude.{ℕ, ◌/◌, ◌%◌, ◌^◌, List, Bool, true, false, ◌&&◌, cond, eqb, drop, Result}
 use Rattle.lanes.specs.Operations.{Operation, PSRLW, PSRLD, PSRLQ, PSRAW, PSRAD, PSLLW, PSLLD, PSLLQ, KEEP, operation_of}
-use Rattle.codec.specs.Refusals.{not_listed}
-use Rattle.codec.specs.Forms.{Form, mmreg1←mmreg2/mem64+imm8, mmreg1·mmreg2/mem64+suffix, is_any, accepts}
+use Rattle.codec.specs.Forms.{Form, mmreg1←mmreg2/mem64+imm8, is_any}
 use Rattle.codec.specs.Table.{form_of}
 use Rattle.codec.specs.Reader.{Reader, reads}
 use Rattle.codec.specs.Finding.{found}
@@ -41,11 +40,6 @@ operation_in entry reg =
 abbrev pub read_as : Opcode → Opcode
 read_as opcode =
     cond (eqb opcode.form 16) (record { first = opcode.first; second = opcode.second; entry = opcode.entry; form = mmreg1←mmreg2/mem64+imm8.number }) opcode
-
--- what was found so, where its immediate is listed as a suffix
-abbrev pub judged_found : Result Found ℕ → Result Found ℕ
-judged_found (Ok x) = cond (accepts mmreg1·mmreg2/mem64+suffix x.instruction.immediate) (Ok x) (Err not_listed)
-judged_found (Err refusal) = Err refusal
 
 -- what is found at a position after an opcode, by one of the readers of its form
 abbrev pub found_after : Opcode → (Form → ℕ → ℕ → Reader) → List ℕ → ℕ → Result Found ℕ
