@@ -47,12 +47,6 @@ fn put(spot: Spot, value: u64, next: usize) -> Work
     }
 }
 
-pub(crate) fn widened(doubleword: u32) -> u64
-    ensures { result ≡ doubleword }
-{
-    doubleword as u64
-}
-
 // The number that an operand has.
 fn held(mmx: &[u64; 8], integers: &[u32; 8], spot: Spot, memory: &[u8]) -> u64
     requires { Named spot }
@@ -60,7 +54,7 @@ fn held(mmx: &[u64; 8], integers: &[u32; 8], spot: Spot, memory: &[u8]) -> u64
 {
     match spot {
         Spot::Mmx(register) => mmx[register as usize],
-        Spot::Integer(register) => widened(integers[register as usize]),
+        Spot::Integer(register) => u64::from(integers[register as usize]),
         Spot::Bytes(address, size) => words::load(memory, address, size as usize),
     }
 }

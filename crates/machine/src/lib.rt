@@ -44,7 +44,7 @@ pub struct Stepped {
     pub at: usize,
 }
 
-// How a run ended.
+// How a run ended. A refusal is had by its number, since `printout::report` promises its text for every `Ran`.
 #[derive(Clone, Copy, PartialEq, Eq, Debug)]
 pub enum End {
     Done,

@@ -9,7 +9,7 @@ ghost use Rattle.works.specs.Answers.{paper_of_target, work_in};
 ghost use Rattle.works.specs.Works.{to_count, work_of};
 ghost use Rattle.machine.specs.inner.Works.{effect_in};
 
-use crate::{Footprint, Places, addresses, gathering, reaches};
+use crate::{Footprint, Places, addresses, reaches};
 use codec::fields::VALUES;
 use codec::forms::{ADD, DECREMENT, FORM, SET};
 use codec::{Instruction, Kind};
@@ -41,7 +41,7 @@ fn counted(integers: &[u32; 8], register: usize, addend: u32, next: usize) -> Wo
     ensures { result ≡ work_of to_count 0 register ((get_or integers.now register 0 + addend) % 2 ^ 32) next }
 {
     let sum = std::num::wrapping_add_u32(integers[register], addend);
-    work_of(COUNT, 0, register, gathering::widened(sum), next)
+    work_of(COUNT, 0, register, u64::from(sum), next)
 }
 
 // A jump: nothing remains but to go on at its target.
@@ -73,7 +73,7 @@ pub(crate) fn looped(
             Ok(counted(integers, register, addend, next))
         }
         SET => {
-            let value = gathering::widened(instruction.immediate);
+            let value = u64::from(instruction.immediate);
             Ok(work_of(works::SET, 0, register, value, next))
         }
         _ => jump(zero, length, next, instruction.immediate),

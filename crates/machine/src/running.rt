@@ -1,10 +1,12 @@
 // Runs of a machine by value over a floor, below which no byte of the memory is written: from a position on, from the code's start, and of one
 // instruction.
-ghost use Rattle.std.specs.Prelude.{◌≡◌, ◌≤◌, length};
+ghost use Rattle.std.specs.Prelude.{◌≡◌, ◌≤◌, List, ℕ, length};
+ghost use Rattle.refusals.specs.Numbers.{number_of};
+ghost use Rattle.reorder.specs.Run.{stopped};
 ghost use Rattle.codec.specs.Reads.{longest_code};
 ghost use Rattle.works.specs.Bars.{number_in};
 ghost use Rattle.manual.specs.State.{longest_memory};
-ghost use Rattle.manual.specs.Steps.{step_at};
+ghost use Rattle.manual.specs.Steps.{refused_with, step_at};
 ghost use Rattle.manual.specs.Runs.{run_of};
 ghost use Rattle.machine.specs.State.{state_of};
 ghost use Rattle.machine.specs.Steps.{paper_of_step};
@@ -22,6 +24,29 @@ fn number_in(bar: Option<Refusal>) -> u8
     match bar {
         Some(refusal) => refusal.number(),
         None => 0,
+    }
+}
+
+// A run that is refused before it starts.
+fn unstarted(machine: Machine, refusal: Refusal) -> Ran
+    ensures { (memory : List ℕ) → paper_of_run result memory ≡ stopped (number_of refusal) 0 0 (state_of machine memory) }
+{
+    Ran {
+        end: End::Refused(refusal.number()),
+        at: 0,
+        count: 0,
+        machine,
+    }
+}
+
+// A step that is refused before its instruction is looked at.
+fn untaken(machine: Machine, at: usize, refusal: Refusal) -> Stepped
+    ensures { (memory : List ℕ) → paper_of_step result memory ≡ refused_with (number_of refusal) at (state_of machine memory) }
+{
+    Stepped {
+        answer: Err(refusal.number()),
+        machine,
+        at,
     }
 }
 
@@ -47,6 +72,7 @@ impl Machine {
         let quick = works::table(number_in(bar));
         let mut at = start;
         let mut remaining = budget;
+        // no `for`: a jump leads back, and done is tested before the budget
         while at < code.len() {
             if remaining == 0 {
                 return Ran {
@@ -110,28 +136,13 @@ impl Machine {
         ensures { paper_of_run result memory.new ≡ run_of floor code.now budget (state_of self memory.old) }
     {
         if LONGEST_MEMORY < memory.len() {
-            return Ran {
-                end: End::Refused(Refusal::MemoryTooLong.number()),
-                at: 0,
-                count: 0,
-                machine: self,
-            };
+            return unstarted(self, Refusal::MemoryTooLong);
         }
         if memory.len() < floor {
-            return Ran {
-                end: End::Refused(Refusal::FloorTooHigh.number()),
-                at: 0,
-                count: 0,
-                machine: self,
-            };
+            return unstarted(self, Refusal::FloorTooHigh);
         }
         if LONGEST_CODE < code.len() {
-            return Ran {
-                end: End::Refused(Refusal::CodeTooLong.number()),
-                at: 0,
-                count: 0,
-                machine: self,
-            };
+            return unstarted(self, Refusal::CodeTooLong);
         }
         self.run_from(code, 0, memory, floor, budget)
     }
@@ -142,32 +153,16 @@ impl Machine {
         ensures { paper_of_step result memory.new ≡ step_at floor code.now at (state_of self memory.old) }
     {
         if LONGEST_MEMORY < memory.len() {
-            return Stepped {
-                answer: Err(Refusal::MemoryTooLong.number()),
-                machine: self,
-                at,
-            };
+            return untaken(self, at, Refusal::MemoryTooLong);
         }
         if memory.len() < floor {
-            return Stepped {
-                answer: Err(Refusal::FloorTooHigh.number()),
-                machine: self,
-                at,
-            };
+            return untaken(self, at, Refusal::FloorTooHigh);
         }
         if LONGEST_CODE < code.len() {
-            return Stepped {
-                answer: Err(Refusal::CodeTooLong.number()),
-                machine: self,
-                at,
-            };
+            return untaken(self, at, Refusal::CodeTooLong);
         }
         if code.len() <= at {
-            return Stepped {
-                answer: Err(Refusal::CodeEnds.number()),
-                machine: self,
-                at,
-            };
+            return untaken(self, at, Refusal::CodeEnds);
         }
         let ran = self.run_from(code, at, memory, floor, 1);
         let machine = ran.machine;

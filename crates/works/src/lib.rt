@@ -30,7 +30,8 @@ pub const QUADWORD: u8 = 8;
 pub(crate) const DOUBLEWORD_RANGE: u64 = 0x100000000;
 
 // What remains of an instruction: what to do, with a number (the operation, the bytes to store, or the refusal), a place (the register, or the
-// address) and a value, and the position where the run goes on.
+// address) and a value, and the position where the run goes on. What to do is a number, and no enum: `perform` promises by its clause `left_by` what
+// every number leaves.
 #[derive(Clone, Copy, PartialEq, Eq, Debug)]
 pub struct Work {
     pub what: u8,
