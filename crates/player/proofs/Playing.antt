@@ -1,6 +1,6 @@
 -- What is printed of a page, piece by piece: each text is the definition's in the case that the code has reached.
-use Rattle.std.specs.Prelude.{Err, ◌≡◌, refl, List, ℕ, ◌≤◌, ◌<◌, length}
-use Rattle.basis.proofs.Names.{sym, rules, lt-ltb, le-ltb}
+use Rattle.std.specs.Prelude.{Err, ◌≡◌, refl, List, ◌++◌, ℕ, ◌-◌, ◌≤◌, ◌<◌, length, take, drop}
+use Rattle.basis.proofs.Names.{sym, rules, sub-zero, lt-ltb, le-ltb, take-append_seam, take-length}
 use Rattle.refusals.specs.declared.Refusal.{Refusal}
 use Rattle.refusals.specs.Numbers.{number_of}
 use Rattle.manual.specs.State.{State, longest_memory}
@@ -35,6 +35,16 @@ pub run_of_parts : (file memory after mmx integers code buffer : List ℕ) (mark
 unfolding state_text run_in
 run_of_parts file memory after mmx integers code buffer marks machine ran p m i start c run told =
     rw (sym m, sym i, sym start, sym c, sym run, answer_text_lem ran.end ran.at ran.count (state_of ran.machine after)) told
+
+-- the copy of a memory, at the start of a buffer
+pub run_of_copy : (file memory before after buffer : List ℕ) (n marks : ℕ) (p : Printed)
+    → n ≡ length memory → after ≡ take (length memory) memory ++ drop (length memory) before
+    → p ≡ printed (answer_text (run_in (take (n - 0) after) marks file)) buffer
+    → p ≡ printed (answer_text (run_in memory marks file)) buffer
+run_of_copy file memory before after buffer n marks p count copied told = rw front at told
+  where
+    front : take (n - 0) after ≡ memory
+    front = rw (sub-zero, count, copied, take-length) (take-append_seam memory (drop (length memory) before))
 
 -- a well-formed page, by what its reading answers
 module _ (file memory : List ℕ) (marks : ℕ) (m : memory ≡ memory_of file) (read : well_formed_with marks ≡ page_of file) where
