@@ -5,7 +5,7 @@ ghost use Rattle.std.specs.Prelude.{◌≡◌, ◌+◌, ◌*◌, ◌≤◌, leng
 ghost use Rattle.words.specs.Number.{number};
 ghost use Rattle.codec.specs.Opcodes.{escape};
 ghost use Rattle.codec.specs.Table.{entry_of_first, form_in};
-ghost use Rattle.codec.specs.Operands.{operand_of};
+ghost use Rattle.codec.specs.Operands.{upper, middle, lower, operand_of};
 ghost use Rattle.codec.specs.inner.Fields.{Sized};
 ghost use Rattle.codec.specs.Reader.{reads};
 ghost use Rattle.codec.specs.Reads.{immediate_reader, displacement_reader, sib_reader, modrm_reader, first_reader, second_reader};
@@ -74,11 +74,9 @@ fn displacement_at(
     requires { (at ≤ length code.now) × (opcode.form ≡ 16 → ⊥) }
     ensures { paper_of_found result ≡ found_after opcode (λ form first second. displacement_reader form first second modrm sib) code.now at }
 {
-    let k = fields::displacement_size(
-        modrm / fields::UPPER,
-        modrm % fields::VALUES,
-        sib % fields::VALUES,
-    );
+    let (mode, _, rm) = fields_of(modrm);
+    let (_, _, base) = fields_of(sib);
+    let k = fields::displacement_size(mode, rm, base);
     if code.len() - at < k {
         return Err(Refusal::CodeEnds);
     }
@@ -86,17 +84,30 @@ fn displacement_at(
     number_after(code, at + k, opcode, operand_of(modrm, sib, displacement))
 }
 
+// The three fields of a ModRM or SIB byte, from the upper one down.
+fn fields_of(byte: u8) -> (u8, u8, u8)
+    ensures { result ≡ (upper byte, middle byte, lower byte) }
+{
+    (
+        byte / fields::UPPER,
+        byte / fields::MIDDLE % fields::VALUES,
+        byte % fields::VALUES,
+    )
+}
+
 // The operand of a ModRM byte, an SIB byte (0 where there is none) and a displacement.
 fn operand_of(modrm: u8, sib: u8, displacement: u32) -> Operand
     ensures { result ≡ operand_of modrm sib displacement }
 {
+    let (mode, reg, rm) = fields_of(modrm);
+    let (scale, index, base) = fields_of(sib);
     Operand {
-        mode: modrm / fields::UPPER,
-        reg: modrm / fields::MIDDLE % fields::VALUES,
-        rm: modrm % fields::VALUES,
-        scale: sib / fields::UPPER,
-        index: sib / fields::MIDDLE % fields::VALUES,
-        base: sib % fields::VALUES,
+        mode,
+        reg,
+        rm,
+        scale,
+        index,
+        base,
         displacement,
     }
 }
@@ -109,7 +120,8 @@ fn sib_at(code: &[u8], at: usize, opcode: Opcode, modrm: u8) -> Result<Found, Re
     if REGISTERS <= modrm {
         return number_after(code, at, opcode, operand_of(modrm, 0, 0));
     }
-    if fields::sib_follows(modrm / fields::UPPER, modrm % fields::VALUES) {
+    let (mode, _, rm) = fields_of(modrm);
+    if fields::sib_follows(mode, rm) {
         if code.len() <= at {
             return Err(Refusal::CodeEnds);
         }
@@ -128,12 +140,8 @@ fn modrm_at(code: &[u8], at: usize, opcode: Opcode) -> Result<Found, Refusal>
         return Err(Refusal::CodeEnds);
     }
     let modrm = code[at];
-    if fields::allowed(
-        opcode.form,
-        modrm / fields::UPPER,
-        modrm / fields::MIDDLE % fields::VALUES,
-        modrm % fields::VALUES,
-    ) {
+    let (mode, reg, rm) = fields_of(modrm);
+    if fields::allowed(opcode.form, mode, reg, rm) {
         sib_at(code, at + 1, opcode, modrm)
     } else {
         Err(Refusal::NotAllowed)
@@ -165,7 +173,8 @@ fn operands_at(code: &[u8], at: usize, opcode: Opcode) -> Result<Found, Refusal>
     Ok(found)
 }
 
-// The ModRM byte of ADD, which names a register, and the immediate. (`modrm_at` has one caller and is copied into it; with a second it would not be.)
+// The ModRM byte of ADD, which names a register, and the immediate. (`modrm_at` has one caller and is copied into it. With a second it would not be:
+// one function for both made the odd forms dearer by 80 to 110 instructions.)
 #[tactic(auto, using(crate::proofs::Steps::reading, crate::proofs::Steps::register_on))]
 fn register_at(code: &[u8], at: usize, opcode: Opcode) -> Result<Found, Refusal>
     requires { opcode.form ≡ 11 }
@@ -175,12 +184,8 @@ fn register_at(code: &[u8], at: usize, opcode: Opcode) -> Result<Found, Refusal>
         return Err(Refusal::CodeEnds);
     }
     let modrm = code[at];
-    if fields::allowed(
-        opcode.form,
-        modrm / fields::UPPER,
-        modrm / fields::MIDDLE % fields::VALUES,
-        modrm % fields::VALUES,
-    ) {
+    let (mode, reg, rm) = fields_of(modrm);
+    if fields::allowed(opcode.form, mode, reg, rm) {
         return number_after(code, at + 1, opcode, operand_of(modrm, 0, 0));
     }
     Err(Refusal::NotAllowed)
