@@ -19,7 +19,6 @@ use Rattle.codec.specs.declared.Operand.{Operand}
 use Rattle.codec.specs.declared.Instruction.{Instruction}
 use Rattle.words.proofs.Numbers.{length-bytes}
 use Rattle.words.proofs.Laws.{sets-append}
-use Rattle.codec.proofs.Sizes.{byte_there}
 use Rattle.codec.proofs.Facts.{modrm_fields, sib_fields, bytes_operand}
 
 -- stores at the start of a buffer that has room for them
@@ -235,7 +234,6 @@ module _ (i : Instruction) (l : List ℕ) (t : Bool) (g : t ≡ has_bytes i) whe
 
 pub ruleset puts = (
   rules,
-  byte_there,
   number-put_1,
   number-put_4,
   sib_fields,

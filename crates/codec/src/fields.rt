@@ -25,6 +25,7 @@ pub const VALUES: u8 = 8;
 pub(crate) const BYTE: u32 = 256;
 
 // The sizes of a displacement or an immediate.
+// They are numbers and no enum: each use but three `match` adds or compares them, so that an enum's number would stand beside it there (`at + k`).
 pub(crate) const NO_BYTE: usize = 0;
 
 pub(crate) const ONE_BYTE: usize = 1;
