@@ -18,6 +18,7 @@ pub(crate) fn entry_in(table: &[u32; 256], second: u8) -> u32
 }
 
 // The first bytes of loops: ADD's, JNZ's, and the first and the last of MOV's and of DEC's, whose last three bits name a register.
+// They are numbers and no enum: two of them begin and end ranges of bytes.
 const ADD_BYTE: u8 = 0x83;
 
 const JUMP_IF_NOT_ZERO: u8 = 0x75;

@@ -1,4 +1,5 @@
 // The first byte: 0F, or why one that starts no instruction is refused, the prefixes by 4, every other by 5.
+// The bytes are numbers and no enum, since they stand so in the code: a `match` goes by their names.
 ghost use Rattle.std.specs.Prelude.{◌≡◌};
 ghost use Rattle.refusals.specs.Numbers.{number_of};
 ghost use Rattle.codec.specs.Reads.{refusal_of};

@@ -1,4 +1,5 @@
 // The reader: one function for each part of an instruction, from left to right, each handing on the position after it.
+// Code, position and opcode are parameters and no struct: with another position at each call it would be made anew each time.
 #![tactic(auto, using(crate::proofs::Steps::reading, crate::proofs::Judging::judging))]
 
 ghost use Rattle.std.specs.Prelude.{◌≡◌, ◌+◌, ◌*◌, ◌≤◌, length, take, drop};

@@ -106,7 +106,8 @@ fn opcode_fits(first: u8, second: u8) -> bool
     first == ESCAPE || second == 0
 }
 
-// Whether any byte string reads as the record.
+// Whether any byte string reads as the record. (Form and record are parameters here, in `size_of` and in `put`, and no struct: `write` alone hands
+// them on, and made them.)
 pub(crate) fn has_bytes(form: u32, instruction: Instruction) -> bool
     requires { form_of form ≡ form_for instruction.first instruction.second }
     ensures { result ≡ has_bytes instruction }

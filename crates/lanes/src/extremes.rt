@@ -1,4 +1,4 @@
-// PMAX and PMIN, all lanes at once.
+// PMAX and PMIN, all lanes at once. Each is one expression, so that one function for two of them, with what differs as parameters, would be longer.
 ghost use Rattle.std.specs.Prelude.{◌≡◌};
 ghost use Rattle.lanes.specs.Rules.{packed, pairwise, maximum_signed, maximum_unsigned, minimum_signed, minimum_unsigned};
 

@@ -148,7 +148,8 @@ pub const PSHUFW: u8 = 57;
 // No place in the list: a number that names none.
 pub const KEEP: u8 = 255;
 
-// What the operation of this number leaves. A number that names none keeps the destination.
+// What the operation of this number leaves. A number that names none keeps the destination. (One `match`, and no closures: the compiler makes a jump
+// table of it, and each family at its widths.)
 #[tactic(auto, unfolding(crate::specs::Operations::operate, crate::specs::Rules::and_not))]
 pub fn operate(operation: u8, destination: u64, source: u64) -> u64
     ensures { result ≡ operate (operation_of operation) destination source }

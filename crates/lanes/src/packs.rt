@@ -102,6 +102,8 @@ fn put_apart(x: u64, w: Width) -> u64
     }
 }
 
+// One for each clamp: they differ in its call alone.
+
 pub(crate) fn pack_signed(a: u64, b: u64, w: Width) -> u64
     requires { Narrow w.bits }
     ensures { result ≡ packed (pack clamp_signed) w.bits a b }

@@ -37,7 +37,8 @@ pub(crate) fn add_unsigned(a: u64, b: u64, w: Width) -> u64
     sum | negatives((a & b) | ((a | b) & !sum), w)
 }
 
-// Each subtraction is its addition from the other side: a - b is not (not a + b), clamped or not.
+// Each subtraction is its addition from the other side: a - b is not (not a + b), clamped or not. They are three: a function that takes the addition as
+// a closure would have to be told by a contract what each addition leaves.
 
 #[tactic(auto, using(crate::proofs::Complementing::complementing))]
 pub(crate) fn subtract(a: u64, b: u64, w: Width) -> u64

@@ -6,7 +6,7 @@ ghost use Rattle.codec.specs.inner.Entries.{of_width, shift_of};
 use codec::forms::{LEFT, RIGHT, RIGHT_SIGNED};
 use lanes::{KEEP, PSLLD, PSLLQ, PSLLW, PSRAD, PSRAW, PSRLD, PSRLQ, PSRLW};
 
-// The lanes' widths.
+// The lanes' widths, as an entry of the table has them in one of its bytes.
 const WORD_BITS: u8 = 16;
 
 const DOUBLEWORD_BITS: u8 = 32;

@@ -11,7 +11,7 @@ const QUADWORD_BYTES: usize = 8;
 
 const DOUBLEWORD_BYTES: usize = 4;
 
-// The bits of the marks byte.
+// The bits of the marks byte of a page.
 const EM: u8 = 1;
 
 const TS: u8 = 2;

@@ -1,5 +1,5 @@
 // Little-endian numbers of up to 8 bytes in a lent buffer. Any place and any size may be asked for: bytes that do not all lie in the buffer
-// are read as 0, and are not written.
+// are read as 0, and are not written. Buffer, place and size are parameters and no struct, as `load` and `store` promise.
 #![tactic(auto)]
 
 ghost use Rattle.std.specs.Prelude.{◌≡◌, ◌+◌, ◌≤◌, length};
