@@ -24,20 +24,22 @@ advance-requires c = (
 pub returns-in-Err : goal.returns-in-Err
 returns-in-Err c =
     let inv = c.loop-at.invariant in
+    let floor_fits = c.requires.1.1.0 in
     run_refused _ _ _ _ _ _ _ _ _ _ inv.same c.loop-at-test.true inv.left c.if-remaining-eq0.false c.requires.0 c.args.memory.now
-    inv.kept c.requires.1.0 c.requires.1.1.0 _ _ _ _ _ inv.barred _ _ refl refl c.in-Err.ensures _ refl
+    inv.kept c.requires.1.0 floor_fits _ _ _ _ _ inv.barred _ _ refl refl c.in-Err.ensures _ refl
 
 pub loop-at-preserved : goal.loop-at-preserved
 loop-at-preserved c =
     let inv = c.loop-at.invariant in
+    let fits = c.requires.1.1.0 in
     record {
       left = omega arith;
       within = run_within _ _ _ _ _ _ _ _ _ _ inv.same c.loop-at-test.true inv.left c.if-remaining-eq0.false c.requires.0 c.args.memory.now
-          inv.kept c.requires.1.0 c.requires.1.1.0 _ _ _ _ _ inv.barred _ _ refl refl c.in-Ok.ensures _ refl;
+          inv.kept c.requires.1.0 fits _ _ _ _ _ inv.barred _ _ refl refl c.in-Ok.ensures _ refl;
       kept = search rules;
       barred = still_barred _ _ _ _ inv.barred;
       same = run_on _ _ _ _ _ _ _ _ _ _ inv.same c.loop-at-test.true inv.left c.if-remaining-eq0.false c.requires.0 c.args.memory.now
-          inv.kept c.requires.1.0 c.requires.1.1.0 _ _ _ _ _ inv.barred _ _ refl refl c.in-Ok.ensures _ refl;
+          inv.kept c.requires.1.0 fits _ _ _ _ _ inv.barred _ _ refl refl c.in-Ok.ensures _ refl;
     }
 
 pub returns-then-remaining-eq0 : goal.returns-then-remaining-eq0
