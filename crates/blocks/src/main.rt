@@ -18,6 +18,7 @@ mod texts;
 use cases::{Form, Left};
 use std::io;
 use std::io::{Read, Write};
+use tables::play_all;
 
 // Room for the block on standard input, and the memory lent to it.
 const ROOM: usize = 4096;
@@ -41,13 +42,16 @@ fn standard_input(input: &mut impl Read, out: &mut impl Write) -> io::Result<()>
 
 fn main(rt: HostRuntime) -> io::Result<()> {
     let mut out = io::writer(&rt);
-    runs::all(&mut out)?;
-    steps::all(&mut out)?;
-    floors::all(&mut out)?;
-    floor_steps::all(&mut out)?;
-    footprints::all(&mut out)?;
-    meetings::all(&mut out)?;
-    loops::all(&mut out)?;
-    loop_steps::all(&mut out)?;
+    play_all(&mut out, Form::Run(Left::Picture), runs::CASES)?;
+    play_all(&mut out, Form::Step(Left::Nothing), steps::CASES)?;
+    play_all(&mut out, Form::Step(Left::Tags), steps::STOPPED)?;
+    play_all(&mut out, Form::Run(Left::Picture), floors::CASES)?;
+    play_all(&mut out, Form::Step(Left::Picture), floor_steps::CASES)?;
+    play_all(&mut out, Form::Footprint, footprints::CASES)?;
+    play_all(&mut out, Form::Meeting, meetings::CASES)?;
+    play_all(&mut out, Form::Run(Left::Counters), loops::CASES)?;
+    play_all(&mut out, Form::Step(Left::Counters), loop_steps::STEPS)?;
+    play_all(&mut out, Form::Footprint, loop_steps::FOOTPRINTS)?;
+    play_all(&mut out, Form::Meeting, loop_steps::MEETINGS)?;
     standard_input(&mut rt.reader(), &mut out)
 }

@@ -50,10 +50,6 @@ fn number(digits: &str) -> usize {
     usize::from_str_radix(digits, HEXADECIMAL).unwrap_or(0)
 }
 
-fn narrow(digits: &str) -> u32 {
-    u32::from_str_radix(digits, HEXADECIMAL).unwrap_or(0)
-}
-
 impl Case {
     fn new(form: Form) -> Case {
         Case {
@@ -72,12 +68,14 @@ impl Case {
     fn take(&mut self, word: &str) {
         match word.split_at_checked(1) {
             Some(("Q", digits)) => self.given.machine.mmx[0] = number(digits) as u64,
-            Some(("A", digits)) => self.given.machine.integers[0] = narrow(digits),
+            Some(("A", digits)) => {
+                self.given.machine.integers[0] = u32::try_from(number(digits)).unwrap_or(0)
+            }
             Some(("M", digits)) => {
-                let bits = u8::from_str_radix(digits, HEXADECIMAL).unwrap_or(0);
+                let bits = u8::try_from(number(digits)).unwrap_or(0);
                 self.given.machine.marks = marks_of(bits);
             }
-            Some(("B", digits)) => self.given.budget = narrow(digits),
+            Some(("B", digits)) => self.given.budget = u32::try_from(number(digits)).unwrap_or(0),
             Some(("F", digits)) => self.given.floor = number(digits),
             Some(("N", digits)) => self.memory = number(digits),
             Some(("L", digits)) => self.length = number(digits),

@@ -79,7 +79,10 @@ fn show_footprint(out: &mut impl Write, footprint: Footprint) -> io::Result<()> 
     show_places(out, footprint.writes)
 }
 
-pub(crate) fn show_tracing(out: &mut impl Write, tracing: Result<Footprint, Refusal>) -> io::Result<()> {
+pub(crate) fn show_tracing(
+    out: &mut impl Write,
+    tracing: Result<Footprint, Refusal>,
+) -> io::Result<()> {
     match tracing {
         Ok(footprint) => show_footprint(out, footprint),
         Err(refusal) => show_refusal(out, refusal.number()),
