@@ -34,11 +34,6 @@ const OF_REGISTERS: u8 = 8;
 // The ModRM bytes from here on have mod 11.
 pub(crate) const REGISTERS: u8 = 0xc0;
 
-// Where the SIB byte stands, and where the immediate of ADD does.
-const SIB_AT: usize = 3;
-
-const ADDED_AT: usize = 2;
-
 // What was tried so far: what is read, how often it is not written back, its bytes, and what is not listed.
 #[derive(Clone, Copy)]
 pub(crate) struct Tally {
@@ -48,7 +43,7 @@ pub(crate) struct Tally {
     unlisted: u64,
 }
 
-pub(crate) const NOTHING: Tally = Tally {
+const NOTHING: Tally = Tally {
     encodings: 0,
     differences: 0,
     bytes: 0,
@@ -98,81 +93,75 @@ pub(crate) fn try_code(tally: Tally, code: &[u8; ROOM]) -> Tally {
     }
 }
 
-// A second byte and a ModRM byte, with each SIB byte if one follows, and more bytes for a displacement and an immediate.
-fn try_modrm(start: Tally, second: u8, modrm: u8) -> Tally {
+// The tally that a step leaves of this one, at each byte in turn.
+pub(crate) fn over_bytes<F: Fn(Tally, u8) -> Tally>(start: Tally, step: F) -> Tally
+    requires { F.IsAlwaysCallable step }
+{
     let mut tally = start;
-    let mut code = [
-        ESCAPE, second, modrm, 0, 0x81, 0x42, 0xc3, 0x24, 0x95, 0x66, 0xf7, 0x18,
-    ];
-    if modrm < REGISTERS && modrm % 8 == SIB {
-        for sib in 0u8..=255 {
-            code[SIB_AT] = sib;
-            tally = try_code(tally, &code);
-        }
-        return tally;
+    for byte in 0u8..=255 {
+        tally = step(tally, byte);
     }
-    try_code(tally, &code)
+    tally
+}
+
+// A second byte, a ModRM byte and an SIB byte, and more bytes for a displacement and an immediate.
+fn try_sib(tally: Tally, second: u8, modrm: u8, sib: u8) -> Tally {
+    try_code(
+        tally,
+        &[
+            ESCAPE, second, modrm, sib, 0x81, 0x42, 0xc3, 0x24, 0x95, 0x66, 0xf7, 0x18,
+        ],
+    )
+}
+
+// A second byte and a ModRM byte, with each SIB byte if one follows.
+fn try_modrm(tally: Tally, second: u8, modrm: u8) -> Tally {
+    if modrm < REGISTERS && modrm % 8 == SIB {
+        over_bytes(tally, |tally, sib| try_sib(tally, second, modrm, sib))
+    } else {
+        try_sib(tally, second, modrm, 0)
+    }
 }
 
 // A second byte, with each ModRM byte if one follows.
-fn try_second(start: Tally, second: u8) -> Tally {
+fn try_second(tally: Tally, second: u8) -> Tally {
     if second == EMMS {
-        return try_modrm(start, second, 0);
+        try_modrm(tally, second, 0)
+    } else {
+        over_bytes(tally, |tally, modrm| try_modrm(tally, second, modrm))
     }
-    let mut tally = start;
-    for modrm in 0u8..=255 {
-        tally = try_modrm(tally, second, modrm);
-    }
-    tally
 }
 
-// Each second byte.
-fn try_table() -> Tally {
-    let mut tally = NOTHING;
-    for second in 0u8..=255 {
-        tally = try_second(tally, second);
-    }
-    tally
+// A first byte, the one behind it and a third, and more bytes.
+fn try_third(tally: Tally, first: u8, next: u8, third: u8) -> Tally {
+    try_code(
+        tally,
+        &[
+            first, next, third, 0x42, 0xc3, 0x24, 0x95, 0x66, 0xf7, 0x18, 0x2a, 0x5b,
+        ],
+    )
 }
 
-// A first byte and the one behind it, with each immediate if that is a ModRM byte, and more bytes.
-fn try_next(start: Tally, first: u8, next: u8) -> Tally {
-    let mut tally = start;
-    let mut code = [
-        first, next, 0x81, 0x42, 0xc3, 0x24, 0x95, 0x66, 0xf7, 0x18, 0x2a, 0x5b,
-    ];
+// A first byte and the one behind it, with each immediate if that is a ModRM byte.
+fn try_next(tally: Tally, first: u8, next: u8) -> Tally {
     if first == ADD {
-        for immediate in 0u8..=255 {
-            code[ADDED_AT] = immediate;
-            tally = try_code(tally, &code);
-        }
-        return tally;
+        over_bytes(tally, |tally, immediate| {
+            try_third(tally, first, next, immediate)
+        })
+    } else {
+        try_third(tally, first, next, 0x81)
     }
-    try_code(tally, &code)
 }
 
 // A first byte other than 0F, with each byte behind it if one follows.
-fn try_first(start: Tally, first: u8) -> Tally {
+fn try_first(tally: Tally, first: u8) -> Tally {
     if first == ESCAPE {
-        return start;
+        tally
+    } else if first / OF_REGISTERS == DEC / OF_REGISTERS {
+        try_next(tally, first, 0)
+    } else {
+        over_bytes(tally, |tally, next| try_next(tally, first, next))
     }
-    if first / OF_REGISTERS == DEC / OF_REGISTERS {
-        return try_next(start, first, 0);
-    }
-    let mut tally = start;
-    for next in 0u8..=255 {
-        tally = try_next(tally, first, next);
-    }
-    tally
-}
-
-// Each first byte other than 0F.
-fn try_loops() -> Tally {
-    let mut tally = NOTHING;
-    for first in 0u8..=255 {
-        tally = try_first(tally, first);
-    }
-    tally
 }
 
 // The number of encodings under this name, and what is counted with them.
@@ -184,9 +173,13 @@ fn print_tally(out: &mut impl Write, name: &str, tally: Tally) -> io::Result<()>
 
 fn main(rt: HostRuntime) -> io::Result<()> {
     let mut out = io::writer(&rt);
-    print_tally(&mut out, "encodings", try_table())?;
-    print_tally(&mut out, "encodings of loops", try_loops())?;
-    let siblings = siblings::try_siblings();
+    print_tally(&mut out, "encodings", over_bytes(NOTHING, try_second))?;
+    print_tally(
+        &mut out,
+        "encodings of loops",
+        over_bytes(NOTHING, try_first),
+    )?;
+    let siblings = over_bytes(NOTHING, siblings::try_operand);
     print_tally(&mut out, "encodings of siblings", siblings)?;
     edges::print(&mut out, "suffixes not listed", siblings.unlisted)?;
     edges::print_edges(&mut out)?;

@@ -1,7 +1,7 @@
 // The second byte 0F with each ModRM and SIB byte, and behind them each suffix.
 ghost use Rattle.std.specs.Prelude.{◌<◌, ◌≤◌};
 
-use crate::{ESCAPE, NOTHING, REGISTERS, Tally, try_code};
+use crate::{ESCAPE, REGISTERS, Tally, over_bytes, try_code};
 use codec::modes::{BYTE_DISPLACEMENT, LONG_DISPLACEMENT, NO_BASE, NO_DISPLACEMENT, SIB};
 
 // The second byte.
@@ -52,36 +52,22 @@ fn suffix_at(modrm: u8, sib: u8) -> usize
 }
 
 // Operand bytes with each suffix.
-fn try_suffixes(start: Tally, modrm: u8, sib: u8) -> Tally {
-    let mut tally = start;
-    let mut code = [
-        ESCAPE, SIBLING, modrm, sib, 0x81, 0x42, 0xc3, 0x24, 0x95, 0x66, 0xf7, 0x18,
-    ];
+fn try_suffixes(tally: Tally, modrm: u8, sib: u8) -> Tally {
     let at = suffix_at(modrm, sib);
-    for suffix in 0u8..=255 {
+    over_bytes(tally, |tally, suffix| {
+        let mut code = [
+            ESCAPE, SIBLING, modrm, sib, 0x81, 0x42, 0xc3, 0x24, 0x95, 0x66, 0xf7, 0x18,
+        ];
         code[at] = suffix;
-        tally = try_code(tally, &code);
-    }
-    tally
+        try_code(tally, &code)
+    })
 }
 
 // A ModRM byte, with each SIB byte if one follows.
-fn try_operand(start: Tally, modrm: u8) -> Tally {
-    if !has_sib(modrm) {
-        return try_suffixes(start, modrm, 0);
+pub(crate) fn try_operand(tally: Tally, modrm: u8) -> Tally {
+    if has_sib(modrm) {
+        over_bytes(tally, |tally, sib| try_suffixes(tally, modrm, sib))
+    } else {
+        try_suffixes(tally, modrm, 0)
     }
-    let mut tally = start;
-    for sib in 0u8..=255 {
-        tally = try_suffixes(tally, modrm, sib);
-    }
-    tally
-}
-
-// Each ModRM byte.
-pub(crate) fn try_siblings() -> Tally {
-    let mut tally = NOTHING;
-    for modrm in 0u8..=255 {
-        tally = try_operand(tally, modrm);
-    }
-    tally
 }

@@ -1,5 +1,7 @@
 // The edges of writing: records that have no bytes or no room.
-use crate::edges::{JNZ, MOV, OF_SFENCE, PFMAX, PFMUL, print_refusal};
+ghost use Rattle.std.specs.Prelude.{◌≤◌};
+
+use crate::edges::{JNZ, MOV, OF_SFENCE, PFMAX, print_refusal};
 use crate::siblings::SIBLING;
 use crate::{ADD, DEC, ESCAPE, FILL, ROOM};
 use codec::modes::REGISTER;
@@ -7,241 +9,192 @@ use codec::{Instruction, Operand};
 use std::io;
 use std::io::Write;
 
-// A second byte with the usual operands, and one with an immediate byte behind them.
-const PADDB: u8 = 0xfc;
+// No operand.
+const NONE: Operand = Operand {
+    mode: 0,
+    reg: 0,
+    rm: 0,
+    scale: 0,
+    index: 0,
+    base: 0,
+    displacement: 0,
+};
 
-const PSHUFW: u8 = 0x70;
+// Registers 0 and 0, and 0 and 7.
+const FIRST: Operand = Operand {
+    mode: REGISTER,
+    ..NONE
+};
 
-// SFENCE's digit.
-const FENCE_DIGIT: u8 = 7;
+const LAST: Operand = Operand { rm: 7, ..FIRST };
 
-// The refusal of writing an instruction, or 0.
+// An instruction with the usual operands, one with an immediate byte behind them, a sibling, and SFENCE with its digit.
+const PADDB: Instruction = Instruction {
+    first: ESCAPE,
+    second: 0xfc,
+    operand: LAST,
+    immediate: 0,
+};
+
+const PSHUFW: Instruction = Instruction {
+    second: 0x70,
+    ..PADDB
+};
+
+const OF_PFMAX: Instruction = Instruction {
+    second: SIBLING,
+    immediate: PFMAX as u32,
+    ..PADDB
+};
+
+const SFENCE: Instruction = Instruction {
+    second: OF_SFENCE,
+    operand: Operand { reg: 7, ..FIRST },
+    ..PADDB
+};
+
+// Instructions of loops, with register 0.
+const OF_MOV: Instruction = Instruction {
+    first: MOV,
+    second: 0,
+    operand: NONE,
+    immediate: 0,
+};
+
+const OF_JNZ: Instruction = Instruction {
+    first: JNZ,
+    ..OF_MOV
+};
+
+const OF_DEC: Instruction = Instruction {
+    first: DEC,
+    ..OF_MOV
+};
+
+const OF_ADD: Instruction = Instruction {
+    first: ADD,
+    operand: FIRST,
+    immediate: 255,
+    ..OF_MOV
+};
+
+// The same instruction with another part.
+fn with_rm(instruction: Instruction, rm: u8) -> Instruction {
+    let operand = Operand {
+        rm,
+        ..instruction.operand
+    };
+    with_operand(instruction, operand)
+}
+
+fn with_operand(instruction: Instruction, operand: Operand) -> Instruction {
+    Instruction {
+        operand,
+        ..instruction
+    }
+}
+
+fn with_immediate(instruction: Instruction, immediate: u32) -> Instruction {
+    Instruction {
+        immediate,
+        ..instruction
+    }
+}
+
+// The answer of writing an instruction into a buffer with this many bytes.
 fn print_written(
     out: &mut impl Write,
     name: &str,
     instruction: Instruction,
-    buffer: &mut [u8],
-) -> io::Result<()> {
-    print_refusal(out, name, codec::write(instruction, buffer))
-}
-
-// An instruction with neither an SIB byte nor a displacement.
-fn instruction_of(first: u8, second: u8, mode: u8, reg: u8, rm: u8, immediate: u32) -> Instruction {
-    Instruction {
-        first,
-        second,
-        operand: Operand {
-            mode,
-            reg,
-            rm,
-            scale: 0,
-            index: 0,
-            base: 0,
-            displacement: 0,
-        },
-        immediate,
-    }
-}
-
-// The refusal of one between registers.
-fn print_writing(
-    out: &mut impl Write,
-    name: &str,
-    second: u8,
-    reg: u8,
-    rm: u8,
-    immediate: u32,
-    buffer: &mut [u8],
-) -> io::Result<()> {
-    let instruction = instruction_of(ESCAPE, second, REGISTER, reg, rm, immediate);
-    print_written(out, name, instruction, buffer)
-}
-
-// That of one of loops, with this mod and rm.
-fn print_loop(
-    out: &mut impl Write,
-    name: &str,
-    first: u8,
-    second: u8,
-    mode: u8,
-    rm: u8,
-    immediate: u32,
-    buffer: &mut [u8],
-) -> io::Result<()> {
-    let instruction = instruction_of(first, second, mode, 0, rm, immediate);
-    print_written(out, name, instruction, buffer)
-}
-
-fn print_writings(out: &mut impl Write) -> io::Result<()> {
+    room: usize,
+) -> io::Result<()>
+    requires { room ≤ 12 }
+{
     let mut buffer = [FILL; ROOM];
-    print_writing(out, "register 8 is", PADDB, 0, 8, 0, &mut buffer)?;
-    print_writing(
+    write!(out, "{name} ")?;
+    print_refusal(out, codec::write(instruction, &mut buffer[..room]))
+}
+
+// Instructions of the table.
+fn print_table(out: &mut impl Write) -> io::Result<()> {
+    print_written(out, "register 8", with_rm(PADDB, 8), ROOM)?;
+    print_written(out, "a buffer of 2 bytes", PADDB, 2)?;
+    print_written(
         out,
-        "a buffer of 2 bytes is",
-        PADDB,
-        0,
-        7,
-        0,
-        &mut buffer[0..2],
+        "PADDB with an immediate",
+        with_immediate(PADDB, 1),
+        ROOM,
+    )?;
+    print_written(out, "PSHUFW with 255", with_immediate(PSHUFW, 255), ROOM)?;
+    print_written(out, "PSHUFW with 256", with_immediate(PSHUFW, 256), ROOM)?;
+    print_written(out, "PSHUFW in 3 bytes", PSHUFW, 3)
+}
+
+fn print_fences(out: &mut impl Write) -> io::Result<()> {
+    let digit_5 = Operand { reg: 5, ..FIRST };
+    print_written(out, "SFENCE", SFENCE, ROOM)?;
+    print_written(out, "SFENCE with rm 1", with_rm(SFENCE, 1), ROOM)?;
+    print_written(
+        out,
+        "SFENCE with digit 5",
+        with_operand(SFENCE, digit_5),
+        ROOM,
     )
 }
 
-fn print_immediates(out: &mut impl Write) -> io::Result<()> {
-    let mut buffer = [FILL; ROOM];
-    print_writing(
-        out,
-        "PADDB with an immediate is",
-        PADDB,
-        0,
-        7,
-        1,
-        &mut buffer,
-    )?;
-    print_writing(out, "PSHUFW with 255 is", PSHUFW, 0, 7, 255, &mut buffer)?;
-    print_writing(out, "PSHUFW with 256 is", PSHUFW, 0, 7, 256, &mut buffer)?;
-    print_writing(
-        out,
-        "PSHUFW in 3 bytes is",
-        PSHUFW,
-        0,
-        7,
-        0,
-        &mut buffer[0..3],
-    )
+fn print_siblings(out: &mut impl Write) -> io::Result<()> {
+    print_written(out, "PFMAX", OF_PFMAX, ROOM)?;
+    print_written(out, "0F 0F with B4", with_immediate(OF_PFMAX, 0xb4), ROOM)?;
+    print_written(out, "0F 0F with 1A4", with_immediate(OF_PFMAX, 0x1a4), ROOM)?;
+    print_written(out, "PFMAX with register 8", with_rm(OF_PFMAX, 8), ROOM)?;
+    print_written(out, "PFMAX in 3 bytes", OF_PFMAX, 3)
 }
 
-fn print_written_fences(out: &mut impl Write) -> io::Result<()> {
-    let mut buffer = [FILL; ROOM];
-    print_writing(out, "SFENCE is", OF_SFENCE, FENCE_DIGIT, 0, 0, &mut buffer)?;
-    print_writing(
+fn print_loops(out: &mut impl Write) -> io::Result<()> {
+    print_written(
         out,
-        "SFENCE with rm 1 is",
-        OF_SFENCE,
-        FENCE_DIGIT,
-        1,
-        0,
-        &mut buffer,
+        "MOV with FFFFFFFF",
+        with_immediate(OF_MOV, 0xffffffff),
+        ROOM,
     )?;
-    print_writing(
-        out,
-        "SFENCE with digit 5 is",
-        OF_SFENCE,
-        5,
-        0,
-        0,
-        &mut buffer,
-    )
+    print_written(out, "JNZ with 256", with_immediate(OF_JNZ, 256), ROOM)?;
+    print_written(out, "ADD", OF_ADD, ROOM)?;
+    print_written(out, "ADD to memory", with_operand(OF_ADD, NONE), ROOM)?;
+    print_written(out, "ADD with register 8", with_rm(OF_ADD, 8), ROOM)
 }
 
-fn print_written_siblings(out: &mut impl Write) -> io::Result<()> {
-    let mut buffer = [FILL; ROOM];
-    print_writing(out, "PFMAX is", SIBLING, 0, 7, PFMAX as u32, &mut buffer)?;
-    print_writing(
+fn print_decrements(out: &mut impl Write) -> io::Result<()> {
+    let of_two = Instruction {
+        second: 1,
+        ..OF_DEC
+    };
+    print_written(out, "DEC with a second byte", of_two, ROOM)?;
+    print_written(
         out,
-        "0F 0F with B4 is",
-        SIBLING,
-        0,
-        7,
-        PFMUL as u32,
-        &mut buffer,
+        "DEC with an operand",
+        with_operand(OF_DEC, FIRST),
+        ROOM,
     )?;
-    print_writing(out, "0F 0F with 1A4 is", SIBLING, 0, 7, 0x1a4, &mut buffer)?;
-    print_writing(
+    print_written(
         out,
-        "PFMAX with register 8 is",
-        SIBLING,
-        0,
-        8,
-        PFMAX as u32,
-        &mut buffer,
-    )?;
-    print_writing(
-        out,
-        "PFMAX in 3 bytes is",
-        SIBLING,
-        0,
-        7,
-        PFMAX as u32,
-        &mut buffer[0..3],
-    )
-}
-
-fn print_written_loops(out: &mut impl Write) -> io::Result<()> {
-    let mut buffer = [FILL; ROOM];
-    print_loop(
-        out,
-        "MOV with FFFFFFFF is",
-        MOV,
-        0,
-        0,
-        0,
-        0xffffffff,
-        &mut buffer,
-    )?;
-    print_loop(out, "JNZ with 256 is", JNZ, 0, 0, 0, 256, &mut buffer)?;
-    print_loop(out, "ADD is", ADD, 0, REGISTER, 0, 255, &mut buffer)?;
-    print_loop(out, "ADD to memory is", ADD, 0, 0, 0, 255, &mut buffer)?;
-    print_loop(
-        out,
-        "ADD with register 8 is",
-        ADD,
-        0,
-        REGISTER,
-        8,
-        255,
-        &mut buffer,
-    )
-}
-
-fn print_written_decrements(out: &mut impl Write) -> io::Result<()> {
-    let mut buffer = [FILL; ROOM];
-    print_loop(
-        out,
-        "DEC with a second byte is",
-        DEC,
-        1,
-        0,
-        0,
-        0,
-        &mut buffer,
-    )?;
-    print_loop(
-        out,
-        "DEC with an operand is",
-        DEC,
-        0,
-        REGISTER,
-        0,
-        0,
-        &mut buffer,
-    )?;
-    print_loop(
-        out,
-        "DEC with an immediate is",
-        DEC,
-        0,
-        0,
-        0,
-        1,
-        &mut buffer,
+        "DEC with an immediate",
+        with_immediate(OF_DEC, 1),
+        ROOM,
     )
 }
 
 fn print_short_loops(out: &mut impl Write) -> io::Result<()> {
-    let mut four = [FILL; 4];
-    let mut one = [FILL; 1];
-    print_loop(out, "MOV in 4 bytes is", MOV, 0, 0, 0, 0, &mut four)?;
-    print_loop(out, "DEC in 1 byte is", DEC, 0, 0, 0, 0, &mut one)?;
-    print_loop(out, "DEC in no byte is", DEC, 0, 0, 0, 0, &mut one[0..0])
+    print_written(out, "MOV in 4 bytes", OF_MOV, 4)?;
+    print_written(out, "DEC in 1 byte", OF_DEC, 1)?;
+    print_written(out, "DEC in no byte", OF_DEC, 0)
 }
 
 // All of writing.
 pub(crate) fn print_edges(out: &mut impl Write) -> io::Result<()> {
-    print_writings(out)?;
-    print_immediates(out)?;
-    print_written_fences(out)?;
-    print_written_siblings(out)?;
-    print_written_loops(out)?;
-    print_written_decrements(out)?;
+    print_table(out)?;
+    print_fences(out)?;
+    print_siblings(out)?;
+    print_loops(out)?;
+    print_decrements(out)?;
     print_short_loops(out)
 }
