@@ -6,7 +6,7 @@ use std::fmt;
 // The numbers of refusals are 1 to this.
 pub(crate) const LAST_REFUSAL: u8 = 22;
 
-// A refusal by its number.
+// A refusal by its number: it is read from a text, which may have one that no `Refusal` has, and these are counted too.
 #[derive(Clone, Copy, PartialEq, Eq, Debug)]
 pub(crate) enum Answer {
     Done,

@@ -126,9 +126,9 @@ impl Draft {
 
     // A likely instruction.
     pub(crate) fn put_instruction(&mut self) {
-        if self.dice.is_half() {
+        if self.dice.is_one_in(2) {
             self.put_of_loops();
-        } else if self.dice.roll(BESIDE) == 0 {
+        } else if self.dice.is_one_in(BESIDE) {
             self.put_sibling();
         } else {
             self.put_listed();

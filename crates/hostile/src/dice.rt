@@ -4,7 +4,7 @@ ghost use Rattle.std.specs.Prelude.{◌<◌};
 // How many bytes there are, and one in how many cases is rare.
 const BYTES: usize = 256;
 
-const RARITY: usize = 32;
+pub(crate) const RARITY: usize = 32;
 
 #[derive(Drop)]
 pub(crate) struct Dice(u64);
@@ -31,21 +31,18 @@ impl Dice {
         self.roll(BYTES) as u8
     }
 
-    // One case in two.
-    pub(crate) fn is_half(&mut self) -> bool {
-        self.roll(2) == 0
-    }
-
-    // One case in a few dozen.
-    pub(crate) fn is_rare(&mut self) -> bool {
-        self.roll(RARITY) == 0
+    // One case in so many.
+    pub(crate) fn is_one_in(&mut self, cases: usize) -> bool
+        requires { 0 < cases }
+    {
+        self.roll(cases) == 0
     }
 
     // Mostly a likely byte, and now and then any.
     pub(crate) fn mostly<F: FnOnce(&mut Dice) -> u8>(&mut self, likely: F) -> u8
         requires { F.IsAlwaysCallable likely }
     {
-        if self.is_rare() {
+        if self.is_one_in(RARITY) {
             self.byte()
         } else {
             likely(self)

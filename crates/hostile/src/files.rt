@@ -2,7 +2,7 @@
 ghost use Rattle.std.specs.Prelude.{◌<◌, ◌≤◌};
 
 use crate::ROOM;
-use crate::dice::Dice;
+use crate::dice::{Dice, RARITY};
 use crate::draft::Draft;
 use codec::LONGEST_CODE;
 use machine::LONGEST_MEMORY;
@@ -46,7 +46,7 @@ const INSTRUCTIONS: usize = 12;
 fn some_length(dice: &mut Dice, long: usize) -> usize
     requires { (0 < long) × (long ≤ 32768) }
 {
-    if dice.is_rare() {
+    if dice.is_one_in(RARITY) {
         long + dice.roll(long)
     } else {
         dice.roll(SHORT)
@@ -68,12 +68,12 @@ impl Draft {
 
     // The eight MMX registers by their halves, each random, or now and then no number; or no field.
     fn put_halves(&mut self) {
-        if self.dice.is_half() {
+        if self.dice.is_one_in(2) {
             return;
         }
         self.put_heading(MMX_REGISTERS, MMX_BYTES);
         for _ in 0..HALVES {
-            if self.dice.is_rare() {
+            if self.dice.is_one_in(RARITY) {
                 self.put_all(&[ONES; DOUBLEWORD]);
             } else {
                 self.put_random(DOUBLEWORD);
@@ -83,7 +83,7 @@ impl Draft {
 
     // Marks, or no field.
     fn put_marks(&mut self) {
-        if self.dice.is_half() {
+        if self.dice.is_one_in(2) {
             return;
         }
         self.put_heading(MARKS, 1);
@@ -116,7 +116,7 @@ impl Draft {
     // Plain random bytes: few, or now and then more than a file may have.
     pub(crate) fn plain(&mut self) {
         self.end = 0;
-        let count = if self.dice.is_rare() {
+        let count = if self.dice.is_one_in(RARITY) {
             ROOM
         } else {
             self.dice.roll(SHORT)
@@ -136,7 +136,7 @@ impl Draft {
             (INTEGER_REGISTERS, INTEGER_BYTES),
         ];
         for (tag, count) in fields {
-            if !self.dice.is_half() {
+            if !self.dice.is_one_in(2) {
                 self.put_field(tag, count);
             }
         }
