@@ -1,19 +1,14 @@
 // The example of demand 3, EMMS, and the three manners.
-use crate::cases::ask_all;
-use std::io;
-use std::io::Write;
+use crate::cases::Block;
 
-// MOVQ MM0, [EAX]; PADDUSB MM0, MM1; MOVQ [EAX + 8], MM0; MOVQ MM2, [ECX]; PADDUSB MM2, [EAX + 8].
-const EXAMPLE: [u8; 17] = [
-    0x0f, 0x6f, 0x00, 0x0f, 0xdc, 0xc1, 0x0f, 0x7f, 0x40, 0x08, 0x0f, 0x6f, 0x11, 0x0f, 0xdc, 0x50,
-    0x08,
-];
-
-fn example(out: &mut impl Write) -> io::Result<()> {
-    ask_all(
-        out,
-        &EXAMPLE,
-        &[
+pub(crate) const BLOCKS: &[Block] = &[
+    // MOVQ MM0, [EAX]; PADDUSB MM0, MM1; MOVQ [EAX + 8], MM0; MOVQ MM2, [ECX]; PADDUSB MM2, [EAX + 8].
+    Block {
+        code: &[
+            0x0f, 0x6f, 0x00, 0x0f, 0xdc, 0xc1, 0x0f, 0x7f, 0x40, 0x08, 0x0f, 0x6f, 0x11, 0x0f,
+            0xdc, 0x50, 0x08,
+        ],
+        questions: &[
             ("the example", 2, 4),
             ("the example", 4, 2),
             ("the example", 0, 1),
@@ -26,20 +21,14 @@ fn example(out: &mut impl Write) -> io::Result<()> {
             ("the example", 1, 4),
             ("the example", 2, 3),
         ],
-    )
-}
-
-// PADDB MM0, MM1; EMMS; MOVQ [EAX], MM0; EMMS; DEC EAX; PREFETCHNTA [EAX]; SFENCE.
-const EMMS: [u8; 17] = [
-    0x0f, 0xfc, 0xc1, 0x0f, 0x77, 0x0f, 0x7f, 0x00, 0x0f, 0x77, 0x48, 0x0f, 0x18, 0x00, 0x0f, 0xae,
-    0xf8,
-];
-
-fn emms(out: &mut impl Write) -> io::Result<()> {
-    ask_all(
-        out,
-        &EMMS,
-        &[
+    },
+    // PADDB MM0, MM1; EMMS; MOVQ [EAX], MM0; EMMS; DEC EAX; PREFETCHNTA [EAX]; SFENCE.
+    Block {
+        code: &[
+            0x0f, 0xfc, 0xc1, 0x0f, 0x77, 0x0f, 0x7f, 0x00, 0x0f, 0x77, 0x48, 0x0f, 0x18, 0x00,
+            0x0f, 0xae, 0xf8,
+        ],
+        questions: &[
             ("EMMS", 0, 1),
             ("EMMS", 1, 0),
             ("EMMS", 1, 2),
@@ -51,47 +40,28 @@ fn emms(out: &mut impl Write) -> io::Result<()> {
             ("DEC and PREFETCHNTA", 4, 5),
             ("PREFETCHNTA and SFENCE", 5, 6),
         ],
-    )
-}
-
-// PADDB MM0, MM1; PADDB MM0, MM2; MOVQ MM0, MM3; PADDB MM1, MM0; PXOR MM4, MM4; MOVQ MM4, MM4.
-const MANNERS: [u8; 18] = [
-    0x0f, 0xfc, 0xc1, 0x0f, 0xfc, 0xc2, 0x0f, 0x6f, 0xc3, 0x0f, 0xfc, 0xc8, 0x0f, 0xef, 0xe4, 0x0f,
-    0x6f, 0xe4,
-];
-
-fn manners(out: &mut impl Write) -> io::Result<()> {
-    ask_all(
-        out,
-        &MANNERS,
-        &[
+    },
+    // PADDB MM0, MM1; PADDB MM0, MM2; MOVQ MM0, MM3; PADDB MM1, MM0; PXOR MM4, MM4; MOVQ MM4, MM4.
+    Block {
+        code: &[
+            0x0f, 0xfc, 0xc1, 0x0f, 0xfc, 0xc2, 0x0f, 0x6f, 0xc3, 0x0f, 0xfc, 0xc8, 0x0f, 0xef,
+            0xe4, 0x0f, 0x6f, 0xe4,
+        ],
+        questions: &[
             ("PADDB mm0, mm1 and PADDB mm0, mm2", 0, 1),
             ("PADDB mm0, mm1 and MOVQ mm0, mm3", 0, 2),
             ("MOVQ mm0, mm3 and PADDB mm1, mm0", 2, 3),
             ("PADDB mm0, mm1 and PADDB mm1, mm0", 0, 3),
             ("PXOR mm4, mm4 and MOVQ mm4, mm4", 4, 5),
         ],
-    )
-}
-
-// MOVQ MM2, MM0; MOVQ MM0, MM3; MOVQ MM3, MM0.
-const MOVES: [u8; 9] = [0x0f, 0x6f, 0xd0, 0x0f, 0x6f, 0xc3, 0x0f, 0x6f, 0xd8];
-
-fn moves(out: &mut impl Write) -> io::Result<()> {
-    ask_all(
-        out,
-        &MOVES,
-        &[
+    },
+    // MOVQ MM2, MM0; MOVQ MM0, MM3; MOVQ MM3, MM0.
+    Block {
+        code: &[0x0f, 0x6f, 0xd0, 0x0f, 0x6f, 0xc3, 0x0f, 0x6f, 0xd8],
+        questions: &[
             ("MOVQ mm2, mm0 and MOVQ mm0, mm3", 0, 1),
             ("MOVQ mm0, mm3 and MOVQ mm3, mm0", 1, 2),
             ("MOVQ mm2, mm0 and MOVQ mm3, mm0", 0, 2),
         ],
-    )
-}
-
-pub(crate) fn all(out: &mut impl Write) -> io::Result<()> {
-    example(out)?;
-    emms(out)?;
-    manners(out)?;
-    moves(out)
-}
+    },
+];

@@ -49,3 +49,16 @@ pub(crate) fn ask_all(
     }
     Ok(())
 }
+
+// A code, and the questions of it.
+pub(crate) struct Block {
+    pub(crate) code: &'static [u8],
+    pub(crate) questions: &'static [(&'static str, u32, u32)],
+}
+
+pub(crate) fn ask_blocks(out: &mut impl Write, blocks: &[Block]) -> io::Result<()> {
+    for block in blocks {
+        ask_all(out, block.code, block.questions)?;
+    }
+    Ok(())
+}

@@ -9,13 +9,14 @@ mod places;
 mod refused;
 mod texts;
 
+use cases::ask_blocks;
 use std::io;
 use std::io::Write;
 
 fn main(rt: HostRuntime) -> io::Result<()> {
     let mut out = io::writer(&rt);
-    blocks::all(&mut out)?;
-    places::all(&mut out)?;
-    refused::all(&mut out)?;
+    ask_blocks(&mut out, blocks::BLOCKS)?;
+    ask_blocks(&mut out, places::BLOCKS)?;
+    ask_blocks(&mut out, refused::BLOCKS)?;
     limits::all(&mut out)
 }
