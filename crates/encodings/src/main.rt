@@ -132,7 +132,7 @@ fn try_second(tally: Tally, second: u8) -> Tally {
     }
 }
 
-// A first byte, the one behind it and a third, and more bytes.
+// A first byte, the one behind it and a third, and more bytes: not those that `try_sib` has behind an SIB byte, so each has its code.
 fn try_third(tally: Tally, first: u8, next: u8, third: u8) -> Tally {
     try_code(
         tally,

@@ -9,6 +9,7 @@ use crate::classes::{INFINITY, SIGN};
 // How many values a half has.
 pub(crate) const HALF_RANGE: u64 = 0x1_0000_0000;
 
+// The low half and the high one: a function that takes the lane's number would only choose between these two lines.
 #[tactic(auto, using(crate::proofs::Sorting::low_lane))]
 pub(crate) fn low_half(register: u64) -> u32
     ensures { result ≡ lane 32 0 register }

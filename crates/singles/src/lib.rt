@@ -18,7 +18,8 @@ use halves::{high_half, joined, low_half};
 use tables::{greater_of, maximum_of, word_of};
 use words::single_of;
 
-// PFMAX, of a destination and a source.
+// PFMAX, of a destination and a source. It and `greater` differ in their table: one function that takes it as a closure would need clauses that say
+// which halves the closure is called at and what it returns, and they are longer than these bodies.
 #[tactic(auto, using(crate::proofs::Agreeing::pfmax_is))]
 pub fn maximum(a: u64, b: u64) -> Option<u64>
     ensures { result ≡ pfmax a b }
