@@ -1,5 +1,5 @@
-// Every encoding of the table, of loops and of siblings, read and written back: their number, the differences and the sum of the lengths. Then the edges
-// of reading and writing.
+// Every encoding of the table, of loops and of siblings, read and written back: their number, the differences and the sum of the lengths. Then the
+// edges of reading and writing.
 #![tactic(auto)]
 
 mod edges;
