@@ -4,14 +4,15 @@ ghost use Rattle.codec.specs.inner.Fields.{Registers};
 ghost use Rattle.machine.specs.State.{state_of};
 ghost use Rattle.machine.specs.Footprints.{masked_at, paper_of_footprint};
 ghost use Rattle.machine.specs.inner.Reaches.{ordinary_footprint, pointed_by, footprint_of_way, unmarked_footprint, Completes};
-ghost use Rattle.machine.specs.inner.Works.{effect_in, Listed};
+ghost use Rattle.machine.specs.inner.Works.{effect_in};
 
+use crate::known::Known;
 use crate::operands::AT_EDI;
 use crate::ways::Way;
 use crate::{Footprint, LONGEST_MEMORY, Machine, Places, gathering, loops, reaches, ways};
 use codec::forms::{FORM, SUFFIXED};
 use codec::prefixes::ESCAPE;
-use codec::{Instruction, Kind, LONGEST_CODE, Operand};
+use codec::{Kind, LONGEST_CODE, Operand};
 use refusals::Refusal;
 
 // What is read, with the address registers, and what is written.
@@ -82,53 +83,38 @@ fn pointed(way: Way, operand: Operand) -> Operand
 
 // An instruction with a suffix that completes.
 #[tactic(auto, using(crate::proofs::laws::footprints::Suffixing::suffix_rules))]
-fn completed(
-    machine: Machine,
-    entry: u32,
-    instruction: Instruction,
-    memory: &[u8],
-) -> Result<Footprint, Refusal>
-    requires { Registers instruction.operand × (Listed entry × ((entry / 2 ^ 24 ≡ 16) × Completes (effect_in entry instruction) (state_of machine memory.now))) }
-    ensures { paper_of_footprint result ≡ unmarked_footprint (effect_in entry instruction) (state_of machine memory.now) }
+fn completed(machine: Machine, known: Known, memory: &[u8]) -> Result<Footprint, Refusal>
+    requires { (known.entry / 2 ^ 24 ≡ 16) × Completes (effect_in known.entry known.instruction) (state_of machine memory.now) }
+    ensures { paper_of_footprint result ≡ unmarked_footprint (effect_in known.entry known.instruction) (state_of machine memory.now) }
 {
-    let operand = instruction.operand;
-    let reach = reaches::reach_operand(machine, entry, operand, memory)?;
-    let way = ways::suffix_way(instruction.immediate);
+    let operand = known.instruction.operand;
+    let reach = reaches::reach_operand(machine, known.entry, operand, memory)?;
+    let way = ways::suffix_way(known.instruction.immediate);
     Ok(footprint_of_way(way, operand, reach.registers, reach.places))
 }
 
 // An instruction with a suffix: its footprint is refused as its work is.
 #[tactic(auto, using(crate::proofs::laws::footprints::Suffixing::suffix_rules))]
-fn suffixed(
-    machine: Machine,
-    entry: u32,
-    instruction: Instruction,
-    memory: &[u8],
-) -> Result<Footprint, Refusal>
-    requires { Registers instruction.operand × (Listed entry × (entry / 2 ^ 24 ≡ 16)) }
-    ensures { paper_of_footprint result ≡ unmarked_footprint (effect_in entry instruction) (state_of machine memory.now) }
+fn suffixed(machine: Machine, known: Known, memory: &[u8]) -> Result<Footprint, Refusal>
+    requires { known.entry / 2 ^ 24 ≡ 16 }
+    ensures { paper_of_footprint result ≡ unmarked_footprint (effect_in known.entry known.instruction) (state_of machine memory.now) }
 {
     let mmx = machine.mmx;
     let integers = machine.integers;
-    gathering::suffixed(&mmx, &integers, entry, instruction, 0, memory)?;
-    completed(machine, entry, instruction, memory)
+    known.suffixed(&mmx, &integers, memory)?;
+    completed(machine, known, memory)
 }
 
 // An instruction that the control marks let pass.
 #[tactic(auto, using(crate::proofs::laws::footprints::Forms::form_rules))]
-fn unmarked(
-    machine: Machine,
-    entry: u32,
-    instruction: Instruction,
-    memory: &[u8],
-) -> Result<Footprint, Refusal>
-    requires { Registers instruction.operand × Listed entry }
-    ensures { paper_of_footprint result ≡ unmarked_footprint (effect_in entry instruction) (state_of machine memory.now) }
+fn unmarked(machine: Machine, known: Known, memory: &[u8]) -> Result<Footprint, Refusal>
+    ensures { paper_of_footprint result ≡ unmarked_footprint (effect_in known.entry known.instruction) (state_of machine memory.now) }
 {
+    let entry = known.entry;
     if entry / FORM == SUFFIXED {
-        return suffixed(machine, entry, instruction, memory);
+        return suffixed(machine, known, memory);
     }
-    let operand = instruction.operand;
+    let operand = known.instruction.operand;
     let way = ways::way_of(entry / FORM);
     if ways::has_other(way) {
         let pointed = pointed(way, operand);
@@ -162,10 +148,15 @@ impl Machine {
                 found.next,
             );
         }
+        let known = Known {
+            entry: found.entry,
+            instruction,
+            next: found.next,
+        };
         let bar = works::barred(self.marks);
         match gathering::stopping(bar, found.entry) {
             Some(refusal) => Err(refusal),
-            None => unmarked(self, found.entry, instruction, memory),
+            None => unmarked(self, known, memory),
         }
     }
 }

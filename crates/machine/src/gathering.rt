@@ -1,7 +1,6 @@
 // The instruction at a position is read and its operands are gathered; what remains to be done is then plain numbers. Nothing is written here.
 ghost use Rattle.std.specs.Prelude.{IfOk, ◌≡◌, true, ◌/◌, ◌%◌, ◌^◌, ◌≤◌, length, get_or};
 ghost use Rattle.reorder.specs.Result.{done};
-ghost use Rattle.codec.specs.inner.Fields.{Registers};
 ghost use Rattle.codec.specs.Table.{opcode_table};
 ghost use Rattle.codec.specs.Reads.{longest_code};
 ghost use Rattle.manual.specs.State.{longest_memory};
@@ -12,14 +11,14 @@ ghost use Rattle.works.specs.Bars.{number_in, open_table};
 ghost use Rattle.works.specs.Answers.{work_in};
 ghost use Rattle.works.specs.Siblings.{suffixed_work};
 ghost use Rattle.works.specs.Works.{to_operate};
-ghost use Rattle.machine.specs.inner.Works.{stopping_by, effect_in, Listed, put_work, value_in, take_work, Does, Gathered};
+ghost use Rattle.machine.specs.inner.Works.{stopping_by, effect_in, put_work, value_in, take_work, Does, Gathered};
 
+use crate::known::Known;
 use crate::operands::Spot;
 use crate::ways::Way;
 use crate::{loops, operands, picking, quick, shifts, ways};
 use codec::forms::{FORM, LANE, PART};
 use codec::prefixes::ESCAPE;
-use codec::{Instruction, Operand};
 use lanes::MOVE;
 use refusals::Refusal;
 use works::{EMPTY, OPERATE, PASS, STORE, TO_INTEGER, Work, refused, work_of};
@@ -59,100 +58,82 @@ fn held(mmx: &[u64; 8], integers: &[u32; 8], spot: Spot, memory: &[u8]) -> u64
     }
 }
 
-// An operation on an MMX register, with the number that the operand has; a load's is MOVE.
-fn computed(
-    mmx: &[u64; 8],
-    integers: &[u32; 8],
-    entry: u32,
-    operand: Operand,
-    next: usize,
-    memory: &[u8],
-) -> Result<Work, Refusal>
-    requires { Registers operand × (Listed entry × (has_other (way_of (entry / 2 ^ 24)) ≡ true)) }
-    ensures work { work_in result ≡ take_work mmx.now integers.now memory.now (entry % 256) operand.reg (spot_of integers.now (length memory.now) (other_of (entry / 2 ^ 24) operand)) next }
-    ensures operates { IfOk result (λ work. work.what ≡ to_operate) }
-{
-    let number = (entry % PART) as u8;
-    let register = operand.reg as usize;
-    let spot = operands::located(integers, entry, operand, memory.len())?;
-    let value = held(mmx, integers, spot, memory);
-    Ok(work_of(OPERATE, number, register, value, next))
-}
+impl Known {
+    // An operation on an MMX register, with the number that the operand has; a load's is MOVE.
+    fn computed(self, mmx: &[u64; 8], integers: &[u32; 8], memory: &[u8]) -> Result<Work, Refusal>
+        requires { has_other (way_of (self.entry / 2 ^ 24)) ≡ true }
+        ensures work { work_in result ≡ take_work mmx.now integers.now memory.now (self.entry % 256) self.instruction.operand.reg (spot_of integers.now (length memory.now) (other_of (self.entry / 2 ^ 24) self.instruction.operand)) self.next }
+        ensures operates { IfOk result (λ work. work.what ≡ to_operate) }
+    {
+        let operand = self.instruction.operand;
+        let number = (self.entry % PART) as u8;
+        let register = operand.reg as usize;
+        let spot = operands::located(integers, self.entry, operand, memory.len())?;
+        let value = held(mmx, integers, spot, memory);
+        Ok(work_of(OPERATE, number, register, value, self.next))
+    }
 
-// An MMX register picked by an immediate: the operand's number is gathered as for a computation, and what is picked from it then moves.
-#[tactic(auto, using(crate::proofs::laws::picking::Making::picking))]
-fn with_immediate(
-    mmx: &[u64; 8],
-    integers: &[u32; 8],
-    entry: u32,
-    instruction: Instruction,
-    next: usize,
-    memory: &[u8],
-) -> Result<Work, Refusal>
-    requires { Registers instruction.operand × (Listed entry × (has_other (way_of (entry / 2 ^ 24)) ≡ true)) }
-    ensures { work_in result ≡ picked_work (entry / 2 ^ 24) (get_or mmx.now instruction.operand.reg 0) instruction.immediate (take_work mmx.now integers.now memory.now (entry % 256) instruction.operand.reg (spot_of integers.now (length memory.now) (other_of (entry / 2 ^ 24) instruction.operand)) next) }
-{
-    let operand = instruction.operand;
-    let work = computed(mmx, integers, entry, operand, next, memory)?;
-    let old = mmx[operand.reg as usize];
-    Ok(picking::picked(entry, old, instruction.immediate, work))
-}
+    // An MMX register picked by an immediate: the operand's number is gathered as for a computation, and what is picked from it then moves.
+    #[tactic(auto, using(crate::proofs::laws::picking::Making::picking))]
+    fn with_immediate(
+        self,
+        mmx: &[u64; 8],
+        integers: &[u32; 8],
+        memory: &[u8],
+    ) -> Result<Work, Refusal>
+        requires { has_other (way_of (self.entry / 2 ^ 24)) ≡ true }
+        ensures { work_in result ≡ picked_work (self.entry / 2 ^ 24) (get_or mmx.now self.instruction.operand.reg 0) self.instruction.immediate (take_work mmx.now integers.now memory.now (self.entry % 256) self.instruction.operand.reg (spot_of integers.now (length memory.now) (other_of (self.entry / 2 ^ 24) self.instruction.operand)) self.next) }
+    {
+        let work = self.computed(mmx, integers, memory)?;
+        let old = mmx[self.instruction.operand.reg as usize];
+        Ok(picking::picked(self.entry, old, self.instruction.immediate, work))
+    }
 
-// An instruction with a suffix: the operand's number is gathered as for a computation, and the suffix says what becomes of it.
-pub(crate) fn suffixed(
-    mmx: &[u64; 8],
-    integers: &[u32; 8],
-    entry: u32,
-    instruction: Instruction,
-    next: usize,
-    memory: &[u8],
-) -> Result<Work, Refusal>
-    requires { Registers instruction.operand × (Listed entry × (has_other (way_of (entry / 2 ^ 24)) ≡ true)) }
-    ensures work { work_in result ≡ suffixed_work instruction.immediate (get_or mmx.now instruction.operand.reg 0) (take_work mmx.now integers.now memory.now (entry % 256) instruction.operand.reg (spot_of integers.now (length memory.now) (other_of (entry / 2 ^ 24) instruction.operand)) next) }
-    ensures operates { IfOk result (λ work. work.what ≡ to_operate) }
-{
-    let operand = instruction.operand;
-    let work = computed(mmx, integers, entry, operand, next, memory)?;
-    works::suffixed(instruction.immediate, mmx[operand.reg as usize], work)
-}
+    // An instruction with a suffix: the operand's number is gathered as for a computation, and the suffix says what becomes of it.
+    pub(crate) fn suffixed(
+        self,
+        mmx: &[u64; 8],
+        integers: &[u32; 8],
+        memory: &[u8],
+    ) -> Result<Work, Refusal>
+        requires { has_other (way_of (self.entry / 2 ^ 24)) ≡ true }
+        ensures work { work_in result ≡ suffixed_work self.instruction.immediate (get_or mmx.now self.instruction.operand.reg 0) (take_work mmx.now integers.now memory.now (self.entry % 256) self.instruction.operand.reg (spot_of integers.now (length memory.now) (other_of (self.entry / 2 ^ 24) self.instruction.operand)) self.next) }
+        ensures operates { IfOk result (λ work. work.what ≡ to_operate) }
+    {
+        let work = self.computed(mmx, integers, memory)?;
+        let old = mmx[self.instruction.operand.reg as usize];
+        works::suffixed(self.instruction.immediate, old, work)
+    }
 
-// An instruction that the control marks let pass.
-#[tactic(auto, using(crate::proofs::laws::gathering::Suffixing::sorting))]
-fn sorted(
-    mmx: &[u64; 8],
-    integers: &[u32; 8],
-    entry: u32,
-    instruction: Instruction,
-    next: usize,
-    memory: &[u8],
-) -> Result<Work, Refusal>
-    requires { Registers instruction.operand × Listed entry }
-    ensures { Does (work_in result) mmx.now integers.now memory.now (effect_in entry instruction) (done next) }
-{
-    let operand = instruction.operand;
-    match ways::way_of(entry / FORM) {
-        Way::Empties => Ok(work_of(EMPTY, 0, 0, 0, next)),
-        Way::Passes => Ok(work_of(PASS, 0, 0, 0, next)),
-        Way::Shifts => {
-            let number = shifts::shift_number((entry / LANE % PART) as u8, operand.reg);
-            let immediate = instruction.immediate as u64;
-            Ok(work_of(OPERATE, number, operand.rm as usize, immediate, next))
+    // An instruction that the control marks let pass.
+    #[tactic(auto, using(crate::proofs::laws::gathering::Suffixing::sorting))]
+    fn sorted(self, mmx: &[u64; 8], integers: &[u32; 8], memory: &[u8]) -> Result<Work, Refusal>
+        ensures { Does (work_in result) mmx.now integers.now memory.now (effect_in self.entry self.instruction) (done self.next) }
+    {
+        let entry = self.entry;
+        let operand = self.instruction.operand;
+        let immediate = self.instruction.immediate;
+        let next = self.next;
+        match ways::way_of(entry / FORM) {
+            Way::Empties => Ok(work_of(EMPTY, 0, 0, 0, next)),
+            Way::Passes => Ok(work_of(PASS, 0, 0, 0, next)),
+            Way::Shifts => {
+                let number = shifts::shift_number((entry / LANE % PART) as u8, operand.reg);
+                Ok(work_of(OPERATE, number, operand.rm as usize, immediate as u64, next))
+            }
+            Way::Extracts => {
+                let value = mmx[operand.rm as usize];
+                Ok(picking::extracted(entry, value, immediate, operand.reg, next))
+            }
+            Way::Stores => {
+                let spot = operands::located(integers, entry, operand, memory.len())?;
+                Ok(put(spot, mmx[operand.reg as usize], next))
+            }
+            Way::Loads | Way::Computes => self.computed(mmx, integers, memory),
+            Way::Suffixes => self.suffixed(mmx, integers, memory),
+            Way::Inserts | Way::Shuffles => self.with_immediate(mmx, integers, memory),
+            Way::Masks => picking::masked(mmx, integers, operand, next, memory),
         }
-        Way::Extracts => {
-            let value = mmx[operand.rm as usize];
-            let immediate = instruction.immediate;
-            Ok(picking::extracted(entry, value, immediate, operand.reg, next))
-        }
-        Way::Stores => {
-            let spot = operands::located(integers, entry, operand, memory.len())?;
-            Ok(put(spot, mmx[operand.reg as usize], next))
-        }
-        Way::Loads | Way::Computes => computed(mmx, integers, entry, operand, next, memory),
-        Way::Suffixes => suffixed(mmx, integers, entry, instruction, next, memory),
-        Way::Inserts | Way::Shuffles => {
-            with_immediate(mmx, integers, entry, instruction, next, memory)
-        }
-        Way::Masks => picking::masked(mmx, integers, operand, next, memory),
     }
 }
 
@@ -183,9 +164,14 @@ fn read(
             found.next,
         );
     }
+    let known = Known {
+        entry: found.entry,
+        instruction,
+        next: found.next,
+    };
     match stopping(bar, found.entry) {
         Some(refusal) => Err(refusal),
-        None => sorted(mmx, integers, found.entry, instruction, found.next, memory),
+        None => known.sorted(mmx, integers, memory),
     }
 }
 

@@ -4,6 +4,7 @@
 mod addresses;
 mod footprints;
 mod gathering;
+mod known;
 mod loops;
 mod meetings;
 mod operands;

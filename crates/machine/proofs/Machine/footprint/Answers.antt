@@ -25,9 +25,11 @@ returns-in-Some c =
     traced_barred _ _ _ _ c.if-memory-gt-LONGEST_MEMORY.false c.if-code-gt-LONGEST_CODE.false _ _ c.table-table.ensures c.in_ok-found.ensures
     c.if-instruction-ne-ESCAPE.false _ _ c.barred-bar.ensures c.in-Some.ensures (numbered _)
 
-pub unmarked-requires : goal.unmarked-requires
-unmarked-requires c =
-    (names_registers _ _ _ _ c.table-table.ensures c.in_ok-found.ensures, is_listed_lem _ _ _ _ c.table-table.ensures c.in_ok-found.ensures c.if-instruction-ne-ESCAPE.false)
+pub invariant_of-known-clause-registers : goal.invariant_of-known-clause-registers
+invariant_of-known-clause-registers c = names_registers _ _ _ _ c.table-table.ensures c.in_ok-found.ensures
+
+pub invariant_of-known-clause-listed : goal.invariant_of-known-clause-listed
+invariant_of-known-clause-listed c = is_listed_lem _ _ _ _ c.table-table.ensures c.in_ok-found.ensures c.if-instruction-ne-ESCAPE.false
 
 pub returns-in-None : goal.returns-in-None
 returns-in-None c =

@@ -6,25 +6,16 @@ use Rattle.machine.proofs.laws.footprints.Suffixing.{two_operands_suffix, suffix
 use Rattle.machine.proofs.footprints.suffixed.Goals as goal
 
 pub suffixed-requires : goal.suffixed-requires
-suffixed-requires c = (
-  c.requires.0,
-  (c.requires.1.0, two_operands_suffix c.args.machine c.args.memory.now c.args.entry c.args.instruction c.requires.0 c.requires.1.0 c.requires.1.1),
-)
+suffixed-requires c = two_operands_suffix c.args.machine c.args.memory.now c.args.known.entry c.args.known.instruction c.args.known.registers c.args.known.listed c.requires
 
 pub returns-in_err-suffixed : goal.returns-in_err-suffixed
 returns-in_err-suffixed c =
     let p = err_from_is_err_and c.from_residual.result c.from_residual.ensures.1 in rw (p.1, p.2)
-    (suffix_refused c.args.machine c.args.memory.now c.args.entry c.args.instruction c.requires.0 c.requires.1.0 c.requires.1.1 _ c.in_err-suffixed.ensures.work refl)
+    (suffix_refused c.args.machine c.args.memory.now c.args.known.entry c.args.known.instruction c.args.known.registers c.args.known.listed c.requires _ c.args.known.next c.in_err-suffixed.ensures.work refl)
 
 pub completed-requires : goal.completed-requires
 completed-requires c = (
-  c.requires.0,
-  (
-    c.requires.1.0,
-    (
-      c.requires.1.1,
-      suffix_completes c.args.machine c.args.memory.now c.args.entry c.args.instruction c.requires.0 c.requires.1.0 c.requires.1.1 _ c.in_ok-suffixed.ensures.work
-          (λ h. omega (arith, h, c.in_ok-suffixed.ensures.operates)),
-    ),
-  ),
+  c.requires,
+  suffix_completes c.args.machine c.args.memory.now c.args.known.entry c.args.known.instruction c.args.known.registers c.args.known.listed c.requires _ c.args.known.next c.in_ok-suffixed.ensures.work
+      (λ h. omega (arith, h, c.in_ok-suffixed.ensures.operates)),
 )

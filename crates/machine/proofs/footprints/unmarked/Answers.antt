@@ -8,15 +8,15 @@ use Rattle.machine.proofs.footprints.unmarked.Goals as goal
 pub returns-in_err-reach : goal.returns-in_err-reach
 returns-in_err-reach c =
     let p = err_from_is_err_and c.from_residual.result c.from_residual.ensures.1 in rw (p.1, p.2)
-    (traced_outside (state_of c.args.machine c.args.memory.now) _ c.args.instruction c.requires.1 c.if-entry-eq-SUFFIXED.false _ c.way_of-way.ensures _ c.has_other.ensures
+    (traced_outside (state_of c.args.machine c.args.memory.now) _ c.args.known.instruction c.args.known.listed c.if-entry-eq-SUFFIXED.false _ c.way_of-way.ensures _ c.has_other.ensures
     c.if-has_other.true _ c.pointed-pointed.ensures _ c.in_err-reach.ensures _ refl)
 
 pub returns-then-has_other : goal.returns-then-has_other
 returns-then-has_other c =
-    traced_inside (state_of c.args.machine c.args.memory.now) _ c.args.instruction c.requires.1 c.if-entry-eq-SUFFIXED.false _ c.way_of-way.ensures _ c.has_other.ensures
+    traced_inside (state_of c.args.machine c.args.memory.now) _ c.args.known.instruction c.args.known.listed c.if-entry-eq-SUFFIXED.false _ c.way_of-way.ensures _ c.has_other.ensures
     c.if-has_other.true _ c.pointed-pointed.ensures _ c.in_ok-reach.ensures _ _ refl c.footprint_of_way.ensures
 
 pub returns : goal.returns
 returns c =
-    traced_few (state_of c.args.machine c.args.memory.now) _ c.args.instruction c.requires.1 c.if-entry-eq-SUFFIXED.false _ c.way_of-way.ensures _ c.has_other.ensures _
+    traced_few (state_of c.args.machine c.args.memory.now) _ c.args.known.instruction c.args.known.listed c.if-entry-eq-SUFFIXED.false _ c.way_of-way.ensures _ c.has_other.ensures _
     c.if-has_other.false c.footprint_of_way-2.ensures

@@ -23,9 +23,11 @@ returns-in-Some c =
     gathered_barred _ _ _ _ c.requires.0 c.in_ok-found.ensures _ _ _ _ _ c.requires.1.0 c.requires.1.1 _ c.if-instruction-ne-ESCAPE.false _ c.in-Some.ensures
     (numbered _) refl
 
-pub sorted-requires : goal.sorted-requires
-sorted-requires c =
-    (names_registers _ _ _ _ c.requires.0 c.in_ok-found.ensures, is_listed_lem _ _ _ _ c.requires.0 c.in_ok-found.ensures c.if-instruction-ne-ESCAPE.false)
+pub invariant_of-known-clause-registers : goal.invariant_of-known-clause-registers
+invariant_of-known-clause-registers c = names_registers _ _ _ _ c.requires.0 c.in_ok-found.ensures
+
+pub invariant_of-known-clause-listed : goal.invariant_of-known-clause-listed
+invariant_of-known-clause-listed c = is_listed_lem _ _ _ _ c.requires.0 c.in_ok-found.ensures c.if-instruction-ne-ESCAPE.false
 
 pub returns-in-None : goal.returns-in-None
 returns-in-None c =

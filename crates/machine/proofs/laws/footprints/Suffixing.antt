@@ -148,15 +148,15 @@ module _ (machine : Machine) (m : List ℕ) (entry : ℕ) (i : Instruction) (r :
   pub two_operands_suffix : has_other (way_of (entry / 2 ^ 24)) ≡ true
   two_operands_suffix = ap has_other (sym way)
 
-  module _ (work : Work) (made : work ≡ work_by_suffix machine.mmx machine.integers m entry i 0) where
-    stepped : performed 0 work 0 here ≡ concluded 0 (done 0) here (directly 0 e here)
-    stepped = (does_suffix machine.mmx machine.integers m entry i 0 r l Suffixes way work refl made).does 0 machine.marks 0
+  module _ (work : Work) (next : ℕ) (made : work ≡ work_by_suffix machine.mmx machine.integers m entry i next) where
+    stepped : performed 0 work 0 here ≡ concluded 0 (done next) here (directly 0 e here)
+    stepped = (does_suffix machine.mmx machine.integers m entry i next r l Suffixes way work refl made).does 0 machine.marks 0
 
     pub suffix_refused : work.what ≡ to_refuse → refused work.number ≡ unmarked_footprint e here
     unfolding performed
     suffix_refused h = sym (refused_print here e work.number (by (directly 0 e here) ((simp h) ∙ stepped)))
       where
-        by : (o : Result State) → refused_with work.number 0 here ≡ concluded 0 (done 0) here o → o ≡ refused work.number
+        by : (o : Result State) → refused_with work.number 0 here ≡ concluded 0 (done next) here o → o ≡ refused work.number
         by (done t) g = absurd (false≢true (cc))
         by (refused n) g = cc
 
@@ -165,9 +165,9 @@ module _ (machine : Machine) (m : List ℕ) (entry : ℕ) (i : Instruction) (r :
     suffix_completes h =
         let old = get_or machine.mmx i.operand.reg 0 in
         let spot = spot_of machine.integers (length m) (other_of (entry / 2 ^ 24) i.operand) in
-        on (subst Ended (sym made) (suffix_ends i.immediate old machine.mmx machine.integers m (entry % 256) i.operand.reg spot 0))
+        on (subst Ended (sym made) (suffix_ends i.immediate old machine.mmx machine.integers m (entry % 256) i.operand.reg spot next))
       where
-        by : (o : Result State) → directly 0 e here ≡ o → work.what ≡ to_operate → performed 0 work 0 here ≡ concluded 0 (done 0) here o → Completes e here
+        by : (o : Result State) → directly 0 e here ≡ o → work.what ≡ to_operate → performed 0 work 0 here ≡ concluded 0 (done next) here o → Completes e here
         by (done t) g f p = record { leaves = t; is = g }
         by (refused n) g f p = let clash = simp f at p in absurd (false≢true (cc))
 
