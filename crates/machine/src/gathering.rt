@@ -105,7 +105,9 @@ impl Known {
         works::suffixed(self.instruction.immediate, old, work)
     }
 
-    // An instruction that the control marks let pass.
+    // An instruction that the control marks let pass. It is cold, as what is done at once comes first: else the processor takes 69.4 instructions for one
+    // of MMX in place of 64.7, and the bar is 66.
+    #[cold]
     #[tactic(auto, using(crate::proofs::laws::gathering::Suffixing::sorting))]
     fn sorted(self, mmx: &[u64; 8], integers: &[u32; 8], memory: &[u8]) -> Result<Work, Refusal>
         ensures { Does (work_in result) mmx.now integers.now memory.now (effect_in self.entry self.instruction) (done self.next) }
