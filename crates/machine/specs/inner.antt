@@ -3,6 +3,7 @@ pub mod Ways
 pub mod Spots
 pub mod Named
 pub mod Works
+pub mod Known
 pub mod Picks
 pub mod Reaches
 pub mod Pointers

@@ -1,17 +1,16 @@
 // The instruction at a position is read and its operands are gathered; what remains to be done is then plain numbers. Nothing is written here.
-ghost use Rattle.std.specs.Prelude.{IfOk, ◌≡◌, true, ◌/◌, ◌%◌, ◌^◌, ◌≤◌, length, get_or};
+ghost use Rattle.std.specs.Prelude.{IfOk, ◌≡◌, ◌/◌, ◌^◌, ◌≤◌, length, get_or};
 ghost use Rattle.reorder.specs.Result.{done};
 ghost use Rattle.codec.specs.Table.{opcode_table};
 ghost use Rattle.codec.specs.Reads.{longest_code};
 ghost use Rattle.manual.specs.State.{longest_memory};
 ghost use Rattle.machine.specs.inner.Picks.{picked_work};
-ghost use Rattle.machine.specs.inner.Spots.{other_of, spot_of, Named};
-ghost use Rattle.machine.specs.inner.Ways.{has_other, way_of};
+ghost use Rattle.machine.specs.inner.Spots.{Named};
 ghost use Rattle.works.specs.Bars.{number_in, open_table};
 ghost use Rattle.works.specs.Answers.{work_in};
 ghost use Rattle.works.specs.Siblings.{suffixed_work};
 ghost use Rattle.works.specs.Works.{to_operate};
-ghost use Rattle.machine.specs.inner.Works.{stopping_by, effect_in, put_work, value_in, take_work, Does, Gathered};
+ghost use Rattle.machine.specs.inner.Works.{stopping_by, effect_in, put_work, value_in, Does, Gathered};
 
 use crate::known::Known;
 use crate::operands::Spot;
@@ -59,10 +58,12 @@ fn held(mmx: &[u64; 8], integers: &[u32; 8], spot: Spot, memory: &[u8]) -> u64
 }
 
 impl Known {
+    ghost use Rattle.machine.specs.inner.Known.{HasOther, taken};
+
     // An operation on an MMX register, with the number that the operand has; a load's is MOVE.
     fn computed(self, mmx: &[u64; 8], integers: &[u32; 8], memory: &[u8]) -> Result<Work, Refusal>
-        requires { has_other (way_of (self.entry / 2 ^ 24)) ≡ true }
-        ensures work { work_in result ≡ take_work mmx.now integers.now memory.now (self.entry % 256) self.instruction.operand.reg (spot_of integers.now (length memory.now) (other_of (self.entry / 2 ^ 24) self.instruction.operand)) self.next }
+        requires { HasOther self }
+        ensures work { work_in result ≡ taken self mmx.now integers.now memory.now }
         ensures operates { IfOk result (λ work. work.what ≡ to_operate) }
     {
         let operand = self.instruction.operand;
@@ -81,8 +82,8 @@ impl Known {
         integers: &[u32; 8],
         memory: &[u8],
     ) -> Result<Work, Refusal>
-        requires { has_other (way_of (self.entry / 2 ^ 24)) ≡ true }
-        ensures { work_in result ≡ picked_work (self.entry / 2 ^ 24) (get_or mmx.now self.instruction.operand.reg 0) self.instruction.immediate (take_work mmx.now integers.now memory.now (self.entry % 256) self.instruction.operand.reg (spot_of integers.now (length memory.now) (other_of (self.entry / 2 ^ 24) self.instruction.operand)) self.next) }
+        requires { HasOther self }
+        ensures { work_in result ≡ picked_work (self.entry / 2 ^ 24) (get_or mmx.now self.instruction.operand.reg 0) self.instruction.immediate (taken self mmx.now integers.now memory.now) }
     {
         let work = self.computed(mmx, integers, memory)?;
         let old = mmx[self.instruction.operand.reg as usize];
@@ -96,8 +97,8 @@ impl Known {
         integers: &[u32; 8],
         memory: &[u8],
     ) -> Result<Work, Refusal>
-        requires { has_other (way_of (self.entry / 2 ^ 24)) ≡ true }
-        ensures work { work_in result ≡ suffixed_work self.instruction.immediate (get_or mmx.now self.instruction.operand.reg 0) (take_work mmx.now integers.now memory.now (self.entry % 256) self.instruction.operand.reg (spot_of integers.now (length memory.now) (other_of (self.entry / 2 ^ 24) self.instruction.operand)) self.next) }
+        requires { HasOther self }
+        ensures work { work_in result ≡ suffixed_work self.instruction.immediate (get_or mmx.now self.instruction.operand.reg 0) (taken self mmx.now integers.now memory.now) }
         ensures operates { IfOk result (λ work. work.what ≡ to_operate) }
     {
         let work = self.computed(mmx, integers, memory)?;
@@ -105,8 +106,8 @@ impl Known {
         works::suffixed(self.instruction.immediate, old, work)
     }
 
-    // An instruction that the control marks let pass. It is cold, as what is done at once comes first: else the processor takes 69.4 instructions for one
-    // of MMX in place of 64.7, and the bar is 66.
+    // An instruction that the control marks let pass. It is cold, since what is done at once comes first: else one of MMX takes 69.4 instructions of
+    // the processor in place of 64.7, and the bar is 66.
     #[cold]
     #[tactic(auto, using(crate::proofs::laws::gathering::Suffixing::sorting))]
     fn sorted(self, mmx: &[u64; 8], integers: &[u32; 8], memory: &[u8]) -> Result<Work, Refusal>
