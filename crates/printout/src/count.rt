@@ -4,8 +4,7 @@ ghost use Rattle.printout.specs.Lines.{answer};
 ghost use Rattle.printout.specs.inner.Room.{report_length};
 
 use crate::put::decimal_places;
-use machine::LONGEST_MEMORY;
-use machine::{End, Ran};
+use machine::{End, LONGEST_MEMORY, Ran};
 
 // The characters of `done`, `spent` and `refused `, and of a line end.
 const DONE: usize = 4;
