@@ -16,6 +16,7 @@ fn read_on<R: Read>(input: &mut R, buffer: &mut [u8]) -> (usize, io::Result<()>)
     ensures whole { IsOk result.1 → result.0 < length buffer.new → IsAtEnd (R.remaining input.new) }
 {
     let mut done: usize = 0;
+    // no iterator: what a read gives decides where the next one goes
     while done < buffer.len() {
         match input.read(&mut buffer[done..]) {
             Ok(0) => return (done, Ok(())),

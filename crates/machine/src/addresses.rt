@@ -68,7 +68,7 @@ pub(crate) fn part(integers: &[u32; 8], register: Option<u8>) -> u32
     }
 }
 
-// Doubled once for each unit of the scale.
+// Doubled once for each unit of the scale. (No shift: a scale may be any byte, and the clause has 2 ^ scale for each.)
 #[tactic(auto, using(crate::proofs::laws::addresses::Addressing::doubled_once))]
 pub(crate) fn scaled(index: u32, scale: u8) -> u32
     ensures { result ≡ index * 2 ^ scale % 2 ^ 32 }

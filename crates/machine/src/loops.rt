@@ -40,7 +40,7 @@ fn counted(integers: &[u32; 8], register: usize, addend: u32, next: usize) -> Wo
     requires { register < 8 }
     ensures { result ≡ work_of to_count 0 register ((get_or integers.now register 0 + addend) % 2 ^ 32) next }
 {
-    let sum = std::num::wrapping_add_u32(integers[register], addend);
+    let sum = integers[register].wrapping_add(addend);
     work_of(COUNT, 0, register, u64::from(sum), next)
 }
 

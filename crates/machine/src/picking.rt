@@ -13,16 +13,18 @@ use refusals::Refusal;
 use works::{OPERATE, QUADWORD, STORE, TO_INTEGER, Work, work_of};
 
 // What PINSRW or PSHUFW, by its entry, leaves of the old register, the operand's number and the immediate.
+#[tactic(auto, using(crate::proofs::laws::picking::Making::picking))]
 fn picked_of(entry: u32, old: u64, value: u64, immediate: u32) -> u64
     ensures { result ≡ picked_of (entry / 2 ^ 24) old value immediate }
 {
     if entry / FORM == INSERT {
-        return lanes::insert(old, value, immediate as u64);
+        return lanes::insert(old, value, u64::from(immediate));
     }
-    lanes::shuffle(value, immediate as u64)
+    lanes::shuffle(value, u64::from(immediate))
 }
 
-// The work of PINSRW or PSHUFW, from one that has the operand's number, unless that is refused.
+// The work of PINSRW or PSHUFW, from one that has the operand's number; another stays as it is.
+#[tactic(auto, using(crate::proofs::laws::picking::Making::picking))]
 pub(crate) fn picked(entry: u32, old: u64, immediate: u32, work: Work) -> Work
     ensures { result ≡ picked_work (entry / 2 ^ 24) old immediate work }
 {
@@ -38,16 +40,18 @@ pub(crate) fn picked(entry: u32, old: u64, immediate: u32, work: Work) -> Work
 }
 
 // What PEXTRW or PMOVMSKB, by its entry, leaves of an MMX register.
+#[tactic(auto, using(crate::proofs::laws::picking::Making::picking))]
 fn extracted_of(entry: u32, value: u64, immediate: u32) -> u64
     ensures { result ≡ extracted_of (entry / 2 ^ 24) value immediate }
 {
     if entry / FORM == EXTRACT {
-        return lanes::extract(value, immediate as u64);
+        return lanes::extract(value, u64::from(immediate));
     }
     lanes::top_bits(value)
 }
 
 // The work of PEXTRW or PMOVMSKB: a part of an MMX register goes to an integer register.
+#[tactic(auto, using(crate::proofs::laws::picking::Making::picking))]
 pub(crate) fn extracted(entry: u32, value: u64, immediate: u32, register: u8, next: usize) -> Work
     ensures { result ≡ extract_work (entry / 2 ^ 24) value immediate register next }
 {

@@ -19,7 +19,7 @@ use Rattle.manual.proofs.Endings.{never_spent as run_never_spent}
 use Rattle.studio.specs.declared.Manner.{Manner}
 use Rattle.studio.specs.declared.Manner.TheVariants.{BothWrite, WriteRead, ReadWrite}
 use Rattle.studio.specs.Refusals.{numbers_wrong}
-use Rattle.studio.specs.Meetings.{Meeting, eight, all_places, meeting_at, lowest, among, meeting_of}
+use Rattle.studio.specs.Meetings.{Meeting, all_places, meeting_at, lowest, among, meeting_of}
 use Rattle.studio.specs.Meetings as answers
 use Rattle.studio.specs.Whys.{budget, Reply, refusal, instead, told, meeting_in_run, reply_after, asked, why_not}
 use Rattle.studio.specs.Reasons.{Lower, MeetsAt, FirstAt, ApartAt, Sorted, ascending, descending, Runs, Pair, Undone, Due, thirty, undone, twenty_nine, apart, emms, met_at}

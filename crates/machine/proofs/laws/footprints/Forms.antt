@@ -77,9 +77,6 @@ module _ (s : State) (entry : ℕ) (i : Instruction) where
 
 -- the operand that may be in memory
 module _ (y : Way) (w : Operand) where
-  pub pointed_by_lem : (p : Operand) (z : Way) → y ≡ z → p ≡ pointed_by z w → p ≡ pointed_by y w
-  pointed_by_lem p z e h = h ∙ ap (λ (x : Way). pointed_by x w) (sym e)
-
   pub pointed_registers : (p : Operand) → p ≡ pointed_by y w → Registers w → Registers p
   pointed_registers p e r = subst Registers (sym e) (by y)
     where
@@ -98,7 +95,5 @@ module _ (y : Way) (w : Operand) where
       by Inserts = r
       by Shuffles = r
       by Masks = edi
-
-pub ruleset pointing = (rules, pointed_by_lem)
 
 pub ruleset form_rules = (rules, two_tested, pointed_registers, traced_few, traced_inside, traced_outside)

@@ -1,13 +1,12 @@
 -- Masks that the code puts together.
-use Rattle.std.specs.Prelude.{◌≡◌, false, ℕ, ◌*◌, ◌^◌, ◌%◌, ◌<◌}
+use Rattle.std.specs.Prelude.{◌≡◌, ℕ, ◌*◌, ◌^◌, ◌%◌, ◌<◌}
 use Rattle.basis.specs.Names.{Option, none, some, bit_or}
-use Rattle.basis.proofs.Names.{append-nil, arith, rules, eq-eqb, ne_eqb, or_zero_r, pow-lt}
+use Rattle.basis.proofs.Names.{append-nil, arith, eq-eqb, ne_eqb, or_zero_r, pow-lt}
 use Rattle.codec.specs.Operands.{has_sib}
 use Rattle.codec.specs.declared.Operand.{Operand}
 use Rattle.manual.specs.Addresses.{base_of, index_of, address_of, registers_of}
-use Rattle.machine.specs.declared.Places.{Places}
 use Rattle.machine.specs.Footprints.{mask}
-use Rattle.machine.specs.inner.Reaches.{integer_alone, beside, behind}
+use Rattle.machine.specs.inner.Reaches.{behind}
 use Rattle.machine.proofs.laws.meetings.Masks.{mask_append}
 
 -- a register's bit fits a byte
@@ -37,16 +36,5 @@ module _ (w : Operand) where
     unfolding address_of has_sib
     address_sib x e f sib = simp (eq-eqb w.rm 4 sib, ne_eqb w.mode 3 other, mask_append, ← e, ← f)
 
--- a register beside other places
-pub made_beside : (register b : ℕ) (p : Places) → b ≡ 2 ^ register
-    → record { mmx = bit_or b p.mmx; integers = p.integers; start = p.start; length = p.length; zero = p.zero } ≡ beside register p
-made_beside register b p e = simp e
-
--- an integer register
-pub made_integer : (register b : ℕ) → b ≡ 2 ^ register → record { mmx = 0; integers = b; start = 0; length = 0; zero = false } ≡ integer_alone register
-made_integer register b e = simp e
-
 -- for the mask of an address
 pub ruleset addressing = (address_none, address_plain, address_sib)
-
-pub ruleset mask_rules = (rules, made_beside, made_integer)

@@ -1,7 +1,7 @@
 -- The step at a position, from what the code has found there: the reader's refusal, the work of an instruction of loops, the refusal of the control
 -- marks, or the work of any other.
 use Rattle.std.specs.Prelude.{◌≡◌, refl, Bool, false, cond, List, ℕ, ◌+◌, ◌/◌, ◌^◌, ◌≤◌, length, get_or, drop, Result, Ok, Err}
-use Rattle.basis.proofs.Names.{sym, ap, subst, ◌∙◌, arith, rules, eq-eqb, ne_eqb, le-ltb}
+use Rattle.basis.proofs.Names.{sym, ap, subst, ◌∙◌, arith, eq-eqb, ne_eqb, le-ltb}
 use Rattle.reorder.specs.Result.{done, case_of}
 use Rattle.reorder.specs.Result as outcome
 use Rattle.codec.specs.Forms.{is_absent}
@@ -214,5 +214,3 @@ module _ (table code : List ℕ) (at n : ℕ) (ours : table ≡ opcode_table) (e
 pub gathered_same : (work made : Work) (registers integers : List ℕ) (bar : ℕ) (zero : Bool) (code : List ℕ) (at : ℕ) (m : List ℕ) → work ≡ made
     → Gathered made registers integers bar zero code at m → Gathered work registers integers bar zero code at m
 gathered_same work made registers integers bar zero code at m e g = subst (λ (y : Work). Gathered y registers integers bar zero code at m) (sym e) g
-
-pub ruleset fetching = (rules, names_registers, is_listed_lem, is_looping, gathered_unread, gathered_looped, gathered_barred, gathered_sorted)

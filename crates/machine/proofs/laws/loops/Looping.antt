@@ -31,21 +31,6 @@ module _ (zero : Bool) (length behind displacement : ℕ) where
   abbrev leads : Result ℕ
   leads = cond (not zero) (jumped length behind displacement) (done behind)
 
-  pub target_behind : zero ≡ true → done behind ≡ leads
-  target_behind e = simp e
-
-  pub target_taken : (o : Result ℕ) → zero ≡ false → o ≡ jumped length behind displacement → o ≡ leads
-  target_taken o taken e = simp taken e
-
-pub ruleset targeting = (rules, target_behind, target_taken)
-
--- a register to which a number is added
-pub counted_is : (register sum value next v : ℕ) (work : Work) → work ≡ work_of to_count 0 register v next → v ≡ sum → sum ≡ value
-    → work ≡ work_of to_count 0 register value next
-counted_is register sum value next v work w e f = simp (← f, ← e) w
-
-pub ruleset landings = (rules, counted_is)
-
 -- one of loops, with the position behind it
 module _ (zero : Bool) (entry : ℕ) (i : Instruction) (length next : ℕ) (l : Looping entry i) where
   abbrev form : ℕ
