@@ -80,6 +80,7 @@ pub(crate) fn scaled(index: u32, scale: u8) -> u32
     doubled
 }
 
+// The address of an operand that is in memory, which may be [EDI]: see `operands::located`.
 #[tactic(auto, using(crate::proofs::laws::addresses::Addressing::sum_plain, crate::proofs::laws::addresses::Addressing::sum_sib))]
 pub(crate) fn address_of(integers: &[u32; 8], operand: Operand) -> u32
     requires { Registers operand × (operand.mode ≢ 3) }

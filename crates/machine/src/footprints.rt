@@ -29,7 +29,8 @@ fn ordinary(registers: u8, reads: Places, writes: Places) -> Footprint
     }
 }
 
-// What each way reads and writes: an operand that may be in memory has these address registers and places.
+// What each way reads and writes: an operand that may be in memory has these address registers and places. (Of an operand, and not of a `Known`: it
+// goes by the way and the registers alone.)
 fn footprint_of_way(way: Way, operand: Operand, registers: u8, places: Places) -> Footprint
     requires { Registers operand }
     ensures { result ≡ footprint_of_way way operand registers places }

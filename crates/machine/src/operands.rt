@@ -36,6 +36,7 @@ pub(crate) const AT_EDI: Operand = Operand {
 
 // Where an operand is: at mod 11 a register, by the form an integer register or an MMX register; else its bytes in memory, refused where
 // one is outside.
+// (What is known of the operand is asked here, and not had from a `Known`: it may be [EDI], which no instruction has for its own.)
 #[tactic(auto, using(crate::proofs::laws::operands::Locating::locating))]
 pub(crate) fn located(
     integers: &[u32; 8],

@@ -65,6 +65,7 @@ pub(crate) fn extracted(entry: u32, value: u64, immediate: u32, register: u8, ne
 }
 
 // The work of MASKMOVQ: all eight bytes at EDI are stored, those that the mask leaves out as they were.
+// (Of an operand, and not of a `Known`, of which it needs two registers alone.)
 #[tactic(auto, using(crate::proofs::laws::picking::Making::picking))]
 pub(crate) fn masked(
     mmx: &[u64; 8],

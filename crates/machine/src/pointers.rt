@@ -1,4 +1,5 @@
 // Where an operand in memory starts, summed up while its SIB byte and its displacement are read.
+// Code, position and ModRM byte are parameters, and what is known of them is asked of each function, since each is handed another position.
 ghost use Rattle.std.specs.Prelude.{◌≡◌, ◌+◌, ◌*◌, ◌/◌, ◌%◌, ◌^◌, ◌≤◌, ◌<◌, length, IfSome};
 ghost use Rattle.codec.specs.Operands.{displacement_size};
 ghost use Rattle.manual.specs.Addresses.{base_of, index_of, register_part};

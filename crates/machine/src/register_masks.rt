@@ -10,7 +10,8 @@ use crate::addresses::{base, index};
 use codec::Operand;
 use codec::modes::{REGISTER, SIB};
 
-// The mask of one register.
+// The mask of one register. (That its number is below 8 is asked wherever it is used: it is three bits of a byte of the code, and a type of its own
+// would be made at each use.)
 #[tactic(auto, using(crate::proofs::laws::footprints::Registers::one_bit))]
 pub(crate) fn bit(register: u8) -> u8
     requires { register < 8 }
@@ -31,7 +32,8 @@ fn mask(register: Option<u8>) -> u8
     }
 }
 
-// The mask of the registers that an operand's address is made of: none at mod 11.
+// The mask of the registers that an operand's address is made of: none at mod 11. (It may be [EDI]: see
+// `operands::located`.)
 #[tactic(auto, using(crate::proofs::laws::footprints::Registers::addressing))]
 pub(crate) fn address_mask(operand: Operand) -> u8
     requires { Registers operand }

@@ -17,7 +17,7 @@ use crate::{End, LONGEST_MEMORY, Machine, Ran, Stepped, stepping};
 use codec::LONGEST_CODE;
 use refusals::Refusal;
 
-// The number of a refusal if there is one, or 0.
+// The number of a refusal if there is one, or 0, as `works::table` takes it.
 fn number_in(bar: Option<Refusal>) -> u8
     ensures { result ≡ number_in bar }
 {

@@ -11,7 +11,8 @@ use refusals::Refusal;
 use works::Moved;
 
 // The step at a position over a floor, where memory, floor and code are within their limits, `bar` is the refusal of the control marks, `valid`
-// the tag mark and `zero` the zero mark.
+// the tag mark and `zero` the zero mark. (What it goes by are parameters, here and in `gathering`, and no struct: registers and memory are changed by
+// each turn, so that one would be made at each.)
 pub(crate) fn advance(
     table: &[u32; 256],
     quick: &[u32; 256],

@@ -21,7 +21,8 @@ struct Watched {
     second: Result<Footprint, Refusal>,
 }
 
-// The run in three parts: to the earlier instruction, on to the later one, and on to the end.
+// The run in three parts: to the earlier instruction, on to the later one, and on to the end. (Machine, code and memory are parameters, here and in
+// `ask`, as `why_not` is handed them.)
 fn watch(machine: Machine, code: &[u8], memory: &mut [u8], low: u32, high: u32) -> Watched
     requires straight { has_no_jump code.now ≡ true }
     requires ordered { low ≤ high }
