@@ -73,7 +73,7 @@ fn answer_length(ending: End) -> usize
     match ending {
         End::Done => DONE,
         End::Spent => SPENT,
-        End::Refused(number) => REFUSED + decimal_places(number as u64),
+        End::Refused(number) => REFUSED + decimal_places(u64::from(number)),
     }
 }
 
@@ -83,7 +83,7 @@ pub(crate) fn has_room(buffer: usize, ran: Ran, memory: usize) -> bool
     ensures { result ≡ leb (report_length ran.end ran.count ran.at memory) buffer }
 {
     let numbers = answer_length(ran.end)
-        + decimal_places(ran.count as u64)
+        + decimal_places(u64::from(ran.count))
         + decimal_places(ran.at as u64)
         + decimal_places(memory as u64);
     let headings = numbers

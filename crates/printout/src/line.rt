@@ -48,7 +48,7 @@ impl Writer<'_> {
         match ending {
             End::Done => self.put_word(b"done"),
             End::Spent => self.put_word(b"spent"),
-            End::Refused(number) => self.put_number(b"refused ", number as u64),
+            End::Refused(number) => self.put_number(b"refused ", u64::from(number)),
         }
     }
 

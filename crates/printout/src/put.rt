@@ -1,5 +1,5 @@
 // Characters, words and numbers, put one after the other into a lent buffer.
-ghost use Rattle.std.specs.Prelude.{◌≡◌, [], ◌∷◌, ◌++◌, ◌<◌, ◌≤◌, length};
+ghost use Rattle.std.specs.Prelude.{◌≡◌, [], ◌∷◌, ◌++◌, ◌<◌, ◌≤◌};
 ghost use Rattle.printout.specs.Characters.{newline, digit_of, digits, hex, places, decimal};
 ghost use Rattle.printout.specs.inner.Room.{Fits, Puts};
 
@@ -72,6 +72,7 @@ impl<'a> Writer<'a> {
         requires fits { Fits (digits base count number) self.old }
         ensures { Puts (digits base count number) self.old self.new }
     {
+        // By places, since the digits are put from the last to the first.
         let mut rest = number;
         for i in (0..count).rev() {
             self.out[self.written + i] = digit(rest % base);
