@@ -130,8 +130,8 @@ impl Machine {
         }
     }
 
-    // The instructions from position 0 on, over a floor. (Its three tests are those of `step` too: one function for them would have to say of each refusal
-    // what the run and what the step is then.)
+    // The instructions from position 0 on, over a floor. (Its three tests are those of `step` too: one function for them would have to say of each
+    // refusal what the run and what the step is then.)
     #[tactic(auto, using(crate::proofs::laws::running::Budgets::starting))]
     pub fn run(self, code: &[u8], memory: &mut [u8], floor: usize, budget: u32) -> Ran
         ensures { paper_of_run result memory.new ≡ run_of floor code.now budget (state_of self memory.old) }
