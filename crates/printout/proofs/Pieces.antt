@@ -1,7 +1,8 @@
 -- Each text by what the code knows of it: an answer by its case, a number by its digits, and what remains of a text by its next piece.
 use denote.Bor.{Bor}
-use Rattle.std.specs.Prelude.{map, zero, refl, ◌≡◌, List, [], ◌∷◌, ◌++◌, ℕ, suc, ◌+◌, ◌-◌, ◌≤◌, ◌<◌, length, get_or, drop}
-use Rattle.basis.proofs.Names.{sym, ap, ◌∙◌, add-zero, get_or-drop, add-one, arith, length-drop, drop_of_length-le, drop-cons, drop-drop}
+use Rattle.std.specs.Prelude.{map, ◌≡◌, ◌⊎◌, List, [], ◌∷◌, ◌++◌, ℕ, suc, ◌+◌, ◌-◌, ◌≤◌, ◌<◌, length, get_or, drop}
+use Rattle.basis.proofs.Names.{sym, ap, ◌∙◌, inl, inr, add-one, arith, length-drop, drop_of_length-le, drop-cons}
+use Rattle.std.proofs.lemmas.List.{nil_from_length}
 use Rattle.machine.specs.declared.End.{End}
 use Rattle.machine.specs.declared.End.TheVariants.{Done, Spent, Refused}
 use Rattle.printout.specs.Characters.{ascii, newline, hex, digits, places, decimal}
@@ -28,27 +29,21 @@ decimal_is number count counted = rw counted
 pub ruleset naming = (chain, fits_as, puts_as, answer_done, answer_spent, answer-refused, decimal_is)
 
 -- the lines of registers, of which the names are lent
-named_at : (names : List (Bor (List ℕ))) (i : ℕ) (none : Bor (List ℕ)) → none.now ≡ [] → get_or (map (λ name. name.now) names) i [] ≡ (get_or names i none).now
-named_at [] i none empty = sym empty
-named_at (name ∷ names) zero none empty = refl
-named_at (name ∷ names) (suc i) none empty = named_at names i none empty
-
-module _ (lent : List (Bor (List ℕ))) (values : List ℕ) (k i : ℕ) where
-  abbrev names : List (List ℕ)
-  names = map (λ (name : Bor (List ℕ)). name.now) lent
-
-  pub next-register : (none : Bor (List ℕ)) → none.now ≡ [] → i < length values
-      → register_lines (drop i names) k (drop i values)
-      ≡ (get_or lent i none).now ++ (hex k (get_or values i 0) ++ newline) ++ register_lines (drop (i + 1) names) k (drop (i + 1) values)
+module _ (k : ℕ) (lent : List (Bor (List ℕ))) (values : List ℕ) where
+  pub next-register : (name : Bor (List ℕ)) (names : List (Bor (List ℕ))) (value : ℕ) (others : List ℕ) → lent ≡ name ∷ names → values ≡ value ∷ others
+      → register_lines (map (λ name. name.now) lent) k values
+      ≡ name.now ++ (hex k value ++ newline) ++ register_lines (map (λ name. name.now) names) k others
   unfolding register_lines
-  next-register none empty some =
-      let name : get_or (drop i names) 0 [] ≡ (get_or lent i none).now =
-      get_or-drop i names 0 [] ∙ ap (λ (j : ℕ). get_or names j []) (add-zero i) ∙ named_at lent i none empty in
-      rw (drop-cons values i 0 some, name, add-one i, drop-drop 1 i names, add-one i)
+  next-register name names value others e f = rw (e, f)
 
-  pub no_register : length values ≤ i → register_lines (drop i names) k (drop i values) ≡ []
+  pub no_register : length values ≡ 0 → register_lines (map (λ name. name.now) lent) k values ≡ []
   unfolding register_lines
-  no_register over = ap (register_lines (drop i names) k) (drop_of_length-le values over)
+  no_register e = rw (nil_from_length values e)
+
+-- of two lists as long as each other, one of which has ended, the other has ended too
+pub both_end : {A B : Type 0} {P : A → Type 0} {Q : B → Type 0} {m n : ℕ} → m ≡ n → ((x : A) × ((m ≡ 0) × P x)) ⊎ ((x : B) × ((n ≡ 0) × Q x)) → n ≡ 0
+both_end same (inl first) = sym same ∙ first.1.0
+both_end same (inr second) = second.1.0
 
 -- the bytes of a memory
 module _ (memory : List ℕ) (i : ℕ) where

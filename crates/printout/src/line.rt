@@ -82,8 +82,8 @@ impl Writer<'_> {
         requires { Fits (register_lines (map (λ name. name.now) names.now) count values) self.old }
         ensures { Puts (register_lines (map (λ name. name.now) names.now) count values) self.old self.new }
     {
-        for (i, value) in values.iter().enumerate() {
-            self.put_register(names[i], *value, count);
+        for (name, value) in names.iter().zip(&values) {
+            self.put_register(*name, *value, count);
         }
     }
 
