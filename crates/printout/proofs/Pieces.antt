@@ -30,7 +30,8 @@ pub ruleset naming = (chain, fits_as, puts_as, answer_done, answer_spent, answer
 
 -- the lines of registers, of which the names are lent
 module _ (k : ℕ) (lent : List (Bor (List ℕ))) (values : List ℕ) where
-  pub next-register : (name : Bor (List ℕ)) (names : List (Bor (List ℕ))) (value : ℕ) (others : List ℕ) → lent ≡ name ∷ names → values ≡ value ∷ others
+  pub next-register : (name : Bor (List ℕ)) (names : List (Bor (List ℕ))) (value : ℕ) (others : List ℕ)
+      → lent ≡ name ∷ names → values ≡ value ∷ others
       → register_lines (map (λ name. name.now) lent) k values
       ≡ name.now ++ (hex k value ++ newline) ++ register_lines (map (λ name. name.now) names) k others
   unfolding register_lines

@@ -10,7 +10,8 @@ loop-name-init c = search turning
 
 pub put_register-requires : goal.put_register-requires
 put_register-requires c =
-    fits-remaining _ c.loop-name.invariant.1 (next-register _ _ _ c.in-Some.name.now _ c.in-Some.value.now _ c.in-Some.ensures.steps.0 c.in-Some.ensures.steps.1) c.requires
+    fits-remaining _ c.loop-name.invariant.1
+    (next-register _ _ _ c.in-Some.name.now _ c.in-Some.value.now _ c.in-Some.ensures.steps.0 c.in-Some.ensures.steps.1) c.requires
 
 pub loop-name-preserved : goal.loop-name-preserved
 loop-name-preserved c = (
