@@ -76,11 +76,17 @@ def number_lists():
             run = [m] if m else []
 
 
-def ladders():
+def functions_with(least, pattern, what):
+    """The functions in which the pattern stands at least so many times."""
     for file, at, name, head, body in functions():
-        steps = re.findall(r'^\s*if (?:\w+(?:\.\w+)* [=!<>]=? [\w:]+|[\w:]+ <=? \w+(?:\.\w+)*) \{\n\s*return [^\n]*;\n\s*\}', body, re.M)
-        if len(steps) >= 2:
-            yield f'{file}:{at}: {name}, {len(steps)} steps'
+        found = len(re.findall(pattern, body, re.M))
+        if found >= least:
+            yield f'{file}:{at}: {name}, {found} {what}'
+
+
+def ladders():
+    test = r'^\s*if (?:\w+(?:\.\w+)* [=!<>]=? [\w:]+|[\w:]+ <=? \w+(?:\.\w+)*) \{\n\s*return [^\n]*;\n\s*\}'
+    return functions_with(2, test, 'steps')
 
 
 def twins():
@@ -156,10 +162,7 @@ def buffers():
 
 
 def switches():
-    for file, at, name, head, body in functions():
-        arms = re.findall(r'^\s*[A-Z_]{2,}(?: \| [A-Z_]+)* => \w+(?:::\w+)*\(', body, re.M)
-        if len(arms) >= 3:
-            yield f'{file}:{at}: {name}, {len(arms)} arms'
+    return functions_with(3, r'^\s*[A-Z_]{2,}(?: \| [A-Z_]+)* => \w+(?:::\w+)*\(', 'arms')
 
 
 def walks():
