@@ -3,6 +3,7 @@ ghost use Rattle.std.specs.Prelude.{◌≡◌, ◌≤◌, get_or};
 ghost use Rattle.codec.specs.Opcodes.{form_of_first, form_for};
 ghost use Rattle.codec.specs.Table.{form_of};
 
+use crate::fields::VALUES;
 use crate::forms::{
     ABSENT, ADD, DECREMENT, EMMS, EXTRACT, FENCE, FORM, INSERT, JUMP, LANE, LOAD_D, LOAD_Q, LOW,
     MASKED, PREFETCH, SET, SHIFT_Q, SHIFT_WD, SHUFFLE, SIZE, STORE_D, STORE_Q, STREAM, SUFFIXED,
@@ -17,31 +18,30 @@ pub(crate) fn entry_in(table: &[u32; 256], second: u8) -> u32
     table[second as usize]
 }
 
-// The first bytes of loops: ADD's, JNZ's, and the first and the last of MOV's and of DEC's, whose last three bits name a register.
-// They are numbers and no enum: two of them begin and end ranges of bytes.
+// The first bytes of loops: ADD's, JNZ's, and MOV's and DEC's without their last three bits, which name a register. They are numbers and no enum: a
+// byte is compared with them.
 const ADD_BYTE: u8 = 0x83;
 
 const JUMP_IF_NOT_ZERO: u8 = 0x75;
 
-const MOVES: u8 = 0xb8;
+const MOVES: u8 = 0xb8 / VALUES;
 
-const LAST_MOVE: u8 = 0xbf;
+const DECREMENTS: u8 = 0x48 / VALUES;
 
-const DECREMENTS: u8 = 0x48;
-
-const LAST_DECREMENT: u8 = 0x4f;
-
-// The form of a first byte other than 0F.
+// The form of a first byte other than 0F. (MOV's and DEC's are told by a division, which is one for both: as ranges of bytes each takes five
+// instructions of the processor more.)
 #[tactic(auto, using(crate::proofs::Entries::first_forms))]
 pub(crate) fn first_form(first: u8) -> u32
     ensures { (result ≡ (form_of_first first).number) × (result ≤ 13) }
 {
-    match first {
-        MOVES..=LAST_MOVE => SET,
-        ADD_BYTE => ADD,
-        DECREMENTS..=LAST_DECREMENT => DECREMENT,
-        JUMP_IF_NOT_ZERO => JUMP,
-        _ => ABSENT,
+    match first / VALUES {
+        MOVES => SET,
+        DECREMENTS => DECREMENT,
+        _ => match first {
+            ADD_BYTE => ADD,
+            JUMP_IF_NOT_ZERO => JUMP,
+            _ => ABSENT,
+        },
     }
 }
 

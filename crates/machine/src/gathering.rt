@@ -60,7 +60,10 @@ fn held(mmx: &[u64; 8], integers: &[u32; 8], spot: Spot, memory: &[u8]) -> u64
 impl Known {
     ghost use Rattle.machine.specs.inner.Known.{HasOther, taken};
 
-    // An operation on an MMX register, with the number that the operand has; a load's is MOVE.
+    // An operation on an MMX register, with the number that the operand has; a load's is MOVE. (This and what takes it further is cold, since what is
+    // done at once comes first. `sorted`, which leads here, is not: then SFENCE, with nothing to gather, takes 250 instructions of the processor in
+    // place of 185.)
+    #[cold]
     fn computed(self, mmx: &[u64; 8], integers: &[u32; 8], memory: &[u8]) -> Result<Work, Refusal>
         requires { HasOther self }
         ensures work { work_in result ≡ taken self mmx.now integers.now memory.now }
@@ -75,6 +78,7 @@ impl Known {
     }
 
     // An MMX register picked by an immediate: the operand's number is gathered as for a computation, and what is picked from it then moves.
+    #[cold]
     #[tactic(auto, using(crate::proofs::laws::picking::Making::picking))]
     fn with_immediate(
         self,
@@ -91,6 +95,7 @@ impl Known {
     }
 
     // An instruction with a suffix: the operand's number is gathered as for a computation, and the suffix says what becomes of it.
+    #[cold]
     pub(crate) fn suffixed(
         self,
         mmx: &[u64; 8],
@@ -106,9 +111,7 @@ impl Known {
         works::suffixed(self.instruction.immediate, old, work)
     }
 
-    // An instruction that the control marks let pass. It is cold, since what is done at once comes first: else one of MMX takes 69.4 instructions of
-    // the processor in place of 64.7, and the bar is 66.
-    #[cold]
+    // An instruction that the control marks let pass.
     #[tactic(auto, using(crate::proofs::laws::gathering::Suffixing::sorting))]
     fn sorted(self, mmx: &[u64; 8], integers: &[u32; 8], memory: &[u8]) -> Result<Work, Refusal>
         ensures { Does (work_in result) mmx.now integers.now memory.now (effect_in self.entry self.instruction) (done self.next) }
@@ -140,8 +143,18 @@ impl Known {
     }
 }
 
+// What remains to be done, as one work, which a refusal is too, by its number.
+fn one_work(answer: Result<Work, Refusal>) -> Work
+    ensures { result ≡ work_in answer }
+{
+    match answer {
+        Ok(work) => work,
+        Err(refusal) => refused(refusal.number()),
+    }
+}
+
 // The instruction at a position by the reader: its refusals, then what one of loops does by the zero mark, then `bar`, the refusal of the control
-// marks, where they stop it, then that of its operand.
+// marks, where they stop it, then that of its operand. (As a Result, in place of a work, a MOV takes 56 instructions of the processor and not 43.)
 fn read(
     table: &[u32; 256],
     mmx: &[u64; 8],
@@ -151,21 +164,24 @@ fn read(
     code: &[u8],
     at: usize,
     memory: &[u8],
-) -> Result<Work, Refusal>
+) -> Work
     requires { (table.now ≡ opcode_table) × ((length code.now ≤ longest_code) × (length memory.now ≤ longest_memory)) }
-    ensures { Gathered (work_in result) mmx.now integers.now (number_in bar) zero code.now at memory.now }
+    ensures { Gathered result mmx.now integers.now (number_in bar) zero code.now at memory.now }
 {
-    let found = codec::read_from(table, code, at)?;
+    let found = match codec::read_from(table, code, at) {
+        Ok(found) => found,
+        Err(refusal) => return refused(refusal.number()),
+    };
     let instruction = found.instruction;
     if instruction.first != ESCAPE {
-        return loops::looped(
+        return one_work(loops::looped(
             integers,
             zero,
             found.entry,
             instruction,
             code.len(),
             found.next,
-        );
+        ));
     }
     let known = Known {
         entry: found.entry,
@@ -173,8 +189,8 @@ fn read(
         next: found.next,
     };
     match stopping(bar, found.entry) {
-        Some(refusal) => Err(refusal),
-        None => known.sorted(mmx, integers, memory),
+        Some(refusal) => refused(refusal.number()),
+        None => one_work(known.sorted(mmx, integers, memory)),
     }
 }
 
@@ -197,8 +213,5 @@ pub(crate) fn gathered(
     if let Some(work) = quick::at_once(quick, mmx, integers, code, at, memory) {
         return work;
     }
-    match read(table, mmx, integers, bar, zero, code, at, memory) {
-        Ok(work) => work,
-        Err(refusal) => refused(refusal.number()),
-    }
+    read(table, mmx, integers, bar, zero, code, at, memory)
 }

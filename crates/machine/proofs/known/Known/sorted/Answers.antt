@@ -31,6 +31,8 @@ pub returns-in-Loads : goal.returns-in-Loads
 returns-in-Loads c =
     elim c.in-Loads.is [ inl e ↦ does_load _ _ _ _ c.args.self.instruction c.args.self.next c.args.self.registers c.args.self.listed _ c.way_of.ensures _ e c.computed.ensures.work | inr e ↦ does_compute _ _ _ _ c.args.self.instruction c.args.self.next c.args.self.registers c.args.self.listed _ c.way_of.ensures _ e c.computed.ensures.work ]
 
+-- what a suffix leaves of the work that has the operand's number;
+-- that work's refusal, where it has one
 pub returns-in-Suffixes : goal.returns-in-Suffixes
 returns-in-Suffixes c = search sorting
 
