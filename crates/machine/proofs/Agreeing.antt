@@ -1,5 +1,5 @@
 -- What reading, step, run and footprint hand back agrees: one number for one refusal, whichever of them was asked.
-use Rattle.std.specs.Prelude.{◌≡◌, List, ℕ, ◌↔◌, Result, Ok, Err}
+use Rattle.std.specs.Prelude.{◌≡◌, refl, List, ℕ, ◌↔◌, Result, Ok, Err}
 use Rattle.basis.proofs.Names.{sym, ap, subst, ◌∙◌, false≢true}
 use Rattle.reorder.specs.Result.{done, refused, map_result}
 use Rattle.reorder.specs.Result as outcome
@@ -48,20 +48,22 @@ reading_as_step floor code memory at refusal s r stepped fits read_is is step =
 -- "It has no answer for a step that is refused: that step's refusal is given", over floor 0
 pub footprint_as_step : (code memory : List ℕ) (at n : ℕ) (s : State) (stepped : Stepped) (p : Result Footprint Refusal)
     → paper_of_step stepped memory ≡ step_at 0 code at s → paper_of_footprint p ≡ masked_at code at s
-    → (stepped.answer ≡ Err n) ↔ (paper_of_footprint p ≡ refused n)
+    → (stepped.answer ≡ Err n) ↔ ((refusal : Refusal) × ((p ≡ Err refusal) × (number_of refusal ≡ n)))
 unfolding masked_at
 footprint_as_step code memory at n s stepped p step masked_is =
     by stepped.answer p (footprint_at 0 code at s) (subst (λ (o : Outcome). Together o (footprint_at 0 code at s)) (sym step) (footprint_exactly 0 code at s)) masked_is
   where
     by : (a : Result (Unit {0}) ℕ) (q : Result Footprint Refusal) (o : outcome.Result (places.Footprint Place Kind))
         → Together (paper_of_taken a stepped.at (state_of stepped.machine memory)) o → paper_of_footprint q ≡ map_result masked o
-        → (a ≡ Err n) ↔ (paper_of_footprint q ≡ refused n)
-    by (Ok u) (Ok f) o t e = (λ h. absurd (false≢true (cc)), λ h. absurd (false≢true (cc)))
+        → (a ≡ Err n) ↔ ((refusal : Refusal) × ((q ≡ Err refusal) × (number_of refusal ≡ n)))
+    by (Ok u) (Ok f) o t e = (λ h. absurd (false≢true (cc)), λ h. let same = h.1.0 in absurd (false≢true (cc)))
     by (Ok u) (Err k) (done g) t e = absurd (false≢true (cc))
     by (Ok u) (Err k) (refused j) t e = absurd t
     by (Err m) q (done g) t e = absurd t
     by (Err m) (Ok f) (refused j) t e = absurd (false≢true (cc))
-    by (Err m) (Err k) (refused j) t e = (λ h. cc, λ h. cc)
+    by (Err m) (Err k) (refused j) t e =
+        let number : number_of k ≡ m = cc in
+        (λ h. let same : m ≡ n = cc in (k, (refl, number ∙ same)), λ h. let same = h.1.0 in let named = h.1.1 in cc)
 
 -- a refused run has come to a step that is refused by the same number
 pub run_as_step : (floor : ℕ) (code after kept : List ℕ) (budget n : ℕ) (s : State) (ran : Ran) (stepped : Stepped)

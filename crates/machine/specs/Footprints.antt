@@ -1,6 +1,6 @@
 -- A footprint in the form that the program hands out: registers as masks, memory bytes as a range, the zero mark; and the test whether two of them
 -- meet.
-use Rattle.std.specs.Prelude.{Bool, true, false, not, ◌&&◌, ◌||◌, List, [], ◌∷◌, ◌++◌, ℕ, ◌+◌, ◌^◌, eqb, ltb, length, get_or}
+use Rattle.std.specs.Prelude.{Bool, true, false, not, ◌&&◌, ◌||◌, List, [], ◌∷◌, ◌++◌, ℕ, ◌+◌, ◌^◌, eqb, ltb, length, get_or, Ok, Err}
 use Rattle.std.specs.Prelude as code
 use Rattle.basis.specs.Names.{bit_and, bit_or}
 use Rattle.reorder.specs.Result.{Result, done, refused, map_result}
@@ -12,8 +12,8 @@ use Rattle.manual.specs.Kinds.{kinds_meet}
 use Rattle.manual.specs.Footprints.{footprint_at}
 use Rattle.machine.specs.declared.Places.{Places}
 use Rattle.machine.specs.declared.Footprint.{Footprint}
-use Rattle.works.specs.Answers.{paper_of}
 use Rattle.refusals.specs.declared.Refusal.{Refusal}
+use Rattle.refusals.specs.Numbers.{number_of}
 
 -- the number of a place of one sort, in a list of one or none: MMX registers, integer registers, memory bytes
 
@@ -79,7 +79,8 @@ masked_at code at s = map_result masked (footprint_at 0 code at s)
 
 -- the paper's answer for each case of the footprint's
 abbrev pub paper_of_footprint : code.Result Footprint Refusal → Result Footprint
-paper_of_footprint answer = paper_of answer
+paper_of_footprint (Ok f) = done f
+paper_of_footprint (Err refusal) = refused (number_of refusal)
 
 -- the m bytes from a on and the n bytes from b on have one in common
 unfoldable pub overlap : ℕ → ℕ → ℕ → ℕ → Bool
