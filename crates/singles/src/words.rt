@@ -3,10 +3,15 @@ ghost use Rattle.std.specs.Prelude.{◌≡◌};
 ghost use Rattle.singles.specs.Tables.{single_of};
 ghost use Rattle.singles.specs.inner.Numbers.{rounded};
 
-use std::num::saturating_f32_to_i16;
+use std::num::truncating_f32_to_i64;
 
-// The least signed word, as a number and sign-extended.
+// From the first on upward, and from the second on downward, a number is past the signed words.
+const UPPER_END: f32 = 32768.0;
+
 const LOWER_END: f32 = -32768.0;
+
+// The greatest signed word and the least, sign-extended.
+const GREATEST: u32 = 0x7FFF;
 
 const LEAST: u32 = 0xFFFF_8000;
 
@@ -19,7 +24,11 @@ pub(crate) fn rounded(number: f32) -> u32
     ensures { result ≡ rounded number }
 {
     if number > LOWER_END {
-        i32::from(saturating_f32_to_i16(number)).cast_unsigned()
+        if number < UPPER_END {
+            (truncating_f32_to_i64(number) as i32).cast_unsigned()
+        } else {
+            GREATEST
+        }
     } else {
         LEAST
     }
