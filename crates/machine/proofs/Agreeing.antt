@@ -1,6 +1,6 @@
 -- What reading, step, run and footprint hand back agrees: one number for one refusal, whichever of them was asked.
 use Rattle.std.specs.Prelude.{◌≡◌, refl, List, ℕ, ◌↔◌, Result, Ok, Err}
-use Rattle.basis.proofs.Names.{sym, ap, subst, ◌∙◌, false≢true}
+use Rattle.basis.proofs.Names.{sym, ap, subst, ◌∙◌, false≢true, arith}
 use Rattle.reorder.specs.Result.{done, refused, map_result}
 use Rattle.reorder.specs.Result as outcome
 use Rattle.reorder.specs.Run.{stopped}
@@ -45,6 +45,10 @@ unfolding instruction_at step_at
 reading_as_step floor code memory at refusal s r stepped fits read_is is step =
     step_refused stepped memory (number_of refusal) at s (step ∙ simp (fits.memory_fits, fits.floor_fits, sym read_is ∙ ap paper_of_reading is))
 
+-- one refusal has one number
+one_number : (a b : ℕ) (x y : outcome.Result Footprint) → x ≡ refused a → y ≡ refused b → x ≡ y → a ≡ b
+one_number a b x y h k e = cc
+
 -- "It has no answer for a step that is refused: that step's refusal is given", over floor 0
 pub footprint_as_step : (code memory : List ℕ) (at n : ℕ) (s : State) (stepped : Stepped) (p : Result Footprint Refusal)
     → paper_of_step stepped memory ≡ step_at 0 code at s → paper_of_footprint p ≡ masked_at code at s
@@ -62,7 +66,7 @@ footprint_as_step code memory at n s stepped p step masked_is =
     by (Err m) q (done g) t e = absurd t
     by (Err m) (Ok f) (refused j) t e = absurd (false≢true (cc))
     by (Err m) (Err k) (refused j) t e =
-        let number : number_of k ≡ m = cc in
+        let number : number_of k ≡ m = omega (arith, one_number _ _ _ _ refl refl e, t) in
         (λ h. let same : m ≡ n = cc in (k, (refl, number ∙ same)), λ h. let same = h.1.0 in let named = h.1.1 in cc)
 
 -- a refused run has come to a step that is refused by the same number

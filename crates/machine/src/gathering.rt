@@ -61,8 +61,8 @@ impl Known {
     ghost use Rattle.machine.specs.inner.Known.{HasOther, taken};
 
     // An operation on an MMX register, with the number that the operand has; a load's is MOVE. (This and what takes it further is cold, since what is
-    // done at once comes first. `sorted`, which leads here, is not: then SFENCE, with nothing to gather, takes 250 instructions of the processor in
-    // place of 185.)
+    // done at once comes first. `sorted`, which leads here, is not: when it was, SFENCE, with nothing to gather, took 250 instructions of the processor
+    // and not 185.)
     #[cold]
     fn computed(self, mmx: &[u64; 8], integers: &[u32; 8], memory: &[u8]) -> Result<Work, Refusal>
         requires { HasOther self }
@@ -194,8 +194,8 @@ fn read(
     }
 }
 
-// The instruction at a position: at once, if it can be, else by the reader. A refusal is handed on as a work, by its number: a Result here takes 68.5
-// instructions for an MMX instruction in place of 64.3, and the bar is 66.
+// The instruction at a position: at once, if it can be, else by the reader. A refusal is handed on as a work, by its number. (When a Result was tried
+// here, an MMX instruction took 68.5 instructions of the processor, and 64.3 without; the bar is 66.)
 pub(crate) fn gathered(
     table: &[u32; 256],
     quick: &[u32; 256],
